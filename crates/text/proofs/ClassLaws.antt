@@ -1,0 +1,63 @@
+-- Laws of the classes. Assumes nothing.
+use Prim.Native.Nat.{ℕ, _≤_, _<_}
+use native.Mathlib.Omega.{arith}
+use mathlib.Core.Path.{_≡_, refl}
+use mathlib.Core.List.{List, [], _∷_}
+use mathlib.Core.Bool.{Bool, true, false, cond, _&&_, _||_}
+use lib.ListN.{length, getD}
+use lib.Dec.{leb, eqb, lit≤}
+use borrow.Author.Tests.{leb-true, le-leb, lt-leb, ne-eqb}
+use Rattle.text.specs.Classes.{within, blank1, blank2, blank3, blankWidth}
+use Rattle.text.specs.Utf8.{In}
+use Rattle.text.proofs.Choices.{cond-cases, and-false, and-true}
+
+-- ---- ranges
+
+pub inside : (lo hi x : ℕ) → lo ≤ x → x ≤ hi → within lo hi x ≡ true
+unfolding within
+inside lo hi x p q = simp (le-leb lo x p, le-leb x hi q)
+
+pub below : (lo hi x : ℕ) → x < lo → within lo hi x ≡ false
+unfolding within
+below lo hi x p = simp (lt-leb lo x p)
+
+pub above : (lo hi x : ℕ) → hi < x → within lo hi x ≡ false
+unfolding within
+above lo hi x p = rw (lt-leb x hi p) (and-false (leb lo x))
+
+pub within-true : (lo hi x : ℕ) → within lo hi x ≡ true → In lo hi x
+unfolding within
+within-true lo hi x e =
+    let p : (leb lo x ≡ true) × (leb x hi ≡ true) = and-true (leb lo x) (leb x hi) e in
+    (leb-true lo x (p .0), leb-true x hi (p .1))
+
+pub in-within : (lo hi x : ℕ) → In lo hi x → within lo hi x ≡ true
+in-within lo hi x h = inside lo hi x (h .0) (h .1)
+
+-- ---- whitespace by its first byte
+
+pub blank-ascii : (a b c : ℕ) → a < 0x80 → blankWidth a b c ≡ cond (blank1 a) 1 0
+unfolding blankWidth blank2 blank3
+blank-ascii a b c h = simp (ne-eqb a 0xc2 (λ e. omega arith), ne-eqb a 0xe2 (λ e. omega arith))
+
+pub blank-wide : (a b c : ℕ) → 0x80 ≤ a → blankWidth a b c ≡ cond (blank2 a b) 2 (cond (blank3 a b c) 3 0)
+unfolding blankWidth blank1
+blank-wide a b c h = simp (above 0x09 0x0d a (omega arith), ne-eqb a 0x20 (λ e. omega arith))
+
+-- ---- a whitespace character has no more bytes than the text
+
+le-by : (m : ℕ) (t : Bool) (x y : ℕ) → x ≤ m → y ≤ m → cond t x y ≤ m
+le-by m t x y p q = cond-cases (λ (n : ℕ). n ≤ m) t x y (λ e. p) (λ e. q)
+
+pub blank-le : (s : List ℕ) → blankWidth (getD s 0 0) (getD s 1 0) (getD s 2 0) ≤ length s
+unfolding blankWidth blank1 blank2 blank3 within
+blank-le [] = lit≤ tt
+blank-le (a ∷ []) =
+    rw (and-false (eqb a 0xc2), and-false (eqb a 0xe2)) (le-by 1 (blank1 a) 1 0 (lit≤ tt) (lit≤ tt))
+blank-le (a ∷ b ∷ []) =
+    rw (and-false (eqb b 0x80), and-false (eqb a 0xe2))
+    (le-by 2 (blank1 a) 1 _ (lit≤ tt) (le-by 2 (blank2 a b) 2 0 (lit≤ tt) (lit≤ tt)))
+blank-le (a ∷ b ∷ c ∷ s) =
+    let three : blankWidth a b c ≤ 3 =
+    le-by 3 (blank1 a) 1 _ (lit≤ tt) (le-by 3 (blank2 a b) 2 _ (lit≤ tt) (le-by 3 (blank3 a b c) 3 0 (lit≤ tt) (lit≤ tt))) in
+    omega arith

@@ -1,0 +1,5 @@
+pub mod Refusals
+pub mod Classes
+pub mod Runs
+pub mod Utf8
+pub mod Judged

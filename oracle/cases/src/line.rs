@@ -1,0 +1,90 @@
+//! A case line: the call's letter, then words.
+
+/// Appends ` ` and the number.
+pub fn number(line: &mut Vec<u8>, n: u64) {
+    line.push(b' ');
+    line.extend_from_slice(n.to_string().as_bytes());
+}
+
+/// Appends ` ` and the bytes in hex, `-` for none.
+pub fn bytes(line: &mut Vec<u8>, bytes: &[u8]) {
+    const DIGITS: &[u8; 16] = b"0123456789abcdef";
+    line.push(b' ');
+    if bytes.is_empty() {
+        line.push(b'-');
+    }
+    for b in bytes {
+        line.push(DIGITS[usize::from(b >> 4)]);
+        line.push(DIGITS[usize::from(b & 15)]);
+    }
+}
+
+/// Appends ` ` and the numbers with commas, `-` for none.
+pub fn tape(line: &mut Vec<u8>, tape: &[u32]) {
+    line.push(b' ');
+    let numbers: Vec<String> = tape.iter().map(u32::to_string).collect();
+    match numbers.len() {
+        0 => line.push(b'-'),
+        _ => line.extend_from_slice(numbers.join(",").as_bytes()),
+    }
+}
+
+/// `s CURSOR PRE LEN HEX`; the largest length is the mark.
+pub fn skip(line: &mut Vec<u8>, cursor: u64, pre: u64, len: u64, text: &[u8]) {
+    line.push(b's');
+    number(line, cursor);
+    number(line, pre);
+    match len {
+        u64::MAX => line.extend_from_slice(b" mark"),
+        _ => number(line, len),
+    }
+    bytes(line, text);
+}
+
+/// `i WIDTH PLACE HEX`.
+pub fn integer(line: &mut Vec<u8>, width: u64, place: u64, text: &[u8]) {
+    line.push(b'i');
+    number(line, width);
+    number(line, place);
+    bytes(line, text);
+}
+
+/// `c KIND START HEX`.
+pub fn contents(line: &mut Vec<u8>, kind: u32, start: u32, text: &[u8]) {
+    line.push(b'c');
+    number(line, kind.into());
+    number(line, start.into());
+    bytes(line, text);
+}
+
+/// `C ENTRY COUNT BUFFER HEX N,N,..`.
+pub fn contents_of(line: &mut Vec<u8>, entry: u64, count: u64, buffer: u64, text: &[u8], numbers: &[u32]) {
+    line.push(b'C');
+    number(line, entry);
+    number(line, count);
+    number(line, buffer);
+    bytes(line, text);
+    tape(line, numbers);
+}
+
+/// `k NEWTYPE TUPLE PLACE HEX`.
+pub fn struct_kind(line: &mut Vec<u8>, modes: [u64; 2], place: u64, text: &[u8]) {
+    line.push(b'k');
+    number(line, modes[0]);
+    number(line, modes[1]);
+    number(line, place);
+    bytes(line, text);
+}
+
+/// `r HEX`.
+pub fn read(line: &mut Vec<u8>, text: &[u8]) {
+    line.push(b'r');
+    bytes(line, text);
+}
+
+/// `R NUMBERS HEX`.
+pub fn read_into(line: &mut Vec<u8>, numbers: u64, text: &[u8]) {
+    line.push(b'R');
+    number(line, numbers);
+    bytes(line, text);
+}
