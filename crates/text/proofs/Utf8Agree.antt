@@ -4,27 +4,28 @@
 --     head-view, charLen-char       a width that is not 0 is that of a character of the grammar, and every such character has its width
 --     char-encode, char-scalar      the characters of the grammar are exactly the encodings of scalar values
 -- Assumes nothing.
-use Prim.Native.Nat.{ℕ, zero, suc, _+_, _*_, _/_, _%_, _≤_, _<_}
+use Prim.Native.Nat.{ℕ, zero, suc, _+_, _*_, _/_, _%_, _≤_, _<_, _-_}
 use native.Mathlib.Omega.{arith}
-use mathlib.Core.Path.{_≡_, refl, sym, ap, _∙_, subst}
-use mathlib.Core.Logic.{_⊎_, inl, inr, ⊎-elim}
+use mathlib.Core.Bool.{Bool, true}
 use mathlib.Core.List.{List, [], _∷_, _++_, append-assoc, append-nil}
-use mathlib.Core.Bool.{Bool, true, false, cond}
+use mathlib.Core.Logic.{_⊎_, inl, inr, ⊎-elim}
+use mathlib.Core.Path.{_≡_, refl, sym, ap, _∙_, subst}
+use lib.Dec.{ltb}
 use lib.ListN.{length, getD, take, drop, length-append, length-drop, take-append-drop, set}
 use lib.Seq.{length-take-le, drop-at, take-append-add, drop-append-add}
-use lib.Dec.{ltb}
 use borrow.Author.Tests.{ltb-true, ltb-false, le-leb, lt-leb, lt-ltb, le-ltb, ne-eqb}
-use Rattle.text.specs.declared.utf8.Utf8Answer.the-variants.{Good, BadAt}
-use Rattle.text.specs.Classes.{within}
-use Rattle.text.specs.Utf8.{secondByte, behindThree, behindFour, widthOf, charLen, utf8From, utf8Of, In, Tail, Char, Text, Scalar, encode, Encoded, codeOf4, codeOf, scalar, encodedLen}
-use Rattle.text.specs.Utf8.Char.{utf8-1, utf8-2, utf8-3a, utf8-3b, utf8-3c, utf8-3d, utf8-4a, utf8-4b, utf8-4c}
-use Rattle.text.specs.Utf8.Text.{none, more}
-use Rattle.text.specs.Utf8.Encoded.{ends, next}
 use Rattle.text.proofs.Choices.{cond-cases, lt-or-le}
-use Rattle.text.proofs.ClassLaws.{within-true, in-within, below, above}
+use Rattle.text.proofs.ClassLaws.{within-true, in-within, above}
+use Rattle.text.proofs.Lists.{tail-part}
 use Rattle.text.proofs.Utf8Laws.{width-view, Second, View, utf8-step, utf8-bad, utf8-end}
 use Rattle.text.proofs.Utf8Laws.Second.{after-E0, after-ED, after-F0, after-F4, after-other}
 use Rattle.text.proofs.Utf8Laws.View.{v0, v1, v2, v3, v4}
+use Rattle.text.specs.Classes.{within}
+use Rattle.text.specs.Utf8.{secondByte, behindThree, behindFour, widthOf, charLen, utf8From, utf8Of, In, Tail, Char, Text, Scalar, encode, Encoded, codeOf4, codeOf, scalar, encodedLen}
+use Rattle.text.specs.Utf8.Char.{utf8-1, utf8-2, utf8-3a, utf8-3b, utf8-3c, utf8-3d, utf8-4a, utf8-4b, utf8-4c}
+use Rattle.text.specs.Utf8.Encoded.{ends, next}
+use Rattle.text.specs.Utf8.Text.{none, more}
+use Rattle.text.specs.declared.utf8.Utf8Answer.the-variants.{Good, BadAt}
 
 -- ---- the decision is sound
 
@@ -72,6 +73,12 @@ head-le s n (a-char {l} t ch e q) = omega (arith, length-append l t, ap length q
 
 pub charLen-le : (s : List ℕ) → charLen s ≤ length s
 charLen-le s = head-le s (charLen s) (head-view s)
+
+-- what `char_len` answers on the part from a place, and that it lies within the text
+pub part-char : (s : List ℕ) (at n : ℕ) → n ≡ charLen (take (length s - at) (drop at s)) → (charLen (drop at s) ≡ n) × (n ≤ length s - at)
+part-char s at n e =
+    let same : charLen (drop at s) ≡ n = ap charLen (sym (tail-part s at)) ∙ sym e in
+    (same, omega (arith, same, charLen-le (drop at s), length-drop at s))
 
 -- ---- the decision is complete
 

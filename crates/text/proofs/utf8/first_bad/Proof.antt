@@ -1,27 +1,18 @@
 use Prim.Native.Nat.{_-_, _≤_, ℕ, _+_}
 use native.Mathlib.Omega.{arith}
-use mathlib.Core.List.{List}
 use mathlib.Core.Path.{_∙_, _≡_, ap, sym}
-use lib.ListN.{drop, length, length-drop, take}
+use lib.ListN.{drop, length, length-drop}
 use borrow.Author.Needs.{needs}
-use Rattle.text.proofs.Lists.{tail-part}
 use Rattle.text.proofs.RunLaws.{run-le}
-use Rattle.text.proofs.Utf8Agree.{charLen-le}
+use Rattle.text.proofs.Utf8Agree.{part-char}
 use Rattle.text.proofs.Utf8Laws.{ascii-from, utf8-done, utf8-next, utf8-stop}
 use Rattle.text.proofs.utf8.first_bad.Statement.{statement}
 use Rattle.text.specs.Runs.{ascii}
-use Rattle.text.specs.Utf8.{utf8From, utf8Of, charLen}
+use Rattle.text.specs.Utf8.{utf8From, utf8Of}
 use Rattle.text.proofs.utf8.first_bad.Tie as tie
 
 abbrev Inv-loop : tie.InvT-loop
 Inv-loop s at₀ at = (at ≤ length s) × (utf8Of s ≡ utf8From 0 at (drop at s))
-
--- what `char_len` answers on the part from a place, and that it lies within the text
-len : (s : List ℕ) (at n : ℕ) → n ≡ charLen (take (length s - at) (drop at s)) → charLen (drop at s) ≡ n
-len s at n e = ap charLen (sym (tail-part s at)) ∙ sym e
-
-fits : (s : List ℕ) (at n : ℕ) → n ≡ charLen (take (length s - at) (drop at s)) → n ≤ length s - at
-fits s at n e = omega (arith, len s at n e, charLen-le (drop at s), length-drop at s)
 
 abbrev μ-loop : tie.MeasureT-loop
 μ-loop s at₀ at = length s - at
@@ -53,19 +44,19 @@ char-len-requires c κs = search needs
 
 -- src/utf8.rt:113:13
 returns : tie.Need-returns Inv-loop μ-loop
-returns c = sym (c .before .before .before .before .loop .inv .1 ∙ utf8-stop (c .before .before .before .before .loop .at) (c .before .before .before .before .before .before .before .args .s .now) (search needs) (len (c .before .before .before .before .before .before .before .args .s .now) (c .before .before .before .before .loop .at) _ (c .before .char-len .ensures) ∙ c .if1 .taken))
+returns c = sym (c .before .before .before .before .loop .inv .1 ∙ utf8-stop (c .before .before .before .before .loop .at) (c .before .before .before .before .before .before .before .args .s .now) (search needs) (part-char (c .before .before .before .before .before .before .before .args .s .now) (c .before .before .before .before .loop .at) _ (c .before .char-len .ensures) .0 ∙ c .if1 .taken))
 
 -- src/utf8.rt:115:29
 add-run8 : tie.Need-add-run8 Inv-loop μ-loop
-add-run8 c = omega (arith, fits (c .before .before .before .before .before .before .before .args .s .now) (c .before .before .before .before .loop .at) _ (c .before .char-len .ensures))
+add-run8 c = omega (arith, part-char (c .before .before .before .before .before .before .before .args .s .now) (c .before .before .before .before .loop .at) _ (c .before .char-len .ensures) .1)
 
 -- src/utf8.rt:115:9
 run8-requires-2 : tie.Need-run8-requires-2 Inv-loop μ-loop
-run8-requires-2 c κs = omega (arith, fits (c .before .before .before .before .before .before .before .args .s .now) (c .before .before .before .before .loop .at) _ (c .before .char-len .ensures))
+run8-requires-2 c κs = omega (arith, part-char (c .before .before .before .before .before .before .before .args .s .now) (c .before .before .before .before .loop .at) _ (c .before .char-len .ensures) .1)
 
 -- src/utf8.rt:110:5
 loop-less : tie.Need-loop-less Inv-loop μ-loop
-loop-less c = omega (arith, c .run82 .ensures, fits (c .before .before .before .before .before .before .before .before .args .s .now) (c .before .before .before .before .before .loop .at) _ (c .before .before .char-len .ensures), run-le ascii (drop (c .before .before .before .before .before .loop .at + c .before .before .char-len .result) (c .before .before .before .before .before .before .before .before .args .s .now)), length-drop (c .before .before .before .before .before .loop .at + c .before .before .char-len .result) (c .before .before .before .before .before .before .before .before .args .s .now))
+loop-less c = omega (arith, c .run82 .ensures, part-char (c .before .before .before .before .before .before .before .before .args .s .now) (c .before .before .before .before .before .loop .at) _ (c .before .before .char-len .ensures) .1, run-le ascii (drop (c .before .before .before .before .before .loop .at + c .before .before .char-len .result) (c .before .before .before .before .before .before .before .before .args .s .now)), length-drop (c .before .before .before .before .before .loop .at + c .before .before .char-len .result) (c .before .before .before .before .before .before .before .before .args .s .now))
 
 -- src/utf8.rt:110:5
 loop-again : tie.Need-loop-again Inv-loop μ-loop
@@ -73,8 +64,8 @@ loop-again c =
     let s = c .before .before .before .before .before .before .before .before .args .s .now in
     let at = c .before .before .before .before .before .loop .at in
     let n = c .before .before .char-len .result in (
-      omega (arith, c .run82 .ensures, fits s at _ (c .before .before .char-len .ensures), run-le ascii (drop (at + n) s), length-drop (at + n) s),
-      c .before .before .before .before .before .loop .inv .1 ∙ utf8-next at n s (len s at _ (c .before .before .char-len .ensures)) (omega (arith, c .before .if1 .left)) ∙ ascii-from (at + n) s ∙ ap (λ (m : ℕ). utf8From 0 m (drop m s)) (sym (c .run82 .ensures)),
+      omega (arith, c .run82 .ensures, part-char s at _ (c .before .before .char-len .ensures) .1, run-le ascii (drop (at + n) s), length-drop (at + n) s),
+      c .before .before .before .before .before .loop .inv .1 ∙ utf8-next at n s (part-char s at _ (c .before .before .char-len .ensures) .0) (omega (arith, c .before .if1 .left)) ∙ ascii-from (at + n) s ∙ ap (λ (m : ℕ). utf8From 0 m (drop m s)) (sym (c .run82 .ensures)),
     )
 
 -- src/utf8.rt:106:1

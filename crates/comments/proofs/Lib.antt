@@ -1,0 +1,4 @@
+pub mod BlockLaws
+pub mod Nesting
+pub mod LineLaws
+pub mod GapLaws

@@ -1,0 +1,2 @@
+pub mod CharLaws
+pub mod SkipLaws

@@ -1,0 +1,32 @@
+// The crate's `ParserCursor` of three numbers, by value: its methods hand the moved cursor back.
+mod chars;
+mod skip;
+
+ghost use mathlib.Core.Path.{_≡_};
+ghost use Rattle.cursor.specs.Cursor.{cursorAt};
+pub use chars::Consumed;
+pub use chars::Next;
+pub use skip::Step;
+
+// The place, where the last whitespace began, and how long it was.
+pub struct ParserCursor {
+    pub cursor: usize,
+    pub pre_ws_cursor: usize,
+    pub last_ws_len: usize,
+}
+
+impl ParserCursor {
+    // The mark for a line comment that the text's end left unclosed.
+    pub const WS_CURSOR_UNCLOSED_LINE: usize = usize::MAX;
+
+    // At a place, with no whitespace before it.
+    pub fn at(place: usize) -> Self
+        ensures { λ r. ⌜ r ≡ cursorAt place ⌝ }
+    {
+        Self {
+            cursor: place,
+            pre_ws_cursor: place,
+            last_ws_len: 0,
+        }
+    }
+}
