@@ -1,0 +1,42 @@
+// `s CURSOR PRE LEN HEX`: a skip.
+use sarridok::ParserCursor;
+use words::hex;
+use words::hex::Hex;
+use words::number;
+use words::number::Decimal;
+
+// A number, or the word `mark` for that of a line that is not closed.
+fn length_of(word: &[u8]) -> Decimal {
+    if check::same(word, b"mark") {
+        return Decimal::Value(ParserCursor::WS_CURSOR_UNCLOSED_LINE as u64);
+    }
+    number::decimal_of(word)
+}
+
+pub fn answer(words: &[u8], text: &mut [u8], o: &mut [u8], at: usize) -> usize {
+    let first = number::decimal_of(words::word(words));
+    let Decimal::Value(cursor) = first else {
+        return show::bad(o, at);
+    };
+    let words = words::behind(words);
+    let second = number::decimal_of(words::word(words));
+    let Decimal::Value(pre) = second else {
+        return show::bad(o, at);
+    };
+    let words = words::behind(words);
+    let third = length_of(words::word(words));
+    let Decimal::Value(len) = third else {
+        return show::bad(o, at);
+    };
+    let last = hex::bytes(words::behind(words), text);
+    let Hex::Bytes(n) = last else {
+        return show::bad(o, at);
+    };
+    let from = ParserCursor {
+        cursor: cursor as usize,
+        pre_ws_cursor: pre as usize,
+        last_ws_len: len as usize,
+    };
+    let skipped = sarridok::skip(lines::part(&text[..], 0, n), from);
+    show::skip::skipped(o, at, skipped)
+}

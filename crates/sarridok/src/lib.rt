@@ -1,0 +1,7 @@
+// The calls that a host may make. None has a `requires`, and each promise determines the answer and every lent number afterwards.
+mod skip_call;
+
+pub use cursor::ParserCursor;
+pub use cursor::Step;
+pub use skip_call::skip;
+pub use text::Refusal;

@@ -1,0 +1,17 @@
+// Answers as text, at a place of an output buffer; each function answers the next place.
+// What `lines::out` writes no contract can say: these functions are proved safe and ending.
+pub mod skip;
+
+use lines::out;
+use text::Refusal;
+
+// The answer to a line that is no case.
+pub fn bad(o: &mut [u8], at: usize) -> usize {
+    out::bytes(o, at, b"bad")
+}
+
+pub fn refused(o: &mut [u8], at: usize, r: Refusal) -> usize {
+    let a = out::bytes(o, at, b"refused");
+    let b = out::word(o, a, r.number as u64);
+    out::word(o, b, r.place as u64)
+}

@@ -1,0 +1,28 @@
+// The answer of a skip.
+use cursor::ParserCursor;
+use cursor::Step;
+use lines::out;
+
+// The whitespace's length, or `mark` for a line that is not closed.
+fn length(o: &mut [u8], at: usize, n: usize) -> usize {
+    if n == ParserCursor::WS_CURSOR_UNCLOSED_LINE {
+        return out::bytes(o, at, b" mark");
+    }
+    out::word(o, at, n as u64)
+}
+
+fn cursor(o: &mut [u8], at: usize, c: ParserCursor) -> usize {
+    let a = out::word(o, at, c.cursor as u64);
+    let b = out::word(o, a, c.pre_ws_cursor as u64);
+    length(o, b, c.last_ws_len)
+}
+
+pub fn skipped(o: &mut [u8], at: usize, s: Step) -> usize {
+    match s {
+        Step::Moved(c) => {
+            let a = out::bytes(o, at, b"ok");
+            cursor(o, a, c)
+        }
+        Step::Refused(r) => crate::refused(o, at, r),
+    }
+}

@@ -1,0 +1,5 @@
+pub mod Dashes
+pub mod Digits
+pub mod Decimals
+pub mod Pairs
+pub mod Items

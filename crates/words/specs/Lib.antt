@@ -1,0 +1,6 @@
+pub mod Dash
+pub mod Digit
+pub mod Number
+pub mod Hex
+pub mod Small
+pub mod Numbers
