@@ -1,2 +1,1 @@
-pub mod SkipLaws
 pub mod Determined

@@ -1,9 +1,8 @@
 -- The call `skip` (document 01): "Skip from a `ParserCursor` of three numbers (`skip_ws`)." Order of refusals: 1, 2, 28, then those of reading, 4 to 6.
 use mathlib.Core.List.{List}
-use mathlib.Core.Bool.{cond}
 use Prim.Native.Nat.{ℕ}
-use Rattle.text.specs.Refusals.{Told, accepted, refused, unfit}
-use Rattle.text.specs.Judged.{judgedOf, behindJudged}
+use Rattle.text.specs.Refusals.{Told, accepted, refused}
+use Rattle.text.specs.Judged.{behindFront}
 use Rattle.cursor.specs.declared.ParserCursor.{ParserCursor}
 use Rattle.cursor.specs.declared.skip.Step.{Step}
 use Rattle.cursor.specs.declared.skip.Step.the-variants.{Moved, Refused}
@@ -16,4 +15,4 @@ told (Refused r) = refused r
 
 -- The whole answer.
 unfoldable pub skipOf : List ℕ → ParserCursor → Told ParserCursor
-skipOf text c = behindJudged (judgedOf text) (cond (cursorFits text c) (told (skipWsOf text c)) (refused unfit))
+skipOf text c = behindFront text (cursorFits text c) (told (skipWsOf text c))

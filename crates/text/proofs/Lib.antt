@@ -6,3 +6,5 @@ pub mod Stops
 pub mod AsciiLaws
 pub mod Utf8Laws
 pub mod Utf8Agree
+pub mod BlankLaws
+pub mod JudgeLaws

@@ -8,7 +8,7 @@ use Rattle.text.specs.declared.utf8.Utf8Answer.{Utf8Answer}
 use Rattle.text.specs.declared.utf8.Utf8Answer.the-variants.{Good, BadAt}
 use Rattle.text.specs.declared.judge.Judged.{Judged}
 use Rattle.text.specs.declared.judge.Judged.the-variants.{Fit, Refused}
-use Rattle.text.specs.Refusals.{Told, refused, tooLong, notUtf8}
+use Rattle.text.specs.Refusals.{Told, refused, tooLong, notUtf8, unfit}
 use Rattle.text.specs.Classes.{within}
 use Rattle.text.specs.Utf8.{utf8Of}
 
@@ -29,3 +29,7 @@ behindJudged (Refused r) own = refused r
 -- The place is neither past the end nor inside a character.
 unfoldable pub placeFits : List ℕ → ℕ → Bool
 placeFits text p = leb p (length text) && not (within 0x80 0xBF (getD text p 0))
+
+-- What the calls at a place share: 1 and 2, then 28 where the place or cursor does not fit, then the call's own answer.
+unfoldable pub behindFront : {A : Type 0} → List ℕ → Bool → Told A → Told A
+behindFront text fits own = behindJudged (judgedOf text) (cond fits own (refused unfit))

@@ -2,9 +2,9 @@ use mathlib.Core.Path.{_∙_, ap, sym}
 use borrow.Author.Needs.{needs}
 use borrow.Author.Tests.{not-false, not-true}
 use Rattle.cursor.proofs.SkipLaws.{fits-places}
-use Rattle.sarridok.proofs.SkipLaws.{skip-fit, skip-refused, skip-unfit}
 use Rattle.sarridok.proofs.skip_call.skip.Statement.{statement}
-use Rattle.sarridok.specs.Skip.{told}
+use Rattle.sarridok.specs.Skip.{told, skipOf}
+use Rattle.text.proofs.JudgeLaws.{front-fit, front-refused, front-unfit}
 use Rattle.text.specs.Refusals.Told.{refused}
 use Rattle.sarridok.proofs.skip_call.skip.Tie as tie
 
@@ -15,7 +15,8 @@ enum-known-judged : tie.Need-enum-known-judged
 enum-known-judged c = search needs
 
 returns : tie.Need-returns
-returns c = sym (skip-refused (c .before .before .before .before .before .args .text .now) (c .before .before .before .before .before .args .c) _ (sym (c .before .before .before .judge .ensures) ∙ c .before .judged .given .1))
+unfolding skipOf
+returns c = sym (front-refused _ _ _ _ (sym (c .before .before .before .judge .ensures) ∙ c .before .judged .given .1))
 
 enum-told : tie.Need-enum-told
 enum-told c = search needs
@@ -27,13 +28,15 @@ unfit-requires : tie.Need-unfit-requires
 unfit-requires c κs = search needs
 
 returns-2 : tie.Need-returns-2
-returns-2 c = ap refused (c .unfit .ensures) ∙ sym (skip-unfit (c .before .before .before .before .before .before .before .args .text .now) (c .before .before .before .before .before .before .before .args .c) (sym (c .before .before .before .before .before .judge .ensures) ∙ c .before .before .before .enum-told .given .1) (sym (c .before .before .fits2 .ensures) ∙ not-true _ (c .before .if1 .taken)))
+unfolding skipOf
+returns-2 c = ap refused (c .unfit .ensures) ∙ sym (front-unfit _ _ _ (sym (c .before .before .before .before .before .judge .ensures) ∙ c .before .before .before .enum-told .given .1) (sym (c .before .before .fits2 .ensures) ∙ not-true _ (c .before .if1 .taken)))
 
 skip-ws-requires : tie.Need-skip-ws-requires
-skip-ws-requires c κs = fits-places (c .before .before .before .before .before .before .args .text .now) (c .before .before .before .before .before .before .args .c) (sym (c .before .fits2 .ensures) ∙ not-false _ (c .if1 .left))
+skip-ws-requires c κs = fits-places _ _ (sym (c .before .fits2 .ensures) ∙ not-false _ (c .if1 .left))
 
 returns-3 : tie.Need-returns-3
-returns-3 c = ap told (c .skip-ws .ensures) ∙ sym (skip-fit (c .before .before .before .before .before .before .before .args .text .now) (c .before .before .before .before .before .before .before .args .c) (sym (c .before .before .before .before .before .judge .ensures) ∙ c .before .before .before .enum-told .given .1) (sym (c .before .before .fits2 .ensures) ∙ not-false _ (c .before .if1 .left)))
+unfolding skipOf
+returns-3 c = ap told (c .skip-ws .ensures) ∙ sym (front-fit _ _ _ (sym (c .before .before .before .before .before .judge .ensures) ∙ c .before .before .before .enum-told .given .1) (sym (c .before .before .fits2 .ensures) ∙ not-false _ (c .before .if1 .left)))
 
 pub skip-spec : {M : Type 1} → statement M
 skip-spec =
