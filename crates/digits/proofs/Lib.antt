@@ -1,0 +1,4 @@
+pub mod Laws
+pub mod Neg
+pub mod Exact
+pub mod Refusals

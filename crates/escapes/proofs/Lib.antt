@@ -1,0 +1,5 @@
+pub mod EscapeLaws
+pub mod Bounded
+pub mod Decoded
+pub mod Closed
+pub mod Worked

@@ -1,0 +1,30 @@
+// What an escape is, and where it stands.
+use text::Refusal;
+ghost use mathlib.Core.Path.{_≡_};
+ghost use Rattle.text.specs.Refusals.{eof, invalidEscape};
+
+// A byte or a scalar value, with the number of bytes that the escape took; or its refusal, with the place counted from behind the `\`.
+pub enum EscapeAnswer {
+    Ascii(u8, usize),
+    Utf8(u32, usize),
+    Refused(Refusal),
+}
+
+// In a string, in a char, or in a byte string or byte literal.
+pub enum Mode {
+    Str,
+    Char,
+    Bytes,
+}
+
+pub fn ended(place: usize) -> EscapeAnswer
+    ensures { λ r. ⌜ r ≡ EscapeAnswer.Refused (eof place) ⌝ }
+{
+    EscapeAnswer::Refused(Refusal::eof(place))
+}
+
+pub fn invalid(place: usize) -> EscapeAnswer
+    ensures { λ r. ⌜ r ≡ EscapeAnswer.Refused (invalidEscape place) ⌝ }
+{
+    EscapeAnswer::Refused(Refusal::invalid_escape(place))
+}

@@ -1,0 +1,201 @@
+-- Nothing behind a byte outside of the raw name's class, such as a quiet byte or a slash, changes what an integer reads as, refusals included. Assumes nothing.
+use Prim.Native.Nat.{_+_, _<_, _≤_, ℕ}
+use native.Mathlib.Omega.{arith}
+use mathlib.Core.Bool.{Bool, _||_, cond, false, true, _&&_, not}
+use mathlib.Core.List.{List, [], _∷_, _++_}
+use mathlib.Core.Path.{_∙_, _≡_, ap, refl, sym}
+use lib.Dec.{eqb, ltb}
+use lib.ListN.{drop, length}
+use borrow.Author.Tests.{ne-eqb, eqb-true, ltb-true, not-true}
+use Rattle.digits.specs.Digits.{runOf}
+use Rattle.integers.proofs.Fronts.{prefix-by-le, sign-by-le}
+use Rattle.integers.proofs.WordStops.{asked-stopped, first-stopped, all}
+use Rattle.integers.specs.Front.{behindSign, frontOf, prefixOf, signOf}
+use Rattle.integers.specs.Integer.{anyAs, anyBehind, anyOf, behindRun, chosenOf, numeralOf, typedAs, typedBehind, typedOf}
+use Rattle.integers.specs.Width.{codeOf, limitAt, suffixOf, suffixWord, widest}
+use Rattle.integers.specs.Words.{askedBehind}
+use Rattle.integers.specs.declared.front.Front.{Front}
+use Rattle.integers.specs.declared.front.Prefix.{Prefix}
+use Rattle.integers.specs.declared.front.Sign.{Sign}
+use Rattle.integers.specs.declared.ident.Found.{Found}
+use Rattle.integers.specs.declared.integer.AnyInteger.{AnyInteger}
+use Rattle.integers.specs.declared.integer.Integer.{Integer}
+use Rattle.integers.specs.declared.width.Width.{Width}
+use Rattle.text.proofs.Choices.{bool-cases, either, or-left, or-right, and-true}
+use Rattle.text.proofs.ClassLaws.{inside, within-true}
+use Rattle.text.proofs.Stops.{Stopped, Reach, on, on₂, on₃, bind, part, behind, sum, run-reach}
+use Rattle.text.specs.Classes.{digit, hexDigit, identNext, identRaw, intChar, letter, within, oneOf}
+use Rattle.text.specs.Refusals.{eof, foreignChar}
+use Rattle.text.specs.Runs.{run}
+use Rattle.integers.specs.declared.integer.Numeral.the-variants as numeral
+use Rattle.integers.specs.declared.integer.Integer.the-variants as integer
+use Rattle.integers.specs.declared.integer.AnyInteger.the-variants as any
+
+-- ---- such a byte is of none of the other classes
+
+narrow : (lo hi lo′ hi′ c : ℕ) → lo ≤ lo′ → hi′ ≤ hi → within lo hi c ≡ false → within lo′ hi′ c ≡ false
+narrow lo hi lo′ hi′ c a b e =
+    either (bool-cases (within lo′ hi′ c))
+    (λ p. let q = within-true lo′ hi′ c p in
+    let z : true ≡ false = sym (inside lo hi c (omega (arith, q .0)) (omega (arith, q .1))) ∙ e in let k : _≡_ {A = ℕ} 0 1 = cc in absurd (omega arith))
+    (λ p. p)
+
+pub record Outside (c : ℕ) : Type 0 where
+  pub raw : identRaw c ≡ false
+  pub low : c < 0x80
+
+-- the bytes of a list are outside where each is, by a test that computes
+abbrev pub outside : ℕ → Bool
+outside c = not (identRaw c) && ltb c 0x80
+
+pub listed-outside : (l : List ℕ) → all outside l ≡ true → (c : ℕ) → oneOf l c ≡ true → Outside c
+listed-outside [] h c e = let z : _≡_ {A = ℕ} 0 1 = cc in absurd (omega arith)
+listed-outside (a ∷ l) h c e =
+    let k = and-true (outside a) (all outside l) h in
+    let o = and-true (not (identRaw a)) (ltb a 0x80) (k .0) in
+    either (bool-cases (eqb c a))
+    (λ p. rw (eqb-true c a p) (record { raw = not-true (identRaw a) (o .0); low = ltb-true a 0x80 (o .1) }))
+    (λ p. listed-outside l (k .1) c (rw p at e))
+
+-- space, tab, LF, CR, comma, colon and the six brackets
+abbrev pub quietBytes : List ℕ
+quietBytes = 0x20 ∷ 0x09 ∷ 0x0a ∷ 0x0d ∷ 0x2c ∷ 0x3a ∷ 0x28 ∷ 0x29 ∷ 0x5b ∷ 0x5d ∷ 0x7b ∷ 0x7d ∷ []
+
+-- a quiet byte, and a slash
+pub quiet-outside : (c : ℕ) → oneOf quietBytes c ≡ true → Outside c
+unfolding identRaw identNext letter digit within
+quiet-outside c e = listed-outside quietBytes refl c e
+
+pub slash-outside : Outside 0x2f
+unfolding identRaw identNext letter digit within
+slash-outside = listed-outside (0x2f ∷ []) refl 0x2f refl
+
+module _ {c : ℕ} (o : Outside c) where
+  pub out-next : identNext c ≡ false
+  unfolding identRaw
+  out-next = or-right (eqb c 0x2e || (eqb c 0x2b || (eqb c 0x2d || false))) (identNext c) (o .raw)
+
+  pub out-letter : letter c ≡ false
+  unfolding identNext
+  out-letter = or-left (letter c) (digit c || eqb c 0x5f) out-next
+
+  pub out-digit : digit c ≡ false
+  unfolding identNext
+  out-digit = or-left (digit c) (eqb c 0x5f) (or-right (letter c) (digit c || eqb c 0x5f) out-next)
+
+  pub out-underscore : eqb c 0x5f ≡ false
+  unfolding identNext
+  out-underscore = or-right (digit c) (eqb c 0x5f) (or-right (letter c) (digit c || eqb c 0x5f) out-next)
+
+  pub out-sign : (eqb c 0x2e ≡ false) × (eqb c 0x2b ≡ false) × (eqb c 0x2d ≡ false)
+  unfolding identRaw
+  out-sign =
+      let s = or-left (eqb c 0x2e || (eqb c 0x2b || (eqb c 0x2d || false))) (identNext c) (o .raw) in
+      let t = or-right (eqb c 0x2e) (eqb c 0x2b || (eqb c 0x2d || false)) s in
+      (or-left (eqb c 0x2e) (eqb c 0x2b || (eqb c 0x2d || false)) s, or-left (eqb c 0x2b) (eqb c 0x2d || false) t, or-left (eqb c 0x2d) false (or-right (eqb c 0x2b) (eqb c 0x2d || false) t))
+
+  pub out-int : intChar c ≡ false
+  unfolding intChar hexDigit letter
+  out-int =
+      let l = out-letter in
+      rw (out-digit, out-underscore, narrow 0x41 0x5a 0x41 0x46 c (omega arith) (omega arith) (or-left (within 0x41 0x5a c) (within 0x61 0x7a c) l), narrow 0x61 0x7a 0x61 0x66 c (omega arith) (omega arith) (or-right (within 0x41 0x5a c) (within 0x61 0x7a c) l))
+
+-- ---- the parts of an integer
+
+module _ (c : ℕ) (o : Outside c) where
+  pub int-reach : Reach c (run intChar)
+  int-reach = run-reach intChar (out-int o)
+
+  sign-same : (u v v′ : List ℕ) → signOf (u ++ c ∷ v) ≡ signOf (u ++ c ∷ v′)
+  unfolding signOf
+  sign-same [] v v′ = refl
+  sign-same (x ∷ u) v v′ = refl
+
+  sign-short : (u v : List ℕ) → signOf (u ++ c ∷ v) .end ≤ length u
+  unfolding signOf
+  sign-short [] v = rw (out-sign o .1, out-sign o .2) (omega arith)
+  sign-short (x ∷ u) v = omega (arith, sign-by-le x)
+
+  pub sign-stopped : Stopped c signOf
+  sign-stopped = record { same = sign-same }
+
+  pub sign-reach : Reach c (λ s. signOf s .end)
+  sign-reach = record { stopped = on (λ (g : Sign). g .end) sign-stopped; short = sign-short }
+
+  zero-out : eqb c 0x30 ≡ false
+  unfolding digit
+  zero-out = ne-eqb c 0x30 (λ e. let q : within 0x30 0x39 0x30 ≡ false = ap (within 0x30 0x39) (sym e) ∙ out-digit o in let z : true ≡ false = sym (inside 0x30 0x39 0x30 (omega arith) (omega arith)) ∙ q in let k : _≡_ {A = ℕ} 0 1 = cc in absurd (omega arith))
+
+  -- no letter of a prefix is such a byte
+  letter-out : (l : ℕ) → 0x61 ≤ l → l ≤ 0x7a → eqb c l ≡ false
+  unfolding letter
+  letter-out l a b = ne-eqb c l (λ e.
+      let q : within 0x61 0x7a l ≡ false = ap (within 0x61 0x7a) (sym e) ∙ or-right (within 0x41 0x5a c) (within 0x61 0x7a c) (out-letter o) in
+      let z : true ≡ false = sym (inside 0x61 0x7a l a b) ∙ q in let k : _≡_ {A = ℕ} 0 1 = cc in absurd (omega arith))
+
+  prefix-same : (u v v′ : List ℕ) → prefixOf (u ++ c ∷ v) ≡ prefixOf (u ++ c ∷ v′)
+  unfolding prefixOf
+  prefix-same [] v v′ = rw zero-out
+  prefix-same (x ∷ []) v v′ = refl
+  prefix-same (x ∷ y ∷ u) v v′ = refl
+
+  prefix-short : (u v : List ℕ) → prefixOf (u ++ c ∷ v) .end ≤ length u
+  unfolding prefixOf
+  prefix-short [] v = rw zero-out (omega arith)
+  prefix-short (x ∷ []) v =
+      rw (letter-out 0x62 (omega arith) (omega arith), letter-out 0x6f (omega arith) (omega arith), letter-out 0x78 (omega arith) (omega arith))
+      (either (bool-cases (eqb x 0x30)) (λ p. rw p (omega arith)) (λ p. rw p (omega arith)))
+  prefix-short (x ∷ y ∷ u) v = either (bool-cases (eqb x 0x30)) (λ p. rw p (omega (arith, prefix-by-le y .0))) (λ p. rw p (omega arith))
+
+  prefix-stopped : Stopped c prefixOf
+  prefix-stopped = record { same = prefix-same }
+
+  prefix-reach : Reach c (λ s. prefixOf s .end)
+  prefix-reach = record { stopped = on (λ (p : Prefix). p .end) prefix-stopped; short = prefix-short }
+
+  front-stopped : Stopped c frontOf
+  unfolding frontOf
+  front-stopped =
+      bind (λ (g : Sign) (s : List ℕ). behindSign g (drop (signOf s .end) s)) sign-stopped
+      (λ g. behind sign-reach (on (λ (p : Prefix). record { minus = g .minus; base = p .base; end = g .end + p .end }) prefix-stopped))
+
+  front-reach : Reach c (λ s. frontOf s .end)
+  unfolding frontOf
+  front-reach = sum sign-reach prefix-reach
+
+  suffix-stopped : Stopped c suffixOf
+  unfolding suffixOf suffixWord identRaw identNext letter digit within
+  suffix-stopped = first-stopped identRaw c (o .raw) _ refl
+
+  suffix-asked : Stopped c (λ t. askedBehind (suffixOf t) t)
+  unfolding suffixOf suffixWord identRaw identNext letter digit within
+  suffix-asked = asked-stopped c (o .low) identRaw (o .raw) _ refl
+
+  numeral-stopped : (asked : ℕ) (minus : Bool) (base : ℕ) → Stopped c (numeralOf asked minus base)
+  unfolding numeralOf
+  numeral-stopped asked minus base =
+      on₃ (λ (p : List ℕ) (f : Found) (a : Bool). cond a (numeral.Refused (foreignChar (length p + f .end))) (behindRun (f .code) (length p + f .end) (runOf (limitAt (chosenOf (f .code) asked) minus) base p)))
+      (part int-reach) (behind int-reach suffix-stopped) (behind int-reach suffix-asked)
+
+  -- ---- the whole
+
+  some : (u v : List ℕ) → eqb (length (u ++ c ∷ v)) 0 ≡ false
+  some [] v = ne-eqb (length (c ∷ v)) 0 (λ e. absurd (omega arith))
+  some (x ∷ u) v = ne-eqb (length (x ∷ (u ++ c ∷ v))) 0 (λ e. absurd (omega arith))
+
+  empty-stopped : Stopped c (λ s. eqb (length s) 0)
+  empty-stopped = record { same = λ u v v′. some u v ∙ sym (some u v′) }
+
+  pub typed-stopped : (width : Width) → Stopped c (typedOf width)
+  unfolding typedOf
+  typed-stopped width =
+      on₂ (λ (e : Bool) (r : Integer). cond e (integer.Refused (eof 0)) r) empty-stopped
+      (bind (λ (g : Front) (s : List ℕ). typedBehind (codeOf width) g (drop (frontOf s .end) s)) front-stopped
+      (λ g. behind front-reach (on (typedAs (codeOf width) (g .minus) (g .end)) (numeral-stopped (codeOf width) (g .minus) (g .base)))))
+
+  pub integer-stopped : Stopped c anyOf
+  unfolding anyOf
+  integer-stopped =
+      on₂ (λ (e : Bool) (r : AnyInteger). cond e (any.Refused (eof 0)) r) empty-stopped
+      (bind (λ (g : Front) (s : List ℕ). anyBehind g (drop (frontOf s .end) s)) front-stopped
+      (λ g. behind front-reach (on (anyAs (g .minus) (g .end)) (numeral-stopped (widest (g .minus)) (g .minus) (g .base)))))

@@ -1,0 +1,11 @@
+pub mod More
+pub mod Words
+pub mod Suffixes
+pub mod Fronts
+pub mod Runs
+pub mod Readings
+pub mod Exactly
+pub mod WordStops
+pub mod IntegerStops
+pub mod Bounded
+pub mod Worked

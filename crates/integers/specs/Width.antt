@@ -1,0 +1,78 @@
+-- The eight widths (document 01, module 9): "width 1 to 8 for i8, i16, i32, i64, u8, u16, u32, u64", their suffixes, and the numbers that they hold.
+use Prim.Native.Nat.{ℕ, _-_, _^_}
+use mathlib.Core.Bool.{Bool, true, false, cond, _||_}
+use mathlib.Core.List.{List, [], _∷_}
+use lib.Dec.{leb, eqb}
+use Rattle.integers.specs.declared.width.Width.{Width}
+use Rattle.integers.specs.declared.width.Width.the-variants.{I8, I16, I32, I64, U8, U16, U32, U64}
+use Rattle.integers.specs.declared.ident.Found.{Found}
+use Rattle.integers.specs.Words.{Word, firstOf}
+
+-- The paper's number of a width.
+abbrev pub codeOf : Width → ℕ
+codeOf I8 = 1
+codeOf I16 = 2
+codeOf I32 = 3
+codeOf I64 = 4
+codeOf U8 = 5
+codeOf U16 = 6
+codeOf U32 = 7
+codeOf U64 = 8
+
+-- What a table of eight has for a number; the last also for any other number.
+abbrev pub choose : {A : Type 0} → ℕ → A → A → A → A → A → A → A → A → A
+choose code a b c d e f g h =
+    cond (eqb code 1) a
+    (cond (eqb code 2) b
+    (cond (eqb code 3) c
+    (cond (eqb code 4) d
+    (cond (eqb code 5) e
+    (cond (eqb code 6) f
+    (cond (eqb code 7) g
+    h))))))
+
+-- The width of a number.
+unfoldable pub widthAt : ℕ → Width
+widthAt code = choose code I8 I16 I32 I64 U8 U16 U32 U64
+
+-- The largest magnitude of a width of so many bits: without a minus, and after one.
+abbrev pub limitOf : (signed : Bool) (bits : ℕ) (minus : Bool) → ℕ
+limitOf false bits false = 2 ^ bits - 1
+limitOf false bits true = 0
+limitOf true bits false = 2 ^ (bits - 1) - 1
+limitOf true bits true = 2 ^ (bits - 1)
+
+-- The same by the width's number.
+unfoldable pub limitAt : (code : ℕ) (minus : Bool) → ℕ
+limitAt code minus =
+    choose code
+    (limitOf true 8 minus) (limitOf true 16 minus) (limitOf true 32 minus) (limitOf true 64 minus)
+    (limitOf false 8 minus) (limitOf false 16 minus) (limitOf false 32 minus) (limitOf false 64 minus)
+
+-- The width of 64 bits.
+abbrev pub widest : (minus : Bool) → ℕ
+widest minus = cond minus 4 8
+
+-- The first of u8, u16, u32, u64 that fits; after a minus, of i8 to i64.
+unfoldable pub firstFit : (minus : Bool) (magnitude : ℕ) → Width
+firstFit true m = cond (leb m (limitOf true 8 true)) I8 (cond (leb m (limitOf true 16 true)) I16 (cond (leb m (limitOf true 32 true)) I32 I64))
+firstFit false m = cond (leb m (limitOf false 8 false)) U8 (cond (leb m (limitOf false 16 false)) U16 (cond (leb m (limitOf false 32 false)) U32 U64))
+
+-- The letters of a width's suffix.
+unfoldable pub suffixWord : ℕ → List ℕ
+suffixWord code =
+    choose code
+    (0x69 ∷ 0x38 ∷ []) (0x69 ∷ 0x31 ∷ 0x36 ∷ []) (0x69 ∷ 0x33 ∷ 0x32 ∷ []) (0x69 ∷ 0x36 ∷ 0x34 ∷ [])
+    (0x75 ∷ 0x38 ∷ []) (0x75 ∷ 0x31 ∷ 0x36 ∷ []) (0x75 ∷ 0x33 ∷ 0x32 ∷ []) (0x75 ∷ 0x36 ∷ 0x34 ∷ [])
+
+-- A width's suffix and its number.
+abbrev pub suffix : ℕ → Word
+suffix code = record { letters = suffixWord code; says = code }
+
+-- The suffix at the front of a part.
+unfoldable pub suffixOf : List ℕ → Found
+suffixOf t = firstOf (suffix 1 ∷ suffix 2 ∷ suffix 3 ∷ suffix 4 ∷ suffix 5 ∷ suffix 6 ∷ suffix 7 ∷ suffix 8 ∷ []) t
+
+-- Every suffix begins with an i or a u.
+abbrev pub suffixFirst : ℕ → Bool
+suffixFirst b = eqb b 0x69 || eqb b 0x75

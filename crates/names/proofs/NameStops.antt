@@ -1,0 +1,225 @@
+-- Names stop: nothing behind a byte that no name takes in, a quiet byte or `/`, changes what is read in front of it. Assumes nothing.
+use Prim.Native.Nat.{_+_, _<_, _≤_, ℕ, suc}
+use native.Mathlib.Omega.{arith}
+use mathlib.Core.Bool.{Bool, _&&_, _||_, false, not, true, cond}
+use mathlib.Core.List.{List, [], _++_, _∷_}
+use mathlib.Core.Path.{_∙_, _≡_, ap, ap₂, refl, sym}
+use lib.Dec.{eqb, ltb}
+use lib.ListN.{List·getD-append, getD, length, drop, length-append}
+use lib.Seq.{getD-append-seam}
+use borrow.Author.Tests.{ltb-true, ne-eqb, not-true}
+use Rattle.names.proofs.CharStops.{char-reach, chars-reach, foreign-stopped}
+use Rattle.names.specs.Characters.{charIf, chars, foreignFront}
+use Rattle.names.specs.Classify.{beginsFloat, byIdentifier, floatWords, missing, named, suffixed, wordOf}
+use Rattle.names.specs.Identifiers.{identifierOf, nameLen, orAsked, plainOf, rawOf, skipIdentifierOf, strictOf}
+use Rattle.names.specs.Starts.{beginsRaw, beginsString, startsAt, startsWith, startsWithOne, stringStarts}
+use Rattle.names.specs.declared.Identifier.{Identifier}
+use Rattle.names.specs.declared.Identifier.the-variants.{Missing, Name, RawName, Refused}
+use Rattle.names.specs.declared.Word.{Word}
+use Rattle.names.specs.declared.Word.the-variants.{Float, Plain, Raw, Refused as NotName}
+use Rattle.text.proofs.Choices.{and-false, and-true, either, lt-or-le, or-left, or-right, cond-cases}
+use Rattle.text.proofs.Stops.{behind, Stopped, always, on₂, Reach, bind, on, on₃, sum}
+use Rattle.text.specs.Classes.{digit, identFirst, identNext, identRaw, letter, oneOf, within}
+use Rattle.text.specs.Refusals.{eof, expectedString, foreignChar, unexpectedChar}
+
+-- a byte of ASCII that is no character of a name or raw name, no quote and no `#`
+unfoldable pub nameStop : ℕ → Bool
+nameStop c = ltb c 0x80 && not (oneOf (0x22 ∷ 0x23 ∷ 0x27 ∷ []) c || identRaw c)
+
+-- each byte of a word is none
+abbrev pub noStops : List ℕ → Bool
+noStops [] = true
+noStops (w ∷ ws) = not (nameStop w) && noStops ws
+
+abbrev pub noStopsIn : List (List ℕ) → Bool
+noStopsIn [] = true
+noStopsIn (w ∷ ws) = noStops w && noStopsIn ws
+
+module _ (c : ℕ) (is : nameStop c ≡ true) where
+  -- ---- what such a byte is not
+  pub stop-ascii : c < 0x80
+  unfolding nameStop
+  stop-ascii = ltb-true c 0x80 (and-true (ltb c 0x80) (not (oneOf (0x22 ∷ 0x23 ∷ 0x27 ∷ []) c || identRaw c)) is .0)
+
+  not-raw : identRaw c ≡ false
+  unfolding nameStop
+  not-raw =
+      let q = and-true (ltb c 0x80) (not (oneOf (0x22 ∷ 0x23 ∷ 0x27 ∷ []) c || identRaw c)) is .1 in
+      or-right (oneOf (0x22 ∷ 0x23 ∷ 0x27 ∷ []) c) (identRaw c) (not-true (oneOf (0x22 ∷ 0x23 ∷ 0x27 ∷ []) c || identRaw c) q)
+
+  not-next : identNext c ≡ false
+  unfolding identRaw
+  not-next = or-right (oneOf (0x2e ∷ 0x2b ∷ 0x2d ∷ []) c) (identNext c) not-raw
+
+  not-first : identFirst c ≡ false
+  unfolding identFirst identNext
+  not-first = rw (or-left (letter c) (digit c || eqb c 0x5f) not-next) (or-right (digit c) (eqb c 0x5f) (or-right (letter c) (digit c || eqb c 0x5f) not-next))
+
+  not-byte : (w : ℕ) → not (nameStop w) ≡ true → eqb c w ≡ false
+  not-byte w n = ne-eqb c w (λ e. (let z : _≡_ {A = Bool} true false = sym is ∙ ap nameStop e ∙ not-true (nameStop w) n in let y : _≡_ {A = ℕ} 0 1 = cc in omega arith))
+
+  -- ---- words
+  at-seam : (u v : List ℕ) (i : ℕ) → i ≡ length u → getD (u ++ c ∷ v) i 0 ≡ c
+  at-seam u v i e = ap (λ (k : ℕ). getD (u ++ c ∷ v) k 0) e ∙ getD-append-seam u c v 0
+
+  at-same : (u v v′ : List ℕ) (i : ℕ) → i ≤ length u → getD (u ++ c ∷ v) i 0 ≡ getD (u ++ c ∷ v′) i 0
+  at-same u v v′ i h =
+      either (lt-or-le i (length u))
+      (λ l. List·getD-append u (c ∷ v) 0 i l ∙ sym (List·getD-append u (c ∷ v′) 0 i l))
+      (λ l. at-seam u v i (omega arith) ∙ sym (at-seam u v′ i (omega arith)))
+
+  starts-same : (ws : List ℕ) → noStops ws ≡ true → (u v v′ : List ℕ) (i : ℕ) → i ≤ length u → startsAt ws (u ++ c ∷ v) i ≡ startsAt ws (u ++ c ∷ v′) i
+  starts-same [] n u v v′ i h = refl
+  starts-same (w ∷ []) n u v v′ i h = ap (λ (b : ℕ). eqb b w) (at-same u v v′ i h)
+  starts-same (w ∷ x ∷ ws) n u v v′ i h =
+      let no = and-true (not (nameStop w)) (noStops (x ∷ ws)) n in
+      either (lt-or-le i (length u))
+      (λ l. ap₂ (λ (b : ℕ) (t : Bool). eqb b w && t) (at-same u v v′ i h) (starts-same (x ∷ ws) (no .1) u v v′ (i + 1) (omega arith)))
+      (λ l. let e : i ≡ length u = omega arith in
+      rw (at-seam u v i e, at-seam u v′ i e, not-byte w (no .0)))
+
+  pub starts-stopped : (ws : List ℕ) → noStops ws ≡ true → Stopped c (startsWith ws)
+  unfolding startsWith
+  starts-stopped ws n = record { same = λ u v v′. starts-same ws n u v v′ 0 (omega arith) }
+
+  one-stopped : (ws : List (List ℕ)) → noStopsIn ws ≡ true → Stopped c (startsWithOne ws)
+  one-stopped [] n = always false
+  one-stopped (w ∷ []) n = starts-stopped w (and-true (noStops w) true n .0)
+  one-stopped (w ∷ x ∷ ws) n =
+      let no = and-true (noStops w) (noStopsIn (x ∷ ws)) n in
+      on₂ (λ (a b : Bool). a || b) (starts-stopped w (no .0)) (one-stopped (x ∷ ws) (no .1))
+
+  -- a word that is longer than what stands in front
+  starts-short : (ws : List ℕ) → noStops ws ≡ true → (u v : List ℕ) (i : ℕ) → i ≤ length u → length u < i + length ws → startsAt ws (u ++ c ∷ v) i ≡ false
+  starts-short [] n u v i h l = absurd (omega arith)
+  starts-short (w ∷ []) n u v i h l = rw (at-seam u v i (omega arith)) (not-byte w (and-true (not (nameStop w)) true n .0))
+  starts-short (w ∷ x ∷ ws) n u v i h l =
+      let no = and-true (not (nameStop w)) (noStops (x ∷ ws)) n in
+      either (lt-or-le i (length u))
+      (λ k. rw (starts-short (x ∷ ws) (no .1) u v (i + 1) (omega arith) (omega arith)) (and-false (eqb (getD (u ++ c ∷ v) i 0) w)))
+      (λ k. rw (at-seam u v i (omega arith), not-byte w (no .0)))
+
+  string-stopped : Stopped c beginsString
+  unfolding beginsString nameStop identRaw identNext letter digit within
+  string-stopped = one-stopped stringStarts refl
+
+  raw-stopped : Stopped c beginsRaw
+  unfolding beginsRaw nameStop identRaw identNext letter digit within
+  raw-stopped = starts-stopped (0x72 ∷ 0x23 ∷ []) refl
+
+  no-raw : (u v : List ℕ) → length u < 2 → beginsRaw (u ++ c ∷ v) ≡ false
+  unfolding beginsRaw startsWith nameStop identRaw identNext letter digit within
+  no-raw u v l = starts-short (0x72 ∷ 0x23 ∷ []) refl u v 0 (omega arith) l
+
+  -- ---- lengths
+  pub name-reach : Reach c nameLen
+  unfolding nameLen
+  name-reach =
+      let first = char-reach c stop-ascii identFirst not-first in
+      let whole = sum first (chars-reach c stop-ascii identNext not-next) in
+      record {
+        stopped = on₂ (λ (a b : ℕ). cond (eqb a 0) 0 b) (first .stopped) (whole .stopped);
+        short = λ u v. (let s : List ℕ = u ++ c ∷ v in
+            let n : ℕ = charIf identFirst s in
+            cond-cases (λ (k : ℕ). k ≤ length u) (eqb n 0) 0 (n + chars identNext (drop n s)) (λ e. omega arith) (λ e. whole .short u v));
+      }
+
+  raw-reach : Reach c (chars identRaw)
+  raw-reach = chars-reach c stop-ascii identRaw not-raw
+
+  -- ---- refusal 3 behind a length
+  asked-stopped : {n : List ℕ → ℕ} {f : List ℕ → Identifier} → Reach c n → Stopped c f → Stopped c (λ s. orAsked s (n s) (f s))
+  asked-stopped r e = on₃ (λ (t : Bool) (k : ℕ) (i : Identifier). cond t (Refused (foreignChar k)) i) (behind r (foreign-stopped c stop-ascii)) (r .stopped) e
+
+  plain-stopped : Stopped c plainOf
+  unfolding plainOf
+  plain-stopped = asked-stopped name-reach (on (λ (n : ℕ). cond (eqb n 0) Missing (Name n)) (name-reach .stopped))
+
+  strict-stopped : Stopped c strictOf
+  unfolding strictOf
+  strict-stopped =
+      asked-stopped name-reach (asked-stopped raw-reach
+      (on₂ (λ (n m : ℕ). cond (eqb n 0) Missing (cond (ltb n m) Missing (Name n))) (name-reach .stopped) (raw-reach .stopped)))
+
+  -- ---- a raw name, behind its `r#`
+  behind-hash : List ℕ → Identifier
+  behind-hash t = let n = chars identRaw t in cond (foreignFront (drop n t)) (Refused (foreignChar (2 + n))) (cond (eqb n 0) Missing (RawName (2 + n)))
+
+  hash-is : (x y : ℕ) (t : List ℕ) → rawOf (x ∷ y ∷ t) ≡ behind-hash t
+  unfolding rawOf behind-hash
+  hash-is x y t =
+      let n : ℕ = chars identRaw t in
+      let e : 2 + n ≡ suc (suc n) = omega arith in
+      ap (λ (k : ℕ). cond (foreignFront (drop k (x ∷ y ∷ t))) (Refused (foreignChar (2 + n))) (cond (eqb n 0) Missing (RawName (2 + n)))) e
+
+  hash-stopped : Stopped c behind-hash
+  unfolding behind-hash
+  hash-stopped =
+      on₂ (λ (t : Bool) (n : ℕ). cond t (Refused (foreignChar (2 + n))) (cond (eqb n 0) Missing (RawName (2 + n))))
+      (behind raw-reach (foreign-stopped c stop-ascii)) (raw-reach .stopped)
+
+  raw-or-same : {f : List ℕ → Identifier} → Stopped c f → (u v v′ : List ℕ)
+      → cond (beginsRaw (u ++ c ∷ v)) (rawOf (u ++ c ∷ v)) (f (u ++ c ∷ v)) ≡ cond (beginsRaw (u ++ c ∷ v′)) (rawOf (u ++ c ∷ v′)) (f (u ++ c ∷ v′))
+  raw-or-same e [] v v′ = rw (no-raw [] v (omega arith), no-raw [] v′ (omega arith)) (e .same [] v v′)
+  raw-or-same e (x ∷ []) v v′ = rw (no-raw (x ∷ []) v (omega arith), no-raw (x ∷ []) v′ (omega arith)) (e .same (x ∷ []) v v′)
+  raw-or-same {f} e (x ∷ y ∷ u) v v′ =
+      let s : List ℕ = (x ∷ y ∷ u) ++ c ∷ v in
+      let s′ : List ℕ = (x ∷ y ∷ u) ++ c ∷ v′ in
+      let r : rawOf s ≡ rawOf s′ = hash-is x y (u ++ c ∷ v) ∙ hash-stopped .same u v v′ ∙ sym (hash-is x y (u ++ c ∷ v′)) in
+      ap (λ (t : Bool). cond t (rawOf s) (f s)) (raw-stopped .same (x ∷ y ∷ u) v v′)
+      ∙ ap₂ (λ (a b : Identifier). cond (beginsRaw s′) a b) r (e .same (x ∷ y ∷ u) v v′)
+
+  raw-or-stopped : {f : List ℕ → Identifier} → Stopped c f → Stopped c (λ s. cond (beginsString s) Missing (cond (beginsRaw s) (rawOf s) (f s)))
+  raw-or-stopped e = on₂ (λ (t : Bool) (i : Identifier). cond t Missing i) string-stopped (record { same = raw-or-same e })
+
+  -- ---- names and raw names
+  pub skip-stopped : Stopped c skipIdentifierOf
+  unfolding skipIdentifierOf
+  skip-stopped = raw-or-stopped plain-stopped
+
+  empty-not : (u v : List ℕ) → eqb (length (u ++ c ∷ v)) 0 ≡ false
+  empty-not u v = let l = length-append u (c ∷ v) in ne-eqb (length (u ++ c ∷ v)) 0 (λ e. omega arith)
+
+  empty-stopped : Stopped c (λ s. eqb (length s) 0)
+  empty-stopped = record { same = λ u v v′. empty-not u v ∙ sym (empty-not u v′) }
+
+  pub identifier-stopped : Stopped c identifierOf
+  unfolding identifierOf
+  identifier-stopped =
+      on₂ (λ (t : Bool) (i : Identifier). cond t (Refused (eof 0)) i) empty-stopped (raw-or-stopped strict-stopped)
+
+  -- ---- `inf` and `NaN`
+  float-stopped : Stopped c beginsFloat
+  unfolding beginsFloat nameStop identRaw identNext letter digit within
+  float-stopped = one-stopped floatWords refl
+
+  no-float : (u v : List ℕ) → length u < 3 → beginsFloat (u ++ c ∷ v) ≡ false
+  unfolding beginsFloat startsWith nameStop identRaw identNext letter digit within
+  no-float u v l = rw (starts-short (0x69 ∷ 0x6e ∷ 0x66 ∷ []) refl u v 0 (omega arith) l) (starts-short (0x4e ∷ 0x61 ∷ 0x4e ∷ []) refl u v 0 (omega arith) l)
+
+  suffixed-stopped : (n : ℕ) → Stopped c (λ t. suffixed t n)
+  unfolding suffixed nameStop identRaw identNext letter digit within
+  suffixed-stopped n =
+      on₂ (λ (a b : Bool). cond a (Float n 32) (cond b (Float n 64) (Plain n)))
+      (starts-stopped (0x66 ∷ 0x33 ∷ 0x32 ∷ []) refl) (starts-stopped (0x66 ∷ 0x36 ∷ 0x34 ∷ []) refl)
+
+  named-same : (n : ℕ) (u v v′ : List ℕ) → named (u ++ c ∷ v) n ≡ named (u ++ c ∷ v′) n
+  unfolding named
+  named-same n [] v v′ = rw (no-float [] v (omega arith), no-float [] v′ (omega arith))
+  named-same n (x ∷ []) v v′ = rw (no-float (x ∷ []) v (omega arith), no-float (x ∷ []) v′ (omega arith))
+  named-same n (x ∷ y ∷ []) v v′ = rw (no-float (x ∷ y ∷ []) v (omega arith), no-float (x ∷ y ∷ []) v′ (omega arith))
+  named-same n (x ∷ y ∷ z ∷ u) v v′ =
+      ap₂ (λ (t : Bool) (w : Word). cond t (cond (eqb n 3) (Float n 0) (cond (eqb n 6) w (Plain n))) (Plain n))
+      (float-stopped .same (x ∷ y ∷ z ∷ u) v v′) (suffixed-stopped n .same u v v′)
+
+  by-stopped : (i : Identifier) → Stopped c (λ s. byIdentifier s i)
+  unfolding missing
+  by-stopped Missing = on (λ (t : Bool). NotName (cond t (expectedString 2) (unexpectedChar 0))) raw-stopped
+  by-stopped (Name n) = record { same = named-same n }
+  by-stopped (RawName n) = always (Raw n)
+  by-stopped (Refused r) = always (NotName r)
+
+  -- ---- the token that begins as a name does
+  pub word-stopped : Stopped c wordOf
+  unfolding wordOf
+  word-stopped = bind (λ (i : Identifier) (s : List ℕ). byIdentifier s i) skip-stopped by-stopped

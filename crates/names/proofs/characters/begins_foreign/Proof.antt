@@ -1,0 +1,33 @@
+use native.Mathlib.Omega.{arith}
+use lib.ListN.{getD}
+use borrow.Author.Needs.{needs}
+use borrow.Author.Tests.{lt-leb}
+use Rattle.names.proofs.characters.begins_foreign.Statement.{statement}
+use Rattle.names.specs.Characters.{foreignFront}
+use Rattle.text.specs.Classes.{foreign}
+use Rattle.names.proofs.characters.begins_foreign.Tie as tie
+
+peek-requires : tie.Need-peek-requires
+peek-requires c κs = search needs
+
+returns : tie.Need-returns
+unfolding foreignFront foreign
+returns c = simp (lt-leb 0x80 (getD (c .before .before .before .args .s .now) 0 0) (omega (arith, c .before .peek .ensures)))
+
+peek-requires-2 : tie.Need-peek-requires-2
+peek-requires-2 c κs = search needs
+
+peek-requires-3 : tie.Need-peek-requires-3
+peek-requires-3 c κs = search needs
+
+is-foreign-requires : tie.Need-is-foreign-requires
+is-foreign-requires c κs = search needs
+
+returns-2 : tie.Need-returns-2
+unfolding foreignFront
+returns-2 c = simp (c .is-foreign .ensures, c .before .before .before .before .peek .ensures, c .before .before .peek2 .ensures, c .before .peek3 .ensures)
+
+pub begins-foreign-spec : {M : Type 1} → statement M
+begins-foreign-spec =
+    tie.close
+    (tie.spec peek-requires returns peek-requires-2 peek-requires-3 is-foreign-requires returns-2)

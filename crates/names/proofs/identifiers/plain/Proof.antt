@@ -1,0 +1,53 @@
+use native.Mathlib.Omega.{arith}
+use mathlib.Core.Path.{sym}
+use borrow.Author.Needs.{needs}
+use borrow.Author.Tests.{eq-eqb, ne-eqb}
+use Rattle.names.proofs.IdentifierLaws.{name-le, on-part}
+use Rattle.names.proofs.identifiers.plain.Statement.{statement}
+use Rattle.names.specs.Characters.{foreignFront}
+use Rattle.names.specs.Identifiers.{plainOf}
+use Rattle.names.proofs.identifiers.plain.Tie as tie
+
+name-len-requires : tie.Need-name-len-requires
+name-len-requires c κs = search needs
+
+sub-begins-foreign : tie.Need-sub-begins-foreign
+sub-begins-foreign c = omega (arith, c .name-len .ensures, name-le (c .before .before .args .s .now))
+
+part-begins-foreign-start : tie.Need-part-begins-foreign-start
+part-begins-foreign-start c = omega (arith, c .name-len .ensures, name-le (c .before .before .args .s .now))
+
+part-begins-foreign-end : tie.Need-part-begins-foreign-end
+part-begins-foreign-end c = search needs
+
+begins-foreign-requires : tie.Need-begins-foreign-requires
+begins-foreign-requires c κs = search needs
+
+foreign-char-requires : tie.Need-foreign-char-requires
+foreign-char-requires c κs = search needs
+
+returns : tie.Need-returns
+unfolding plainOf
+returns c = simp (sym (c .before .before .before .before .name-len .ensures), on-part foreignFront (c .before .before .before .before .before .before .args .s .now) (c .before .before .before .before .name-len .result) _ _ (c .before .before .begins-foreign .ensures) (c .before .if1 .taken), c .foreign-char .ensures)
+
+returns-2 : tie.Need-returns-2
+unfolding plainOf
+returns-2 c = simp (sym (c .before .before .before .before .name-len .ensures), on-part foreignFront (c .before .before .before .before .before .before .args .s .now) (c .before .before .before .before .name-len .result) _ _ (c .before .before .begins-foreign .ensures) (c .before .if1 .left), eq-eqb _ _ (c .if2 .taken))
+
+returns-3 : tie.Need-returns-3
+unfolding plainOf
+returns-3 c = simp (sym (c .before .before .before .before .name-len .ensures), on-part foreignFront (c .before .before .before .before .before .before .args .s .now) (c .before .before .before .before .name-len .result) _ _ (c .before .before .begins-foreign .ensures) (c .before .if1 .left), ne-eqb _ _ (c .if2 .left))
+
+pub plain-spec : {M : Type 1} → statement M
+plain-spec =
+    tie.close
+    (tie.spec
+    name-len-requires
+    sub-begins-foreign
+    part-begins-foreign-start
+    part-begins-foreign-end
+    begins-foreign-requires
+    foreign-char-requires
+    returns
+    returns-2
+    returns-3)

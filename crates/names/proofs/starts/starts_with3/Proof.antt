@@ -1,0 +1,32 @@
+use mathlib.Core.Path.{_∙_, sym}
+use lib.ListN.{getD}
+use borrow.Author.Needs.{needs}
+use borrow.Author.Tests.{eq-eqb, ne-eqb}
+use Rattle.names.proofs.starts.starts_with3.Statement.{statement}
+use Rattle.names.specs.Starts.{startsWith}
+use Rattle.names.proofs.starts.starts_with3.Tie as tie
+
+peek-requires : tie.Need-peek-requires
+peek-requires c κs = search needs
+
+returns : tie.Need-returns
+unfolding startsWith
+returns c = simp (ne-eqb (getD (c .before .before .before .args .s .now) 0 0) (c .before .before .before .args .a) (λ e. c .if1 .taken (c .before .peek .ensures ∙ e)))
+
+peek-requires-2 : tie.Need-peek-requires-2
+peek-requires-2 c κs = search needs
+
+returns-2 : tie.Need-returns-2
+unfolding startsWith
+returns-2 c = simp (eq-eqb (getD (c .before .before .before .before .before .args .s .now) 0 0) (c .before .before .before .before .before .args .a) (sym (c .before .before .before .peek .ensures) ∙ c .before .before .if1 .left), ne-eqb (getD (c .before .before .before .before .before .args .s .now) 1 0) (c .before .before .before .before .before .args .b) (λ e. c .if2 .taken (c .before .peek2 .ensures ∙ e)))
+
+peek-requires-3 : tie.Need-peek-requires-3
+peek-requires-3 c κs = search needs
+
+returns-3 : tie.Need-returns-3
+unfolding startsWith
+returns-3 c = simp (eq-eqb (getD (c .before .before .before .before .before .before .args .s .now) 0 0) (c .before .before .before .before .before .before .args .a) (sym (c .before .before .before .before .peek .ensures) ∙ c .before .before .before .if1 .left), eq-eqb (getD (c .before .before .before .before .before .before .args .s .now) 1 0) (c .before .before .before .before .before .before .args .b) (sym (c .before .before .peek2 .ensures) ∙ c .before .if2 .left), c .peek3 .ensures)
+
+pub starts-with3-spec : {M : Type 1} → statement M
+starts-with3-spec =
+    tie.close (tie.spec peek-requires returns peek-requires-2 returns-2 peek-requires-3 returns-3)

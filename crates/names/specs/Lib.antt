@@ -1,0 +1,4 @@
+pub mod Characters
+pub mod Starts
+pub mod Identifiers
+pub mod Classify

@@ -1,0 +1,4 @@
+pub mod Tokens
+pub mod Owed
+pub mod Readings
+pub mod Kept

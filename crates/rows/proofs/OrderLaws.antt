@@ -1,0 +1,118 @@
+-- Laws of order: what a tape in order is like, and the loop that finds it out. Assumes nothing.
+use Prim.Native.Nat.{_*_, _+_, _-_, _<_, _≤_, suc, zero, ℕ}
+use native.Mathlib.Nat.{le-of-suc-le-suc, not-suc-le-zero}
+use native.Mathlib.Omega.{arith}
+use mathlib.Core.Bool.{Bool, _&&_, false, true}
+use mathlib.Core.List.{List, [], _∷_}
+use mathlib.Core.Path.{_∙_, _≡_, ap, sym}
+use lib.Dec.{leb, ltb}
+use lib.ListN.{drop, getD, length}
+use borrow.Author.Tests.{leb-true, ltb-true}
+use Rattle.rows.proofs.RowLaws.{entries-next}
+use Rattle.rows.specs.Order.{inOrder, inOrderFrom, orderly}
+use Rattle.rows.specs.Rows.{entriesOf, entryAt, width}
+use Rattle.rows.specs.declared.Entry.{Entry}
+use Rattle.text.proofs.Choices.{and-true}
+use Rattle.text.proofs.ClassLaws.{within-true}
+use Rattle.text.specs.Classes.{within}
+
+-- ---- an entry in order
+
+-- what `orderly` says
+pub record Orderly (at : ℕ) (e : Entry) : Type 0 where
+  pub low : 1 ≤ e .kind
+  pub high : e .kind ≤ 16
+  pub behind : at ≤ e .start
+  pub some : e .start < e .end
+
+pub orderly-true : (at : ℕ) (e : Entry) → orderly at e ≡ true → Orderly at e
+unfolding orderly
+orderly-true at e h =
+    let p = and-true (within 1 16 (e .kind)) (leb at (e .start) && ltb (e .start) (e .end)) h in
+    let q = and-true (leb at (e .start)) (ltb (e .start) (e .end)) (p .1) in
+    let k = within-true 1 16 (e .kind) (p .0) in
+    record { low = k .0; high = k .1; behind = leb-true at (e .start) (q .0); some = ltb-true (e .start) (e .end) (q .1) }
+
+-- the first entry, and those behind it
+pub in-order-first : (e : Entry) (es : List Entry) (at limit : ℕ) → inOrderFrom (e ∷ es) at limit ≡ true → Orderly at e × (inOrderFrom es (e .end) limit ≡ true)
+unfolding inOrderFrom
+in-order-first e es at limit h =
+    let p = and-true (orderly at e) (inOrderFrom es (e .end) limit) h in
+    (orderly-true at e (p .0), p .1)
+
+-- ---- entries in order
+
+pub in-order-within : (es : List Entry) (at limit : ℕ) → inOrderFrom es at limit ≡ true → at ≤ limit
+unfolding inOrderFrom
+in-order-within [] at limit h = leb-true at limit h
+in-order-within (e ∷ es) at limit h =
+    let p = in-order-first e es at limit h in
+    omega (arith, p .0 .behind, p .0 .some, in-order-within es (e .end) limit (p .1))
+
+-- there are no more of them than places
+pub in-order-short : (es : List Entry) (at limit : ℕ) → inOrderFrom es at limit ≡ true → at + length es ≤ limit
+in-order-short [] at limit h = omega (arith, in-order-within [] at limit h)
+in-order-short (e ∷ es) at limit h =
+    let p = in-order-first e es at limit h in
+    omega (arith, p .0 .behind, p .0 .some, in-order-short es (e .end) limit (p .1))
+
+-- each of them
+pub record Row (at limit : ℕ) (e : Entry) : Type 0 where
+  pub orderly-there : Orderly at e
+  pub inside : e .end ≤ limit
+
+pub in-order-row : (es : List Entry) (at limit : ℕ) → inOrderFrom es at limit ≡ true → (k : ℕ) (d : Entry) → k < length es → Row at limit (getD es k d)
+in-order-row [] at limit h k d l = absurd (not-suc-le-zero l)
+in-order-row (e ∷ es) at limit h zero d l =
+    let p = in-order-first e es at limit h in
+    record { orderly-there = p .0; inside = in-order-within es (e .end) limit (p .1) }
+in-order-row (e ∷ es) at limit h (suc k) d l =
+    let p = in-order-first e es at limit h in
+    let q = in-order-row es (e .end) limit (p .1) k d (le-of-suc-le-suc l) in
+    let r = q .orderly-there in
+    record {
+      orderly-there = record { low = r .low; high = r .high; behind = omega (arith, p .0 .behind, p .0 .some, r .behind); some = r .some };
+      inside = q .inside;
+    }
+
+-- any two of them
+pub in-order-rise : (es : List Entry) (at limit : ℕ) → inOrderFrom es at limit ≡ true → (j k : ℕ) (d : Entry) → j < k → k < length es → getD es j d .end ≤ getD es k d .start
+in-order-rise [] at limit h j k d jk l = absurd (not-suc-le-zero l)
+in-order-rise (e ∷ es) at limit h j zero d jk l = absurd (not-suc-le-zero jk)
+in-order-rise (e ∷ es) at limit h zero (suc k) d jk l =
+    in-order-row es (e .end) limit (in-order-first e es at limit h .1) k d (le-of-suc-le-suc l) .orderly-there .behind
+in-order-rise (e ∷ es) at limit h (suc j) (suc k) d jk l =
+    in-order-rise es (e .end) limit (in-order-first e es at limit h .1) j k d (le-of-suc-le-suc jk) (le-of-suc-le-suc l)
+
+-- ---- the loop over rows
+
+module _ (t : List ℕ) (count limit : ℕ) where
+  -- what is left from row i on gives the whole
+  abbrev pub Left : ℕ → ℕ → Type 0
+  Left i at = inOrderFrom (entriesOf (count - i) (drop (width * i) t)) at limit ≡ inOrder (entriesOf count t) limit
+
+  pub order-starts : Left 0 0
+  unfolding inOrder
+  order-starts = let z : count - 0 ≡ count = omega arith in ap (λ (n : ℕ). inOrderFrom (entriesOf n t) 0 limit) z
+
+  module _ (i at : ℕ) (inv : Left i at) where
+    -- row i decides together with those behind it
+    row-first : (e : Entry) → i < count → e ≡ entryAt t i
+        → orderly at e && inOrderFrom (entriesOf (count - (i + 1)) (drop (width * (i + 1)) t)) (e .end) limit ≡ inOrder (entriesOf count t) limit
+    unfolding inOrderFrom
+    row-first e h is =
+        let z : count - i ≡ suc (count - (i + 1)) = omega arith in
+        let rest : List Entry = entriesOf (count - (i + 1)) (drop (width * (i + 1)) t) in
+        ap (λ (x : Entry). inOrderFrom (x ∷ rest) at limit) is
+        ∙ sym (ap (λ (l : List Entry). inOrderFrom l at limit) (ap (λ (n : ℕ). entriesOf n (drop (width * i) t)) z ∙ entries-next (count - (i + 1)) i t))
+        ∙ inv
+
+    pub order-bad : (e : Entry) → i < count → e ≡ entryAt t i → orderly at e ≡ false → false ≡ inOrder (entriesOf count t) limit
+    order-bad e h is off = sym (ap (λ (b : Bool). b && inOrderFrom (entriesOf (count - (i + 1)) (drop (width * (i + 1)) t)) (e .end) limit) off) ∙ row-first e h is
+
+    pub order-on : (e : Entry) → i < count → e ≡ entryAt t i → orderly at e ≡ true → Left (i + 1) (e .end)
+    order-on e h is holds = sym (ap (λ (b : Bool). b && inOrderFrom (entriesOf (count - (i + 1)) (drop (width * (i + 1)) t)) (e .end) limit) holds) ∙ row-first e h is
+
+    pub order-done : count ≤ i → leb at limit ≡ inOrder (entriesOf count t) limit
+    unfolding inOrderFrom entriesOf
+    order-done h = let z : count - i ≡ 0 = omega arith in sym (ap (λ (n : ℕ). inOrderFrom (entriesOf n (drop (width * i) t)) at limit) z) ∙ inv

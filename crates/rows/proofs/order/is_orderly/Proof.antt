@@ -1,0 +1,24 @@
+use borrow.Author.Tests.{le-leb, lt-leb}
+use Rattle.rows.proofs.order.is_orderly.Statement.{statement}
+use Rattle.rows.specs.Order.{orderly}
+use Rattle.text.specs.Classes.{within}
+use Rattle.rows.proofs.order.is_orderly.Tie as tie
+
+returns : tie.Need-returns
+unfolding orderly within
+returns c = simp (lt-leb _ _ (c .if1 .taken))
+
+returns-2 : tie.Need-returns-2
+unfolding orderly within
+returns-2 c = simp (le-leb _ _ (c .before .before .if1 .left), lt-leb _ _ (c .if2 .taken))
+
+returns-3 : tie.Need-returns-3
+unfolding orderly within
+returns-3 c = simp (le-leb _ _ (c .before .before .before .before .if1 .left), le-leb _ _ (c .before .before .if2 .left), lt-leb _ _ (c .if3 .taken))
+
+returns-4 : tie.Need-returns-4
+unfolding orderly within
+returns-4 c = simp (le-leb _ _ (c .before .before .before .before .before .if1 .left), le-leb _ _ (c .before .before .before .if2 .left), le-leb _ _ (c .before .if3 .left))
+
+pub is-orderly-spec : {M : Type 1} → statement M
+is-orderly-spec = tie.close (tie.spec returns returns-2 returns-3 returns-4)

@@ -1,0 +1,21 @@
+-- A tape in order (document 01, refusal 23): "kinds are 1 to 16, each start is below its end, no entry starts before the former's end,
+-- and the last ends within the old length (walk: within 65,536)."
+use Prim.Native.Nat.{ℕ}
+use mathlib.Core.List.{List, [], _∷_}
+use mathlib.Core.Bool.{Bool, _&&_}
+use lib.Dec.{ltb, leb}
+use Rattle.text.specs.Classes.{within}
+use Rattle.rows.specs.declared.Entry.{Entry}
+
+-- An entry may stand behind the place `at`.
+unfoldable pub orderly : ℕ → Entry → Bool
+orderly at e = within 1 16 (e .kind) && (leb at (e .start) && ltb (e .start) (e .end))
+
+-- The entries behind the place `at` are in order, and the last ends within the limit.
+unfoldable pub inOrderFrom : List Entry → ℕ → ℕ → Bool
+inOrderFrom [] at limit = leb at limit
+inOrderFrom (e ∷ es) at limit = orderly at e && inOrderFrom es (e .end) limit
+
+-- The entries of a tape are in order, and the last ends within the limit.
+unfoldable pub inOrder : List Entry → ℕ → Bool
+inOrder es limit = inOrderFrom es 0 limit

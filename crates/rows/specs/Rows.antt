@@ -1,0 +1,40 @@
+-- Entries on a tape (document 01): "a tape, a lent slice of 32-bit numbers, four to an entry: kind, start, end, detail.
+-- Room is the slice's length divided by 4, rounded down."
+use Prim.Native.Nat.{ℕ, zero, suc, _+_, _*_, _/_}
+use mathlib.Core.List.{List, [], _∷_, _++_}
+use lib.ListN.{length, getD, take, drop}
+use Rattle.rows.specs.declared.Entry.{Entry}
+
+-- How many numbers an entry has.
+abbrev pub width : ℕ
+width = 4
+
+-- How many entries a slice of so many numbers has room for.
+abbrev pub roomOf : ℕ → ℕ
+roomOf numbers = numbers / width
+
+-- The numbers of an entry.
+abbrev pub cells : Entry → List ℕ
+cells e = e .kind ∷ e .start ∷ e .end ∷ e .detail ∷ []
+
+-- The entry that the numbers at the front are; past the end stands 0.
+abbrev pub entryOf : List ℕ → Entry
+entryOf s = record { kind = getD s 0 0; start = getD s 1 0; end = getD s 2 0; detail = getD s 3 0 }
+
+-- The entry in row i.
+unfoldable pub entryAt : List ℕ → ℕ → Entry
+entryAt tape i = entryOf (drop (width * i) tape)
+
+-- The entries of the first n rows.
+unfoldable pub entriesOf : ℕ → List ℕ → List Entry
+entriesOf zero tape = []
+entriesOf (suc n) tape = entryOf tape ∷ entriesOf n (drop width tape)
+
+-- The tape with row i replaced and all else as it was.
+unfoldable pub written : List ℕ → ℕ → Entry → List ℕ
+written tape i e = take (width * i) tape ++ cells e ++ drop (width * (i + 1)) tape
+
+-- The numbers of entries one after the other.
+unfoldable pub flat : List Entry → List ℕ
+flat [] = []
+flat (e ∷ es) = cells e ++ flat es

@@ -1,0 +1,12 @@
+pub mod PieceLaws
+pub mod CharLaws
+pub mod QuotedLaws
+pub mod RawLaws
+pub mod Writes
+pub mod Decodings
+pub mod Wholes
+pub mod More
+pub mod Encodes
+pub mod Bounds
+pub mod Closes
+pub mod Worked

@@ -1,0 +1,5 @@
+pub mod Pieces
+pub mod Quoted
+pub mod Raw
+pub mod Strings
+pub mod Chars

@@ -1,0 +1,48 @@
+// Strings, byte strings, chars and byte literals (document 01, module 4), each over the part of the text that begins with it.
+pub mod chars;
+pub mod decode;
+pub mod literal;
+pub mod pieces;
+pub mod quoted;
+pub mod raw;
+pub mod search;
+
+use escapes::Mode;
+pub use literal::Literal;
+pub use literal::LiteralAnswer;
+use text::Refusal;
+ghost use mathlib.Core.Path.{_≡_};
+ghost use Rattle.strings.specs.Strings.{stringOf, byteStringOf};
+
+pub fn string(s: &[u8]) -> LiteralAnswer
+    ensures { λ r. ⌜ r ≡ stringOf (now (s .entry)) ⌝ }
+{
+    if s.len() == 0 {
+        return LiteralAnswer::Refused(Refusal::expected_string(0));
+    }
+    if s[0] == b'"' {
+        return quoted::quoted(Mode::Str, s, 1);
+    }
+    if s[0] == b'r' {
+        return raw::raw(Mode::Str, s, 1);
+    }
+    LiteralAnswer::Refused(Refusal::expected_string(0))
+}
+
+pub fn byte_string(s: &[u8]) -> LiteralAnswer
+    ensures { λ r. ⌜ r ≡ byteStringOf (now (s .entry)) ⌝ }
+{
+    if s.len() < 2 {
+        return LiteralAnswer::Refused(Refusal::expected_byte_string(0));
+    }
+    if s[0] != b'b' {
+        return LiteralAnswer::Refused(Refusal::expected_byte_string(0));
+    }
+    if s[1] == b'"' {
+        return quoted::quoted(Mode::Bytes, s, 2);
+    }
+    if s[1] == b'r' {
+        return raw::raw(Mode::Bytes, s, 2);
+    }
+    LiteralAnswer::Refused(Refusal::expected_byte_string(0))
+}

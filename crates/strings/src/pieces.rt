@@ -1,0 +1,80 @@
+// The pieces of a quoted string: a plain run, an escape, a line continuation, and the closing quote.
+use crate::search::count_blanks;
+use crate::search::find_end;
+use escapes::EscapeAnswer;
+use escapes::Mode;
+use text::Refusal;
+use text::bytes::peek;
+ghost use mathlib.Core.Path.{_≡_};
+ghost use Prim.Native.Nat.{_+_, _<_, _^_};
+ghost use lib.ListN.{length};
+ghost use Rattle.strings.specs.Pieces.{lineEnd, behindBackslash, pieceOf, decodedLen};
+
+// What a piece that begins with a backslash decodes to: a line continuation to nothing.
+pub enum Decoded {
+    Nothing,
+    Byte(u8),
+    Point(u32),
+}
+
+// Each with its number of bytes.
+pub enum Piece {
+    Quote,
+    Plain(usize),
+    Backslash(usize, Decoded),
+    Spoilt(Refusal),
+}
+
+// The number of bytes that are decoded.
+pub fn decoded_len(d: Decoded) -> usize
+    ensures { λ r. ⌜ r ≡ decodedLen d ⌝ }
+{
+    match d {
+        Decoded::Nothing => 0,
+        Decoded::Byte(_) => 1,
+        Decoded::Point(c) => text::utf8::encoded_len(c),
+    }
+}
+
+// LF or CRLF stands at the front.
+fn is_line_end(s: &[u8]) -> bool
+    ensures { λ r. ⌜ r ≡ lineEnd (now (s .entry)) ⌝ }
+{
+    let b = peek(s, 0);
+    if b == b'\n' {
+        return true;
+    }
+    if b == b'\r' {
+        return peek(s, 1) == b'\n';
+    }
+    false
+}
+
+// s is the part from behind a backslash.
+fn behind_backslash(m: Mode, s: &[u8]) -> Piece
+    requires { ⌜ length (now s) + 1 < 2 ^ 64 ⌝ }
+    ensures { λ r. ⌜ r ≡ behindBackslash m (now (s .entry)) ⌝ }
+{
+    if is_line_end(s) {
+        return Piece::Backslash(count_blanks(s) + 1, Decoded::Nothing);
+    }
+    match escapes::parse_escape(m, s) {
+        EscapeAnswer::Ascii(b, n) => Piece::Backslash(n + 1, Decoded::Byte(b)),
+        EscapeAnswer::Utf8(c, n) => Piece::Backslash(n + 1, Decoded::Point(c)),
+        EscapeAnswer::Refused(r) => Piece::Spoilt(r.placed_behind(1)),
+    }
+}
+
+// The piece at the front of s.
+pub fn next_piece(m: Mode, s: &[u8]) -> Piece
+    requires { ⌜ 0 < length (now s) ⌝ }
+    ensures { λ r. ⌜ r ≡ pieceOf m (now (s .entry)) ⌝ }
+{
+    if s[0] == b'"' {
+        return Piece::Quote;
+    }
+    if s[0] == b'\\' {
+        return behind_backslash(m, &s[1..]);
+    }
+    Piece::Plain(find_end(s))
+}
