@@ -24,7 +24,6 @@ use Rattle.integers.specs.Width.{limitOf}
 use Rattle.text.proofs.Choices.{bool-cases, either}
 use Rattle.text.proofs.ClassLaws.{above, inside}
 use Rattle.text.specs.Classes.{digit}
-use Rattle.digits.specs.declared.up.Turned.the-variants as turned
 
 -- ---- the numbers of a width are those whose magnitude is within its limit
 

@@ -10,7 +10,7 @@ use Rattle.integers.specs.Words.{startsWith, identOf, firstOf, foreignAh
 use Rattle.integers.specs.Width.{limitAt, firstFit, widthAt, suffixWord, suffixOf}
 use Rattle.integers.specs.Front.{signOf, prefixOf, frontOf}
 use Rattle.integers.specs.Integer.{numeralOf, typedOf}
-use Rattle.integers.specs.declared.width.Width.the-variants.{I8, I16, I32, I64, U8, U16, U32, U64}
+use Rattle.integers.specs.declared.width.Width.the-variants.{I8, I64, U8, U16, U32, U64}
 use Rattle.integers.specs.declared.integer.Integer.{Integer}
 use Rattle.integers.specs.declared.integer.Integer.the-variants as integer
 

@@ -9,7 +9,6 @@ use lib.Dec.{eqb}
 use Rattle.text.specs.Classes.{intChar}
 use Rattle.text.specs.Runs.{run}
 use Rattle.text.specs.Refusals.{placedBehind, foreignChar, eof, expectedInteger, underscoreAtBeginning, invalidIntegerDigit, integerOutOfBounds}
-use Rattle.text.specs.declared.refusal.Refusal.{Refusal}
 use Rattle.digits.specs.Digits.{runOf}
 use Rattle.digits.specs.declared.Run.{Run}
 use Rattle.digits.specs.declared.Run.the-variants.{Value, Empty, Underscore, NotDigit, Over}

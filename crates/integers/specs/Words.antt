@@ -2,7 +2,7 @@
 -- Refusal 3 (document 01): "a name's first or next character is asked for, and the one there is above U+007F and not whitespace".
 use Prim.Native.Nat.{ℕ}
 use mathlib.Core.List.{List, [], _∷_}
-use mathlib.Core.Bool.{Bool, true, false, cond, not, _&&_}
+use mathlib.Core.Bool.{Bool, true, false, cond, _&&_}
 use lib.ListN.{length, getD, drop}
 use lib.Dec.{eqb}
 use Rattle.text.specs.Classes.{identNext, foreign}

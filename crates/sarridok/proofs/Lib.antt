@@ -1,1 +1,3 @@
-pub mod Determined
+pub mod SkipDetermined
+pub mod IntegerDetermined
+pub mod Places

@@ -11,10 +11,10 @@ use Rattle.integers.proofs.integer.digits_and_suffix.Statement.{stateme
 use Rattle.integers.specs.Width.{limitAt, suffixOf}
 use Rattle.integers.specs.Words.{askedBehind}
 use Rattle.integers.specs.declared.ident.Found.{Found}
-use Rattle.integers.specs.declared.integer.Numeral.the-variants.{Refused as refused}
 use Rattle.text.proofs.Lists.{tail-part}
 use Rattle.text.proofs.RunLaws.{run-le}
 use Rattle.text.specs.Classes.{intChar}
+use Rattle.integers.specs.declared.integer.Numeral.the-variants.{Refused as refused}
 use Rattle.integers.proofs.integer.digits_and_suffix.Tie as tie
 
 run-len-requires : tie.Need-run-len-requires

@@ -1,0 +1,70 @@
+-- Floats (document 01, module 6): a float run with the suffix f32 or f64, or inf or NaN behind a sign.
+-- Refusal 3 is asked for behind a suffix that was found, after 12 and before 11, and behind inf and NaN.
+use Prim.Native.Nat.{ℕ, _+_}
+use mathlib.Core.List.{List, [], _∷_}
+use mathlib.Core.Bool.{Bool, cond}
+use lib.ListN.{length, take, drop}
+use lib.Dec.{eqb}
+use Rattle.text.specs.Refusals.{foreignChar, expectedFloat, floatUnderscore}
+use Rattle.integers.specs.Words.{Word, firstOf, askedBehind}
+use Rattle.integers.specs.Front.{signOf}
+use Rattle.integers.specs.declared.ident.Found.{Found}
+use Rattle.floats.specs.Classes.{floatRun}
+use Rattle.floats.specs.Judged.{judgedOf}
+use Rattle.floats.specs.declared.judge.Judged.{Judged}
+use Rattle.floats.specs.declared.judge.Judged.the-variants.{Misplaced, Fine, Unfit}
+use Rattle.floats.specs.declared.float.AnyFloat.{AnyFloat}
+use Rattle.floats.specs.declared.float.AnyFloat.the-variants.{Read, Refused}
+
+-- f32 f64.
+abbrev pub floatSuffixes : List Word
+floatSuffixes =
+    record { letters = 0x66 ∷ 0x33 ∷ 0x32 ∷ []; says = 32 }
+    ∷ record { letters = 0x66 ∷ 0x36 ∷ 0x34 ∷ []; says = 64 }
+    ∷ []
+
+-- inf inff32 inff64 NaN NaNf32 NaNf64.
+abbrev pub specials : List Word
+specials =
+    record { letters = 0x69 ∷ 0x6e ∷ 0x66 ∷ []; says = 0 }
+    ∷ record { letters = 0x69 ∷ 0x6e ∷ 0x66 ∷ 0x66 ∷ 0x33 ∷ 0x32 ∷ []; says = 32 }
+    ∷ record { letters = 0x69 ∷ 0x6e ∷ 0x66 ∷ 0x66 ∷ 0x36 ∷ 0x34 ∷ []; says = 64 }
+    ∷ record { letters = 0x4e ∷ 0x61 ∷ 0x4e ∷ []; says = 0 }
+    ∷ record { letters = 0x4e ∷ 0x61 ∷ 0x4e ∷ 0x66 ∷ 0x33 ∷ 0x32 ∷ []; says = 32 }
+    ∷ record { letters = 0x4e ∷ 0x61 ∷ 0x4e ∷ 0x66 ∷ 0x36 ∷ 0x34 ∷ []; says = 64 }
+    ∷ []
+
+-- A float that ends at `end`, or 3 there.
+abbrev pub floatTo : (code end : ℕ) (asked : Bool) → AnyFloat
+floatTo code end asked = cond asked (Refused (foreignChar end)) (Read (record { len = end; suffix = code }))
+
+-- A judged run with the suffix behind it: 12 first, then 3, then 11 at the front.
+abbrev pub behindJudged : (code end : ℕ) (asked : Bool) → Judged → AnyFloat
+behindJudged code end asked (Misplaced at) = Refused (floatUnderscore at)
+behindJudged code end asked Fine = floatTo code end asked
+behindJudged code end asked Unfit = cond asked (Refused (foreignChar end)) (Refused (expectedFloat 0))
+
+-- The run and the suffix behind it; 11 where no float character stands.
+abbrev pub withFloatSuffix : (part rest : List ℕ) → Found → AnyFloat
+withFloatSuffix part rest f =
+    cond (eqb (length part) 0) (Refused (expectedFloat 0)) (behindJudged (f .code) (length part + f .end) (askedBehind f rest) (judgedOf part))
+
+-- The float characters at the front of a part, and what is behind them.
+abbrev pub splitFloat : (n : ℕ) → List ℕ → AnyFloat
+splitFloat n s = withFloatSuffix (take n s) (drop n s) (firstOf floatSuffixes (drop n s))
+
+-- A float without inf and NaN.
+unfoldable pub runAt : List ℕ → AnyFloat
+runAt s = splitFloat (floatRun s) s
+
+-- inf or NaN behind a sign, with or without a suffix, else the other.
+abbrev pub signedOr : (front : ℕ) → Found → (asked : Bool) → AnyFloat → AnyFloat
+signedOr front l asked other = cond (eqb front 0) other (cond (eqb (l .end) 0) other (floatTo (l .code) (front + l .end) asked))
+
+-- The same behind so many bytes of a sign.
+abbrev pub behindFront : (front : ℕ) → (t : List ℕ) → AnyFloat → AnyFloat
+behindFront front t other = signedOr front (firstOf specials t) (askedBehind (firstOf specials t) t) other
+
+-- A float.
+unfoldable pub floatOf : List ℕ → AnyFloat
+floatOf s = behindFront (signOf s .end) (drop (signOf s .end) s) (runAt s)

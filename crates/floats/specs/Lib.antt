@@ -1,0 +1,4 @@
+pub mod Classes
+pub mod Grammar
+pub mod Judged
+pub mod Float

@@ -1,0 +1,131 @@
+// The float itself: a run with its suffix, or a signed inf or NaN.
+use crate::class::float_run;
+use crate::judge::Judged;
+use crate::judge::judge_run;
+use integers::front::sign_of;
+use integers::ident::Found;
+use integers::ident::check_ident;
+use integers::ident::is_asked_behind;
+use integers::ident::nothing;
+use text::Refusal;
+ghost use mathlib.Core.Path.{_≡_};
+ghost use Rattle.integers.specs.Words.{firstOf};
+ghost use Rattle.floats.specs.Float.{floatSuffixes, specials, behindJudged, runAt, floatOf};
+
+// A float's length with its suffix, and which suffix: 32, 64, or 0 without one.
+pub struct FloatSpan {
+    pub len: usize,
+    pub suffix: u8,
+}
+
+// What a float reads as.
+pub enum AnyFloat {
+    Read(FloatSpan),
+    Refused(Refusal),
+}
+
+// f32 or f64 at the front of the part.
+fn float_suffix(t: &[u8]) -> Found
+    ensures { λ r. ⌜ r ≡ firstOf floatSuffixes (now (t .entry)) ⌝ }
+{
+    let a = check_ident(t, b"f32");
+    if a != 0 {
+        return Found { code: 32, end: a };
+    }
+    let b = check_ident(t, b"f64");
+    if b != 0 {
+        return Found { code: 64, end: b };
+    }
+    nothing()
+}
+
+// inf or NaN at the front of the part, with or without a suffix.
+pub fn special(t: &[u8]) -> Found
+    ensures { λ r. ⌜ r ≡ firstOf specials (now (t .entry)) ⌝ }
+{
+    let a = check_ident(t, b"inf");
+    if a != 0 {
+        return Found { code: 0, end: a };
+    }
+    let b = check_ident(t, b"inff32");
+    if b != 0 {
+        return Found { code: 32, end: b };
+    }
+    let d = check_ident(t, b"inff64");
+    if d != 0 {
+        return Found { code: 64, end: d };
+    }
+    let e = check_ident(t, b"NaN");
+    if e != 0 {
+        return Found { code: 0, end: e };
+    }
+    let f = check_ident(t, b"NaNf32");
+    if f != 0 {
+        return Found { code: 32, end: f };
+    }
+    let g = check_ident(t, b"NaNf64");
+    if g != 0 {
+        return Found { code: 64, end: g };
+    }
+    nothing()
+}
+
+// A run with its suffix: 12 before 3, and 3 before 11.
+fn behind_judged(judged: Judged, asked: bool, code: u8, end: usize) -> AnyFloat
+    ensures { λ r. ⌜ r ≡ behindJudged code end asked judged ⌝ }
+{
+    match judged {
+        Judged::Misplaced(at) => AnyFloat::Refused(Refusal::float_underscore(at)),
+        Judged::Fine => {
+            if asked {
+                return AnyFloat::Refused(Refusal::foreign_char(end));
+            }
+            AnyFloat::Read(FloatSpan {
+                len: end,
+                suffix: code,
+            })
+        }
+        Judged::Unfit => {
+            if asked {
+                return AnyFloat::Refused(Refusal::foreign_char(end));
+            }
+            AnyFloat::Refused(Refusal::expected_float(0))
+        }
+    }
+}
+
+fn run_at(s: &[u8]) -> AnyFloat
+    ensures { λ r. ⌜ r ≡ runAt (now (s .entry)) ⌝ }
+{
+    let n = float_run(s);
+    if n == 0 {
+        return AnyFloat::Refused(Refusal::expected_float(0));
+    }
+    let judged = judge_run(&s[..n]);
+    let found = float_suffix(&s[n..]);
+    let end = n + found.end;
+    let asked = is_asked_behind(&s[n..], found);
+    behind_judged(judged, asked, found.code, end)
+}
+
+pub fn float(s: &[u8]) -> AnyFloat
+    ensures { λ r. ⌜ r ≡ floatOf (now (s .entry)) ⌝ }
+{
+    let sign = sign_of(s);
+    let front = sign.end;
+    if front == 0 {
+        return run_at(s);
+    }
+    let found = special(&s[front..]);
+    if found.end == 0 {
+        return run_at(s);
+    }
+    let end = front + found.end;
+    if is_asked_behind(&s[front..], found) {
+        return AnyFloat::Refused(Refusal::foreign_char(end));
+    }
+    AnyFloat::Read(FloatSpan {
+        len: end,
+        suffix: found.code,
+    })
+}

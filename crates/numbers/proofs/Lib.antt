@@ -1,0 +1,4 @@
+pub mod Laws
+pub mod NumberStops
+pub mod Bounded
+pub mod Worked
