@@ -14,18 +14,45 @@ struct State {
 }
 
 // A line's answer and its LF; none for the rest of a line too long.
-fn answer(passing: bool, line: &[u8], text: &mut [u8], o: &mut [u8], at: usize) -> usize {
+fn answer(
+    passing: bool,
+    line: &[u8],
+    text: &mut [u8],
+    tape: &mut [u32],
+    links: &mut [u32],
+    spare: &mut [u8],
+    o: &mut [u8],
+    at: usize,
+) -> usize {
     if passing {
         return at;
     }
-    let a = cases::answer(line, text, o, at);
+    let a = cases::answer(line, text, tape, links, spare, o, at);
     out::byte(o, a, b'\n')
 }
 
 // A line of n bytes stands there whole.
-fn line(s: State, n: usize, buf: &[u8], text: &mut [u8], o: &mut [u8]) -> State {
+fn line(
+    s: State,
+    n: usize,
+    buf: &[u8],
+    text: &mut [u8],
+    tape: &mut [u32],
+    links: &mut [u32],
+    spare: &mut [u8],
+    o: &mut [u8],
+) -> State {
     let end = std::num::wrapping_add_usize(s.from, n);
-    let a = answer(s.passing, lines::part(buf, s.from, end), text, o, s.at);
+    let a = answer(
+        s.passing,
+        lines::part(buf, s.from, end),
+        text,
+        tape,
+        links,
+        spare,
+        o,
+        s.at,
+    );
     State {
         from: std::num::wrapping_add_usize(end, 1),
         to: s.to,
@@ -37,8 +64,25 @@ fn line(s: State, n: usize, buf: &[u8], text: &mut [u8], o: &mut [u8]) -> State 
 }
 
 // What is left behind the last LF is a line if it has any byte; then all is written.
-fn last(s: State, rest: &[u8], text: &mut [u8], o: &mut [u8]) -> State {
-    let a = answer(s.passing || rest.len() == 0, rest, text, o, s.at);
+fn last(
+    s: State,
+    rest: &[u8],
+    text: &mut [u8],
+    tape: &mut [u32],
+    links: &mut [u32],
+    spare: &mut [u8],
+    o: &mut [u8],
+) -> State {
+    let a = answer(
+        s.passing || rest.len() == 0,
+        rest,
+        text,
+        tape,
+        links,
+        spare,
+        o,
+        s.at,
+    );
     State {
         from: 0,
         to: 0,
@@ -50,12 +94,19 @@ fn last(s: State, rest: &[u8], text: &mut [u8], o: &mut [u8]) -> State {
 }
 
 // A line that the buffer does not hold is no case, and is passed over up to its LF.
-fn too_long(s: State, text: &mut [u8], o: &mut [u8]) -> State {
+fn too_long(
+    s: State,
+    text: &mut [u8],
+    tape: &mut [u32],
+    links: &mut [u32],
+    spare: &mut [u8],
+    o: &mut [u8],
+) -> State {
     State {
         from: 0,
         to: 0,
         ended: false,
-        at: answer(s.passing, b"too long", text, o, s.at),
+        at: answer(s.passing, b"too long", text, tape, links, spare, o, s.at),
         passing: true,
         on: true,
     }
@@ -76,24 +127,39 @@ fn more(s: State, buf: &mut [u8], o: &[u8]) -> State {
 }
 
 // One line, or one reading of the input.
-fn turn(s: State, buf: &mut [u8], text: &mut [u8], o: &mut [u8]) -> State {
+fn turn(
+    s: State,
+    buf: &mut [u8],
+    text: &mut [u8],
+    tape: &mut [u32],
+    links: &mut [u32],
+    spare: &mut [u8],
+    o: &mut [u8],
+) -> State {
     let rest = lines::part(&buf[..], s.from, s.to);
     let left = rest.len();
     let n = lines::line_end(rest);
     if n < left {
-        return line(s, n, &buf[..], text, o);
+        return line(s, n, &buf[..], text, tape, links, spare, o);
     }
     if s.ended {
-        return last(s, rest, text, o);
+        return last(s, rest, text, tape, links, spare, o);
     }
     if left == buf.len() {
-        return too_long(s, text, o);
+        return too_long(s, text, tape, links, spare, o);
     }
     more(s, buf, &o[..])
 }
 
 // A proved loop has to end, and nothing says that the input does: the turns are counted down from a number that no run uses up.
-fn run(buf: &mut [u8], text: &mut [u8], o: &mut [u8]) {
+fn run(
+    buf: &mut [u8],
+    text: &mut [u8],
+    tape: &mut [u32],
+    links: &mut [u32],
+    spare: &mut [u8],
+    o: &mut [u8],
+) {
     let mut s = State {
         from: 0,
         to: 0,
@@ -104,7 +170,7 @@ fn run(buf: &mut [u8], text: &mut [u8], o: &mut [u8]) {
     };
     let mut turns = u64::MAX;
     while 0 < turns {
-        s = turn(s, buf, text, o);
+        s = turn(s, buf, text, tape, links, spare, o);
         if !s.on {
             return;
         }
@@ -113,14 +179,32 @@ fn run(buf: &mut [u8], text: &mut [u8], o: &mut [u8]) {
 }
 
 // The arrays are lent as arrays first: then no proof computes their lengths.
-fn lend(buf: &mut [u8; 3200001], text: &mut [u8; 1600000], o: &mut [u8; 65536]) {
-    run(buf, text, o);
+fn lend(
+    buf: &mut [u8; 3200001],
+    text: &mut [u8; 1600000],
+    tape: &mut [u32; 262160],
+    links: &mut [u32; 65552],
+    spare: &mut [u8; 65552],
+    o: &mut [u8; 65536],
+) {
+    run(buf, text, tape, links, spare, o);
 }
 
-// A line of 3,200,000 bytes with its LF, the bytes that it can say in hex, and room for answers.
+// A line of 3,200,000 bytes with its LF, the bytes that it can say in hex, a tape of 65,536 entries, a buffer for what a text can fill and a few
+// bytes behind, and room for answers.
 fn main() {
     let mut buf = [0u8; 3200001];
     let mut text = [0u8; 1600000];
+    let mut tape = [0u32; 262160];
+    let mut links = [0u32; 65552];
+    let mut spare = [0u8; 65552];
     let mut o = [0u8; 65536];
-    lend(&mut buf, &mut text, &mut o);
+    lend(
+        &mut buf,
+        &mut text,
+        &mut tape,
+        &mut links,
+        &mut spare,
+        &mut o,
+    );
 }

@@ -1,9 +1,22 @@
 // A line of the case format, and its answer: a letter, a space and the letter's own words.
+mod any_c;
+mod c;
+mod contents;
 mod i;
+mod k;
+mod marks;
 mod s;
 
-// The answer at a place of the output; text is room for the bytes that a line says.
-pub fn answer(line: &[u8], text: &mut [u8], o: &mut [u8], at: usize) -> usize {
+// The answer at a place of the output; text and tape are room for what a line says, links and spare for what a call writes.
+pub fn answer(
+    line: &[u8],
+    text: &mut [u8],
+    tape: &mut [u32],
+    links: &mut [u32],
+    spare: &mut [u8],
+    o: &mut [u8],
+    at: usize,
+) -> usize {
     if line.len() < 2 {
         return show::bad(o, at);
     }
@@ -12,7 +25,14 @@ pub fn answer(line: &[u8], text: &mut [u8], o: &mut [u8], at: usize) -> usize {
     }
     let letter = line[0];
     match letter {
+        b'R' => tapes::read_any::answer(&line[2..], text, tape, o, at),
+        b'r' => tapes::read_text::answer(&line[2..], text, tape, o, at),
+        b'W' => tapes::walk_any::answer(&line[2..], tape, links, o, at),
+        b'w' => tapes::walk_text::answer(&line[2..], text, tape, links, o, at),
+        b'C' => any_c::answer(&line[2..], text, tape, spare, o, at),
+        b'c' => c::answer(&line[2..], text, spare, o, at),
         b'i' => i::answer(&line[2..], text, o, at),
+        b'k' => k::answer(&line[2..], text, o, at),
         b's' => s::answer(&line[2..], text, o, at),
         _ => show::bad(o, at),
     }

@@ -1,7 +1,7 @@
 -- Laws of items and gaps, at an index of the text, as the loop asks for them. Assumes nothing.
 use Prim.Native.Nat.{_+_, _<_, _≤_, pred, suc, zero, ℕ}
 use native.Mathlib.Nat.{add-zero, le-of-suc-le-suc, not-suc-le-zero}
-use native.Mathlib.Omega.{P, arith}
+use native.Mathlib.Omega.{arith}
 use mathlib.Core.Bool.{Bool, cond, false, true}
 use mathlib.Core.List.{List, [], _∷_}
 use mathlib.Core.Path.{_∙_, _≡_, ap, refl, subst, sym}
@@ -94,7 +94,7 @@ block-sized : (a b : ℕ) (s : List ℕ) (r : CommentEnd) → Bounded 0 (length 
 block-sized a b s (Closed m) q = omega arith
 block-sized a b s Unclosed q = tt
 
-comment-sized : (s : List ℕ) → Sized s (commentOf s)
+pub comment-sized : (s : List ℕ) → Sized s (commentOf s)
 unfolding commentOf behindSlash
 comment-sized [] = tt
 comment-sized (a ∷ []) = cond-cases (Sized (a ∷ [])) (eqb a 0x2f) _ _ (λ e. tt) (λ e. tt)
@@ -121,7 +121,7 @@ unfolding gapFrom
 gap-step a s at = refl
 
 -- the bytes of an item already judged are passed
-passed : (s : List ℕ) (k at : ℕ) → k ≤ length s → gapFrom s k at ≡ gapFrom (drop k s) 0 (at + k)
+pub passed : (s : List ℕ) (k at : ℕ) → k ≤ length s → gapFrom s k at ≡ gapFrom (drop k s) 0 (at + k)
 unfolding gapFrom
 passed s zero at p = rw (add-zero at)
 passed [] (suc k) at p = absurd (not-suc-le-zero p)

@@ -2,3 +2,4 @@ pub mod BlockLaws
 pub mod Nesting
 pub mod LineLaws
 pub mod GapLaws
+pub mod GapWindow

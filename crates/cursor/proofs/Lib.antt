@@ -1,2 +1,3 @@
 pub mod CharLaws
 pub mod SkipLaws
+pub mod EscapePlaces

@@ -1,3 +1,4 @@
 pub mod Cursor
 pub mod Chars
 pub mod Skip
+pub mod Escape

@@ -5,9 +5,8 @@ use text::Refusal;
 use text::utf8::char_len;
 use text::utf8::code_point;
 ghost use mathlib.Core.Path.{_≡_};
-ghost use Prim.Native.Nat.{_+_, _^_, _≤_, _<_};
+ghost use Prim.Native.Nat.{_≤_};
 ghost use lib.ListN.{length};
-ghost use Rattle.cursor.specs.Cursor.{movedBy};
 ghost use Rattle.cursor.specs.Chars.{nextOf, consumedOf, expectedOf};
 
 // The character at the cursor and the cursor behind it.
@@ -23,17 +22,6 @@ pub struct Consumed {
 }
 
 impl ParserCursor {
-    fn advance_bytes(self, bytes: usize) -> ParserCursor
-        requires { ⌜ self .cursor + bytes < 2 ^ 64 ⌝ }
-        ensures { λ r. ⌜ r ≡ movedBy bytes self ⌝ }
-    {
-        ParserCursor {
-            cursor: self.cursor + bytes,
-            pre_ws_cursor: self.pre_ws_cursor,
-            last_ws_len: self.last_ws_len,
-        }
-    }
-
     // The next character, by its code point; 6 at the end of the text.
     pub fn next_char(self, text: &[u8]) -> Next
         requires { ⌜ self .cursor ≤ length (now text) ⌝ }

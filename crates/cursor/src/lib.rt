@@ -1,11 +1,14 @@
 // The crate's `ParserCursor` of three numbers, by value: its methods hand the moved cursor back.
 mod chars;
+mod escape;
 mod skip;
 
 ghost use mathlib.Core.Path.{_≡_};
-ghost use Rattle.cursor.specs.Cursor.{cursorAt};
+ghost use Prim.Native.Nat.{_+_, _^_, _<_};
+ghost use Rattle.cursor.specs.Cursor.{cursorAt, movedBy};
 pub use chars::Consumed;
 pub use chars::Next;
+pub use escape::Escaped;
 pub use skip::Step;
 
 // The place, where the last whitespace began, and how long it was.
@@ -27,6 +30,18 @@ impl ParserCursor {
             cursor: place,
             pre_ws_cursor: place,
             last_ws_len: 0,
+        }
+    }
+
+    // So many bytes on.
+    fn advance_bytes(self, bytes: usize) -> ParserCursor
+        requires { ⌜ self .cursor + bytes < 2 ^ 64 ⌝ }
+        ensures { λ r. ⌜ r ≡ movedBy bytes self ⌝ }
+    {
+        ParserCursor {
+            cursor: self.cursor + bytes,
+            pre_ws_cursor: self.pre_ws_cursor,
+            last_ws_len: self.last_ws_len,
         }
     }
 }

@@ -1,7 +1,7 @@
 -- Demand 2 for digit runs, once over the width's sign and bits: a digit run reads exactly when it isn't empty, has no underscore in front,
 -- holds only digits below the base and underscores, and its signed value fits; and each of 7 to 10 is given exactly in its case. Assumes nothing.
 use Prim.Native.Nat.{_-_, _<_, _^_, _≤_, suc, zero, ℕ}
-use native.Mathlib.Omega.{H, arith}
+use native.Mathlib.Omega.{arith}
 use mathlib.Core.Bool.{Bool, true, false}
 use mathlib.Core.List.{List, [], _∷_}
 use mathlib.Core.Logic.{_↔_}

@@ -55,7 +55,7 @@ module _ (c : ℕ) (is : nameStop c ≡ true) where
   unfolding identFirst identNext
   not-first = rw (or-left (letter c) (digit c || eqb c 0x5f) not-next) (or-right (digit c) (eqb c 0x5f) (or-right (letter c) (digit c || eqb c 0x5f) not-next))
 
-  not-byte : (w : ℕ) → not (nameStop w) ≡ true → eqb c w ≡ false
+  pub not-byte : (w : ℕ) → not (nameStop w) ≡ true → eqb c w ≡ false
   not-byte w n = ne-eqb c w (λ e. (let z : _≡_ {A = Bool} true false = sym is ∙ ap nameStop e ∙ not-true (nameStop w) n in let y : _≡_ {A = ℕ} 0 1 = cc in omega arith))
 
   -- ---- words

@@ -25,6 +25,6 @@ pub enum Identifier {
 pub enum Word {
     Plain(usize),
     Raw(usize),
-    Float(usize, u32),
+    Float(usize, u8),
     Refused(Refusal),
 }

@@ -7,7 +7,7 @@ use mathlib.Core.Path.{_∙_, _≡_, ap, refl, sym, ap₂}
 use lib.Ieee.{ne}
 use lib.ListN.{drop, getD, length, length-append, length-drop, take, take-append-drop, set}
 use lib.Seq.{drop-at, drop-drop, getD-at, length-take-le, sets-eq, take-append-le, take-at, take-take, drop-append-add, take-nil, getD-drop}
-use Rattle.rows.specs.Rows.{cells, entriesOf, entryAt, entryOf, flat, roomOf, width, written}
+use Rattle.rows.specs.Rows.{cells, entriesOf, entryAt, entryOf, flat, roomOf, width, written, laid}
 use Rattle.rows.specs.declared.Entry.{Entry}
 use Rattle.text.proofs.Choices.{either, lt-or-le}
 use Rattle.text.proofs.Lists.{head-at}
@@ -236,3 +236,8 @@ write-next es e n t c h =
     (take-at (flat es) (drop (width * n) t) (width * n) l)
     (ap (λ (k : ℕ). drop k (flat es ++ drop (width * n) t)) (sym w) ∙ drop-append-add (flat es) (drop (width * n) t) width ∙ drop-drop width (width * n) t ∙ ap (λ (k : ℕ). drop k t) z)
     ∙ ap (λ (x : List ℕ). x ++ drop (width * (n + 1)) t) (sym (flat-append es (e ∷ []) ∙ ap (λ (x : List ℕ). flat es ++ x) (append-nil (cells e))))
+
+-- the same in one word
+pub writes-laid : (es : List Entry) (t : List ℕ) → width * length es ≤ length t → writes es 0 t ≡ laid es t
+unfolding laid
+writes-laid es t h = writes-front es t h

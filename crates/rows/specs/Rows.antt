@@ -38,3 +38,7 @@ written tape i e = take (width * i) tape ++ cells e ++ drop (width * (i + 1)) ta
 unfoldable pub flat : List Entry → List ℕ
 flat [] = []
 flat (e ∷ es) = cells e ++ flat es
+
+-- The tape with entries at its front, and behind them what stood there.
+unfoldable pub laid : List Entry → List ℕ → List ℕ
+laid es tape = flat es ++ drop (width * length es) tape

@@ -1,3 +1,13 @@
 pub mod SkipDetermined
 pub mod IntegerDetermined
 pub mod Places
+pub mod ReadDetermined
+pub mod ContentsLaws
+pub mod ContentsDetermined
+pub mod ContentsWorked
+pub mod ContentsAgree
+pub mod WalkFront
+pub mod WalkDetermined
+pub mod WalkMeans
+pub mod StructPlaces
+pub mod StructKindDetermined

@@ -1,2 +1,5 @@
 pub mod Skip
 pub mod Typed
+pub mod Contents
+pub mod Walked
+pub mod StructKind

@@ -1,12 +1,31 @@
 // The calls that a host may make. None has a `requires`, and each promise determines the answer and every lent number afterwards.
+mod contents_call;
+mod decoded_call;
 mod integer_call;
+mod read_call;
 mod skip_call;
+mod struct_kind_call;
+mod walk_call;
 
+pub use contents_call::contents;
+pub use contents_call::contents_part;
 pub use cursor::ParserCursor;
 pub use cursor::Step;
+pub use decoded_call::decoded;
+pub use entries::ContentsAnswer;
+pub use entries::DecodedAnswer;
 pub use integer_call::IntegerAnswer;
 pub use integer_call::integer;
 pub use integers::Value;
 pub use integers::Width;
+pub use read::measure::ReadAnswer;
+pub use read_call::read;
 pub use skip_call::skip;
+pub use struct_kind_call::StructKindAnswer;
+pub use struct_kind_call::struct_kind;
+pub use structs::NewtypeMode;
+pub use structs::StructType;
+pub use structs::TupleMode;
 pub use text::Refusal;
+pub use walk_call::WalkAnswer;
+pub use walk_call::walk;

@@ -47,12 +47,20 @@ const READ: Alphabet = Alphabet {
     longest: 5,
 };
 
+const WALK: Alphabet = Alphabet {
+    pieces: &[
+        "(", ")", "[", "]", "{", "}", ",", ":", "a", "r#a", "1", " ", "\"s\"", "#![type=\"s\"]", "inf", "a:", "1,",
+    ],
+    longest: 5,
+};
+
 pub fn of_call(call: u8) -> &'static Alphabet {
     match call {
         b's' => &SKIP,
         b'i' => &INTEGER,
         b'c' | b'C' => &CONTENTS,
         b'k' => &STRUCT,
+        b'w' => &WALK,
         _ => &READ,
     }
 }
@@ -107,7 +115,7 @@ mod tests {
 
     #[test]
     fn strides_visit_every_text() {
-        for alphabet in [&SKIP, &INTEGER, &CONTENTS, &STRUCT, &READ] {
+        for alphabet in [&SKIP, &INTEGER, &CONTENTS, &STRUCT, &READ, &WALK] {
             assert_ne!(texts(alphabet.pieces.len() as u64, alphabet.longest) % STRIDE, 0);
         }
         let all = texts(EDGES.len() as u64, LONGEST_EDGES);

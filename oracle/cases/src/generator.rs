@@ -1,7 +1,7 @@
 //! Case number `n` of a seed.
 use crate::documents::Draft;
 use crate::random::Random;
-use crate::{alphabet, damage, gaps, limits, line, names, numbers, places, strings, tapes};
+use crate::{alphabet, damage, entries, gaps, limits, line, names, numbers, places, strings, tapes};
 
 /// One case in so many that have no short text has one at the size limit: one in 20,000 of all.
 const LIMITS: usize = 15_000;
@@ -146,6 +146,12 @@ fn write(r: &mut Random, call: u8, sample: &Sample, into: &mut Vec<u8>) {
             line::struct_kind(into, modes, places::near(r, sample.place, text), text);
         }
         b'R' => line::read_into(into, room(r, sample.entries), text),
+        b'w' => line::walk(into, tapes::limit(r), text),
+        b'W' => {
+            let kinds = entries::document(r);
+            let asked = tapes::walk(r, &kinds);
+            line::walk_of(into, asked.limit, asked.links, asked.count, &asked.tape);
+        }
         _ => line::read(into, text),
     }
 }

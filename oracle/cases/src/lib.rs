@@ -3,6 +3,7 @@ pub mod alphabet;
 pub mod chosen;
 pub mod damage;
 pub mod documents;
+pub mod entries;
 pub mod gaps;
 pub mod generator;
 pub mod limits;

@@ -88,3 +88,19 @@ pub fn read_into(line: &mut Vec<u8>, numbers: u64, text: &[u8]) {
     number(line, numbers);
     bytes(line, text);
 }
+
+/// `w LIMIT HEX`.
+pub fn walk(line: &mut Vec<u8>, limit: u64, text: &[u8]) {
+    line.push(b'w');
+    number(line, limit);
+    bytes(line, text);
+}
+
+/// `W LIMIT LINKS COUNT N,N,..`.
+pub fn walk_of(line: &mut Vec<u8>, limit: u64, links: u64, count: u64, numbers: &[u32]) {
+    line.push(b'W');
+    number(line, limit);
+    number(line, links);
+    number(line, count);
+    tape(line, numbers);
+}

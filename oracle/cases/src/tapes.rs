@@ -1,4 +1,4 @@
-//! Small tapes for contents, in order or not.
+//! Small tapes for contents and walks, in order or not.
 use crate::random::Random;
 
 /// Numbers in one entry.
@@ -45,4 +45,63 @@ fn off(r: &mut Random, n: usize) -> u64 {
         2 => r.number(&[0, 1 << 32, 1 << 62, 1 << 63, u64::MAX]),
         _ => n as u64,
     }
+}
+
+/// What a walk is asked: its limit, its links, a count and a tape.
+pub struct Walk {
+    pub limit: u64,
+    pub links: u64,
+    pub count: u64,
+    pub tape: Vec<u32>,
+}
+
+/// A walk over entries of these kinds, mostly with all in order.
+pub fn walk(r: &mut Random, kinds: &[u32]) -> Walk {
+    let mut tape = laid(r, kinds);
+    let entries = kinds.len();
+    match r.below(24) {
+        0 => tape.truncate(r.below(tape.len() + 1)),
+        1 if entries > 0 => {
+            let at = r.below(tape.len());
+            tape[at] = any(r);
+        }
+        2 => tape.resize(tape.len() + r.below(2 * WIDTH), 7),
+        _ => {}
+    }
+    let count = off(r, entries);
+    let links = match r.below(8) {
+        0 => small(off(r, entries)),
+        1 => entries as u64 + r.below(4) as u64,
+        _ => small(count),
+    };
+    Walk { limit: limit(r), links, count, tape }
+}
+
+/// Links that a program can hold.
+fn small(links: u64) -> u64 {
+    links.min(65_536)
+}
+
+/// A depth limit, mostly the largest or a small one.
+pub fn limit(r: &mut Random) -> u64 {
+    match r.below(12) {
+        0 => r.number(&[127, 129, 130, 255, 256, 1 << 32, u64::MAX]),
+        1..=6 => r.below(6) as u64,
+        _ => 128,
+    }
+}
+
+/// Entries of these kinds one behind the other, with and without a gap between.
+fn laid(r: &mut Random, kinds: &[u32]) -> Vec<u32> {
+    let mut tape = Vec::new();
+    let mut end = match r.below(16) {
+        0 => 65_536 - kinds.len().min(100) as u32,
+        _ => r.below(3) as u32,
+    };
+    for &kind in kinds {
+        let start = end + u32::from(r.once_in(3));
+        end = start + 1 + r.below(3) as u32;
+        tape.extend_from_slice(&[kind, start, end, any(r)]);
+    }
+    tape
 }

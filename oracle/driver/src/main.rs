@@ -1,5 +1,6 @@
 //! The oracle: cases on standard input, one a line, and one answer line each from ron's own parse module.
 mod contents;
+mod grammar;
 mod integer;
 mod line;
 mod read;
@@ -26,7 +27,8 @@ fn answer(line: &[u8], store: &mut Store, out: &mut Vec<u8>) -> Option<Answer> {
         b'C' => contents::of_any_tape(&mut words, store, out),
         b'k' => structs::kind(&mut words, store, out),
         b's' => skip::skip(&mut words, store, out),
-        b'w' | b'W' | b'p' | b'P' => walk::later(),
+        b'w' => walk::of_text(&mut words, store, out),
+        b'W' => walk::of_any_tape(&mut words, store, out),
         _ => None,
     }
 }

@@ -25,11 +25,11 @@ pub fn with_numbers(words: &mut Line, store: &mut Store, out: &mut Vec<u8>) -> O
     Some(read(numbers / WIDTH, &store.text, out))
 }
 
-struct Entry {
-    kind: u32,
-    start: usize,
-    end: usize,
-    detail: usize,
+pub struct Entry {
+    pub kind: u32,
+    pub start: usize,
+    pub end: usize,
+    pub detail: usize,
 }
 
 fn read(room: usize, bytes: &[u8], out: &mut Vec<u8>) -> Answer {
@@ -44,7 +44,8 @@ fn read(room: usize, bytes: &[u8], out: &mut Vec<u8>) -> Answer {
     Ok(())
 }
 
-fn entries(text: &str) -> Answer<Vec<Entry>> {
+/// The entries of a text.
+pub fn entries(text: &str) -> Answer<Vec<Entry>> {
     let mut parser = parser_at(text, 0);
     let mut entries = Vec::new();
     loop {

@@ -5,6 +5,7 @@ mod read;
 mod skip;
 mod structs;
 mod utf8;
+mod walk;
 
 /// Case lines, each with its end.
 #[derive(Default)]
@@ -36,6 +37,8 @@ pub fn lines(call: u8) -> Lines {
         b'k' => structs::lines(&mut lines),
         b'r' => read::lines(&mut lines),
         b'R' => read::with_rooms(&mut lines),
+        b'w' => walk::of_text(&mut lines),
+        b'W' => walk::of_any_tape(&mut lines),
         _ => {}
     }
     lines

@@ -1,0 +1,222 @@
+-- What a `]` stops: the words and names of an attribute that stand before its `]` don't depend on what stands behind it. Assumes nothing.
+use Prim.Native.Nat.{_+_, _<_, _≤_, ℕ}
+use native.Mathlib.Omega.{arith}
+use mathlib.Core.Bool.{Bool, _&&_, cond, false, not, true}
+use mathlib.Core.List.{List, [], _++_, _∷_}
+use mathlib.Core.Path.{_∙_, _≡_, ap, refl, sym}
+use lib.Dec.{eqb, ltb}
+use lib.ListN.{drop, getD, length}
+use borrow.Author.Tests.{eqb-true, ne-eqb, not-true}
+use Rattle.attributes.specs.Extensions.{extensionOf, extensions, firstNamed, isWord, nameOf}
+use Rattle.attributes.specs.Words.{byWord, keywords, wordOf}
+use Rattle.attributes.specs.declared.extensions.Extension.{Extension}
+use Rattle.attributes.specs.declared.extensions.Extension.the-variants.{ExplicitStructNames, ImplicitSome, UnwrapNewtypes, UnwrapVariantNewtypes}
+use Rattle.attributes.specs.declared.extensions.Named.{Named}
+use Rattle.attributes.specs.declared.extensions.Named.the-variants.{Known, Unknown}
+use Rattle.attributes.specs.declared.words.Keyword.the-variants.{Asked, Enable, NoKeyword, Text}
+use Rattle.integers.proofs.WordStops.{asked-stopped, first-stopped, fit, foreign-stopped}
+use Rattle.integers.specs.Words.{Word, firstOf, foreignAhead, identOf, startsWith}
+use Rattle.integers.specs.declared.ident.Found.{Found}
+use Rattle.names.proofs.NameStops.{identifier-stopped, nameStop}
+use Rattle.names.specs.Characters.{chars, foreignFront}
+use Rattle.names.specs.Identifiers.{identifierOf, nameLen, rawOf, strictOf}
+use Rattle.names.specs.Starts.{beginsRaw, beginsString, startsWith as namesStart}
+use Rattle.names.specs.declared.Identifier.{Identifier}
+use Rattle.names.specs.declared.Identifier.the-variants.{Missing, Name, RawName, Refused as NoIdentifier}
+use Rattle.strings.specs.Strings.{stringOf}
+use Rattle.strings.specs.declared.literal.LiteralAnswer.{LiteralAnswer}
+use Rattle.strings.specs.declared.literal.LiteralAnswer.the-variants.{Read as ReadString, Refused as NoString}
+use Rattle.text.proofs.Choices.{and-true, bool-cases, cond-cases, either, lt-or-le}
+use Rattle.text.proofs.ClassLaws.{above}
+use Rattle.text.proofs.Stops.{Stopped, always, on₂}
+use Rattle.text.specs.Classes.{digit, identNext, identRaw, letter, within}
+use Rattle.text.specs.Refusals.{foreignChar}
+
+-- ---- words
+
+-- no byte of a word is `]`
+abbrev noBracket : List ℕ → Bool
+noBracket [] = true
+noBracket (a ∷ w) = not (eqb 0x5d a) && noBracket w
+
+starts-same : (w : List ℕ) → noBracket w ≡ true → (t x x′ : List ℕ) → startsWith w (t ++ 0x5d ∷ x) ≡ startsWith w (t ++ 0x5d ∷ x′)
+unfolding startsWith
+starts-same [] h t x x′ = refl
+starts-same (a ∷ w) h [] x x′ = rw (not-true (eqb 0x5d a) (and-true (not (eqb 0x5d a)) (noBracket w) h .0))
+starts-same (a ∷ w) h (b ∷ t) x x′ = ap (λ (r : Bool). eqb b a && r) (starts-same w (and-true (not (eqb 0x5d a)) (noBracket w) h .1) t x x′)
+
+name-free : (e : Extension) → noBracket (nameOf e) ≡ true
+name-free UnwrapNewtypes = refl
+name-free ImplicitSome = refl
+name-free UnwrapVariantNewtypes = refl
+name-free ExplicitStructNames = refl
+
+is-stopped : (e : Extension) (n : ℕ) → Stopped 0x5d (λ t. isWord (nameOf e) t n)
+unfolding isWord
+is-stopped e n = record { same = λ u v v′. ap (λ (b : Bool). cond (eqb n (length (nameOf e))) b false) (starts-same (nameOf e) (name-free e) u v v′) }
+
+named-stopped : (es : List Extension) (n : ℕ) → Stopped 0x5d (λ t. firstNamed es t n)
+unfolding firstNamed
+named-stopped [] n = always Unknown
+named-stopped (e ∷ es) n = on₂ (λ (b : Bool) (r : Named). cond b (Known e) r) (is-stopped e n) (named-stopped es n)
+
+pub extension-stopped : (n : ℕ) → Stopped 0x5d (λ t. extensionOf t n)
+unfolding extensionOf
+extension-stopped n = named-stopped extensions n
+
+-- ---- names
+
+pub name-stopped : Stopped 0x5d identifierOf
+unfolding nameStop identRaw identNext letter digit within
+name-stopped = identifier-stopped 0x5d refl
+
+pub ahead-stopped : Stopped 0x5d foreignAhead
+ahead-stopped = foreign-stopped 0x5d (omega arith)
+
+-- ---- the word of an attribute
+
+bracket-out : letter 0x5d ≡ false
+unfolding letter within
+bracket-out = refl
+
+words-fit : fit letter keywords ≡ true
+unfolding letter within
+words-fit = refl
+
+pub keyword-stopped : (at : ℕ) → Stopped 0x5d (λ t. byWord t at (wordOf t))
+unfolding byWord wordOf
+keyword-stopped at =
+    on₂ (λ (f : Found) (asked : Bool). cond (eqb (f .end) 0) NoKeyword (cond asked (Asked (foreignChar (at + f .end))) (cond (eqb (f .code) 1) (Enable (at + f .end)) (Text (at + f .end)))))
+    (first-stopped letter 0x5d bracket-out keywords words-fit) (asked-stopped 0x5d (omega arith) letter bracket-out keywords words-fit)
+
+-- ---- the byte that they begin with
+
+-- a byte up to 0x7F, and no `/`: a gap before it depends on nothing behind it
+abbrev pub Good : ℕ → Type 0
+Good b = (b < 0x80) × (eqb b 0x2f ≡ false)
+
+pub good-by : (a b : ℕ) → a ≡ b → b < 0x80 → eqb b 0x2f ≡ false → Good a
+good-by a b e h i = (omega arith, ap (λ (x : ℕ). eqb x 0x2f) e ∙ i)
+
+starts-head : (a : ℕ) (w t : List ℕ) → startsWith (a ∷ w) t ≡ true → getD t 0 0 ≡ a
+unfolding startsWith
+starts-head a w [] e = let z : _≡_ {A = ℕ} 0 1 = cc in absurd (omega arith)
+starts-head a w (b ∷ t) e = eqb-true b a (and-true (eqb b a) (startsWith w t) e .0)
+
+-- a word that begins with a good byte
+abbrev Begins : List ℕ → Type 0
+Begins [] = ⊥
+Begins (a ∷ w) = Good a
+
+word-good : (w t : List ℕ) → Begins w → startsWith w t ≡ true → Good (getD t 0 0)
+word-good [] t b e = absurd b
+word-good (a ∷ w) t b e = good-by (getD t 0 0) a (starts-head a w t e) (b .0) (b .1)
+
+name-begins : (e : Extension) → Begins (nameOf e)
+name-begins UnwrapNewtypes = (omega arith, refl)
+name-begins ImplicitSome = (omega arith, refl)
+name-begins UnwrapVariantNewtypes = (omega arith, refl)
+name-begins ExplicitStructNames = (omega arith, refl)
+
+abbrev pub GoodName : List ℕ → Named → Type 0
+GoodName t (Known e) = Good (getD t 0 0)
+GoodName t Unknown = Unit {0}
+
+is-good : (e : Extension) (t : List ℕ) (n : ℕ) → isWord (nameOf e) t n ≡ true → Good (getD t 0 0)
+unfolding isWord
+is-good e t n =
+    cond-cases (λ (b : Bool). b ≡ true → Good (getD t 0 0)) (eqb n (length (nameOf e))) (startsWith (nameOf e) t) false
+    (λ q. word-good (nameOf e) t (name-begins e)) (λ q h. let z : _≡_ {A = ℕ} 0 1 = cc in absurd (omega arith))
+
+first-good : (es : List Extension) (t : List ℕ) (n : ℕ) → GoodName t (firstNamed es t n)
+unfolding firstNamed
+first-good [] t n = tt
+first-good (e ∷ es) t n = cond-cases (GoodName t) (isWord (nameOf e) t n) (Known e) (firstNamed es t n) (λ q. is-good e t n q) (λ q. first-good es t n)
+
+pub extension-good : (t : List ℕ) (n : ℕ) → GoodName t (extensionOf t n)
+unfolding extensionOf
+extension-good t n = first-good extensions t n
+
+-- a raw name begins with `r`
+abbrev pub GoodRaw : List ℕ → Identifier → Type 0
+GoodRaw t Missing = Unit {0}
+GoodRaw t (Name n) = Unit {0}
+GoodRaw t (RawName n) = Good (getD t 0 0)
+GoodRaw t (NoIdentifier r) = Unit {0}
+
+raw-good : (t : List ℕ) → beginsRaw t ≡ true → Good (getD t 0 0)
+unfolding beginsRaw namesStart
+raw-good t e = good-by (getD t 0 0) 0x72 (eqb-true (getD t 0 0) 0x72 (and-true (eqb (getD t 0 0) 0x72) (eqb (getD t 1 0) 0x23) e .0)) (omega arith) refl
+
+any-good : (t : List ℕ) (i : Identifier) → Good (getD t 0 0) → GoodRaw t i
+any-good t Missing g = tt
+any-good t (Name n) g = tt
+any-good t (RawName n) g = g
+any-good t (NoIdentifier r) g = tt
+
+strict-good : (t : List ℕ) → GoodRaw t (strictOf t)
+unfolding strictOf
+strict-good t =
+    cond-cases (GoodRaw t) (foreignFront (drop (nameLen t) t)) _ _ (λ e. tt)
+    (λ e. cond-cases (GoodRaw t) (foreignFront (drop (chars identRaw t) t)) _ _ (λ f. tt)
+    (λ f. cond-cases (GoodRaw t) (eqb (nameLen t) 0) _ _ (λ g. tt) (λ g. cond-cases (GoodRaw t) (ltb (nameLen t) (chars identRaw t)) _ _ (λ h. tt) (λ h. tt))))
+
+pub identifier-good : (t : List ℕ) → GoodRaw t (identifierOf t)
+unfolding identifierOf
+identifier-good t =
+    cond-cases (GoodRaw t) (eqb (length t) 0) _ _ (λ e. tt)
+    (λ e. cond-cases (GoodRaw t) (beginsString t) _ _ (λ f. tt)
+    (λ f. cond-cases (GoodRaw t) (beginsRaw t) _ _ (λ g. any-good t (rawOf t) (raw-good t g)) (λ g. strict-good t)))
+
+-- the words of an attribute begin with letters
+abbrev LettersFirst : List Word → Type 0
+LettersFirst [] = Unit {0}
+LettersFirst (w ∷ ws) = Begins (w .letters) × LettersFirst ws
+
+ident-good : (w t : List ℕ) → Begins w → eqb (identOf w t) 0 ≡ false → Good (getD t 0 0)
+unfolding identOf
+ident-good w t b =
+    cond-cases (λ (n : ℕ). eqb n 0 ≡ false → Good (getD t 0 0)) (startsWith w t) (cond (identNext (getD t (length w) 0)) 0 (length w)) 0
+    (λ e h. word-good w t b e) (λ e h. let z : _≡_ {A = ℕ} 0 1 = cc in absurd (omega arith))
+
+table-good : (ws : List Word) (t : List ℕ) → LettersFirst ws → eqb (firstOf ws t .end) 0 ≡ false → Good (getD t 0 0)
+unfolding firstOf
+table-good [] t l = λ h. let z : _≡_ {A = ℕ} 0 1 = cc in absurd (omega arith)
+table-good (w ∷ ws) t l =
+    cond-cases (λ (f : Found). eqb (f .end) 0 ≡ false → Good (getD t 0 0)) (eqb (identOf (w .letters) t) 0) (firstOf ws t) (record { code = w .says; end = identOf (w .letters) t })
+    (λ e h. table-good ws t (l .1) h) (λ e h. ident-good (w .letters) t (l .0) e)
+
+pub keyword-good : (t : List ℕ) → eqb (wordOf t .end) 0 ≡ false → Good (getD t 0 0)
+unfolding wordOf
+keyword-good t h = table-good keywords t ((omega arith, refl), ((omega arith, refl), ((omega arith, refl), tt))) h
+
+-- a string begins with a quote or `r`
+abbrev pub GoodString : List ℕ → LiteralAnswer → Type 0
+GoodString t (ReadString l) = Good (getD t 0 0)
+GoodString t (NoString r) = Unit {0}
+
+pub string-good : (t : List ℕ) → GoodString t (stringOf t)
+unfolding stringOf
+string-good t =
+    either (bool-cases (eqb (getD t 0 0) 0x22)) (λ e. either-way (stringOf t) (good-by (getD t 0 0) 0x22 (eqb-true (getD t 0 0) 0x22 e) (omega arith) refl))
+    (λ e. either (bool-cases (eqb (getD t 0 0) 0x72)) (λ f. either-way (stringOf t) (good-by (getD t 0 0) 0x72 (eqb-true (getD t 0 0) 0x72 f) (omega arith) refl)) (λ f. rw (e, f) tt))
+  where
+    either-way : (a : LiteralAnswer) → Good (getD t 0 0) → GoodString t a
+    either-way (ReadString l) g = g
+    either-way (NoString r) g = tt
+
+-- a name's next character
+
+no-slash : identNext 0x2f ≡ false
+unfolding identNext letter digit within
+no-slash = refl
+
+wide-out : (b : ℕ) → 0x80 ≤ b → identNext b ≡ false
+unfolding identNext letter digit
+wide-out b l = rw (above 0x41 0x5a b (omega arith), above 0x61 0x7a b (omega arith), above 0x30 0x39 b (omega arith)) (ne-eqb b 0x5f (λ e. omega arith))
+
+not-both : (b : ℕ) → identNext b ≡ true → identNext b ≡ false → ⊥
+not-both b h i = let z : true ≡ false = sym h ∙ i in let k : _≡_ {A = ℕ} 0 1 = cc in omega arith
+
+pub next-good : (b : ℕ) → identNext b ≡ true → Good b
+next-good b h = either (lt-or-le b 0x80) (λ l. (l, ne-eqb b 0x2f (λ e. not-both b h (ap identNext e ∙ no-slash)))) (λ l. absurd (not-both b h (wide-out b l)))

@@ -1,0 +1,34 @@
+-- The words of an attribute (document 01, module 7): "`enable` takes one or more .. `type` and `schema` take a string."
+-- Refusal 3 is asked for behind each of them.
+use Prim.Native.Nat.{ℕ, _+_}
+use mathlib.Core.Bool.{cond}
+use mathlib.Core.List.{List, [], _∷_}
+use lib.ListN.{drop}
+use lib.Dec.{eqb}
+use Rattle.text.specs.Refusals.{foreignChar}
+use Rattle.integers.specs.Words.{Word, firstOf, askedBehind}
+use Rattle.integers.specs.declared.ident.Found.{Found}
+use Rattle.attributes.specs.declared.words.Keyword.{Keyword}
+use Rattle.attributes.specs.declared.words.Keyword.the-variants.{Enable, Text, NoKeyword, Asked}
+
+-- `enable` is 1, `type` and `schema` are 2.
+abbrev pub keywords : List Word
+keywords =
+    record { letters = 0x65 ∷ 0x6e ∷ 0x61 ∷ 0x62 ∷ 0x6c ∷ 0x65 ∷ []; says = 1 }
+    ∷ record { letters = 0x74 ∷ 0x79 ∷ 0x70 ∷ 0x65 ∷ []; says = 2 }
+    ∷ record { letters = 0x73 ∷ 0x63 ∷ 0x68 ∷ 0x65 ∷ 0x6d ∷ 0x61 ∷ []; says = 2 }
+    ∷ []
+
+-- The one of them that the part begins with.
+unfoldable pub wordOf : List ℕ → Found
+wordOf t = firstOf keywords t
+
+-- A word found in front of the part t from the place `at`.
+unfoldable pub byWord : List ℕ → ℕ → Found → Keyword
+byWord t at f =
+    let behind = at + f .end in
+    cond (eqb (f .end) 0) NoKeyword (cond (askedBehind f t) (Asked (foreignChar behind)) (cond (eqb (f .code) 1) (Enable behind) (Text behind)))
+
+-- The word at a place, and the place behind it.
+unfoldable pub keywordAt : List ℕ → ℕ → Keyword
+keywordAt s at = byWord (drop at s) at (wordOf (drop at s))

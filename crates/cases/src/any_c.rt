@@ -1,0 +1,67 @@
+// `C ENTRY COUNT BUFFER HEX N,N,..`: contents over any tape, and a buffer of so many bytes.
+use crate::contents;
+use crate::contents::Asked;
+use words::hex;
+use words::hex::Hex;
+use words::list;
+use words::list::Count;
+use words::number;
+use words::number::Decimal;
+
+enum Said {
+    Asks(Asked),
+    Bad,
+}
+
+// What the first three words say.
+fn front(words: &[u8]) -> Said {
+    let first = number::decimal_of(words::word(words));
+    let Decimal::Value(entry) = first else {
+        return Said::Bad;
+    };
+    let words = words::behind(words);
+    let second = number::decimal_of(words::word(words));
+    let Decimal::Value(count) = second else {
+        return Said::Bad;
+    };
+    let third = number::decimal_of(words::word(words::behind(words)));
+    let Decimal::Value(buffer) = third else {
+        return Said::Bad;
+    };
+    Said::Asks(Asked {
+        entry: entry as usize,
+        count: count as usize,
+        buffer,
+    })
+}
+
+pub fn answer(
+    words: &[u8],
+    text: &mut [u8],
+    tape: &mut [u32],
+    spare: &mut [u8],
+    o: &mut [u8],
+    at: usize,
+) -> usize {
+    let asked = front(words);
+    let Said::Asks(q) = asked else {
+        return show::bad(o, at);
+    };
+    let words = words::behind(words::behind(words::behind(words)));
+    let bytes = hex::bytes(words::word(words), text);
+    let Hex::Bytes(n) = bytes else {
+        return show::bad(o, at);
+    };
+    let numbers = list::numbers(words::behind(words), tape);
+    let Count::Stored(k) = numbers else {
+        return show::bad(o, at);
+    };
+    contents::answer(
+        lines::part(&text[..], 0, n),
+        list::first(&tape[..], k),
+        q,
+        spare,
+        o,
+        at,
+    )
+}

@@ -1,0 +1,8 @@
+// The string or byte string that an entry of a tape names (document 01, the calls contents and decoded): found, and read anew by its kind at its start.
+pub mod decoding;
+pub mod named;
+pub mod view;
+
+pub use decoding::DecodedAnswer;
+pub use named::Named;
+pub use view::ContentsAnswer;

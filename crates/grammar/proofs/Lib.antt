@@ -1,0 +1,13 @@
+pub mod Complete
+pub mod Meaning
+pub mod Viable
+pub mod Early
+pub mod Outcomes
+pub mod Stored
+pub mod Accepts
+pub mod Prefixes
+pub mod Refusals
+pub mod Nesting
+pub mod Sides
+pub mod Depth
+pub mod Worked

@@ -1,0 +1,136 @@
+use borrow.Author.Needs.{needs}
+use Rattle.grammar.proofs.steps.first_name_of.Statement.{statement}
+use Rattle.grammar.proofs.steps.first_name_of.Tie as tie
+
+enum-told : tie.Need-enum-told
+enum-told c = search needs
+
+named-of-requires : tie.Need-named-of-requires
+named-of-requires c κs = search needs
+
+enum-told-2 : tie.Need-enum-told-2
+enum-told-2 c = search needs
+
+named-of-requires-2 : tie.Need-named-of-requires-2
+named-of-requires-2 c κs = search needs
+
+enum-told-3 : tie.Need-enum-told-3
+enum-told-3 c = search needs
+
+named-of-requires-3 : tie.Need-named-of-requires-3
+named-of-requires-3 c κs = search needs
+
+enum-told-4 : tie.Need-enum-told-4
+enum-told-4 c = search needs
+
+named-of-requires-4 : tie.Need-named-of-requires-4
+named-of-requires-4 c κs = search needs
+
+enum-told-5 : tie.Need-enum-told-5
+enum-told-5 c = search needs
+
+named-of-requires-5 : tie.Need-named-of-requires-5
+named-of-requires-5 c κs = search needs
+
+enum-told-6 : tie.Need-enum-told-6
+enum-told-6 c = search needs
+
+named-of-requires-6 : tie.Need-named-of-requires-6
+named-of-requires-6 c κs = search needs
+
+enum-told-7 : tie.Need-enum-told-7
+enum-told-7 c = search needs
+
+named-of-requires-7 : tie.Need-named-of-requires-7
+named-of-requires-7 c κs = search needs
+
+enum-told-8 : tie.Need-enum-told-8
+enum-told-8 c = search needs
+
+named-of-requires-8 : tie.Need-named-of-requires-8
+named-of-requires-8 c κs = search needs
+
+enum-told-9 : tie.Need-enum-told-9
+enum-told-9 c = search needs
+
+named-of-requires-9 : tie.Need-named-of-requires-9
+named-of-requires-9 c κs = search needs
+
+enum-told-10 : tie.Need-enum-told-10
+enum-told-10 c = search needs
+
+named-of-requires-10 : tie.Need-named-of-requires-10
+named-of-requires-10 c κs = search needs
+
+enum-told-11 : tie.Need-enum-told-11
+enum-told-11 c = search needs
+
+returns : tie.Need-returns
+returns c = search needs
+
+returns-2 : tie.Need-returns-2
+returns-2 c = search needs
+
+returns-3 : tie.Need-returns-3
+returns-3 c = search needs
+
+returns-4 : tie.Need-returns-4
+returns-4 c = search needs
+
+returns-5 : tie.Need-returns-5
+returns-5 c = search needs
+
+returns-6 : tie.Need-returns-6
+returns-6 c = search needs
+
+returns-7 : tie.Need-returns-7
+returns-7 c = search needs
+
+returns-8 : tie.Need-returns-8
+returns-8 c = search needs
+
+returns-9 : tie.Need-returns-9
+returns-9 c = search needs
+
+returns-10 : tie.Need-returns-10
+returns-10 c = search needs
+
+returns-11 : tie.Need-returns-11
+returns-11 c = cc
+
+pub first-name-of-spec : {M : Type 1} → statement M
+first-name-of-spec =
+    tie.close
+    (tie.spec
+    enum-told
+    named-of-requires
+    enum-told-2
+    named-of-requires-2
+    enum-told-3
+    named-of-requires-3
+    enum-told-4
+    named-of-requires-4
+    enum-told-5
+    named-of-requires-5
+    enum-told-6
+    named-of-requires-6
+    enum-told-7
+    named-of-requires-7
+    enum-told-8
+    named-of-requires-8
+    enum-told-9
+    named-of-requires-9
+    enum-told-10
+    named-of-requires-10
+    enum-told-11
+    returns
+    returns-2
+    returns-3
+    returns-4
+    returns-5
+    returns-6
+    returns-7
+    returns-8
+    returns-9
+    returns-10
+    returns-11)

@@ -1,0 +1,2 @@
+// Lent numbers that a call may not touch: marked before it, and compared behind it.
+pub mod numbers;

@@ -1,0 +1,3 @@
+pub mod ReadSteps
+pub mod FillLaws
+pub mod ReadLaws

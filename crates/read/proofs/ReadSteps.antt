@@ -1,0 +1,48 @@
+-- One turn of a loop that reads a text from a place on: what the token found there makes of the reading. Assumes nothing.
+use Prim.Native.Nat.{ℕ, _+_, _-_, _<_, _≤_}
+use native.Mathlib.Omega.{arith}
+use mathlib.Core.List.{List}
+use mathlib.Core.Path.{_≡_, ap, sym, _∙_}
+use lib.ListN.{drop, length, take, length-drop}
+use Rattle.text.proofs.Lists.{tail-part}
+use Rattle.text.specs.Refusals.{placedBehind}
+use Rattle.text.specs.declared.refusal.Refusal.{Refusal}
+use Rattle.reading.proofs.Steps.{from-token, from-stop, from-refuse}
+use Rattle.reading.specs.Owed.{quietByte}
+use Rattle.reading.specs.Readings.{Reading, broken, complete, entry, readFrom}
+use Rattle.reading.specs.Tokens.{Token as Answered}
+use Rattle.tokens.proofs.RonLaws.{laws, lexed, refused-within, token-is}
+use Rattle.tokens.specs.Ron.{answerOf, ronToken}
+use Rattle.tokens.specs.declared.following.Following.{Following}
+use Rattle.tokens.specs.declared.following.Following.the-variants.{End, Refused, Token}
+use Rattle.tokens.specs.declared.lexeme.Lexeme.{Lexeme}
+
+-- a lexeme with a gap in front, in the words of the theory
+abbrev pub tokenAt : ℕ → Lexeme → Answered
+tokenAt g l = record { gap = g; len = l .len; kind = l .kind; detail = l .detail }
+
+module _ (text : List ℕ) (at : ℕ) (f : Following) (h : answerOf f ≡ ronToken (take (length text - at) (drop at text))) where
+  here : ronToken (drop at text) ≡ answerOf f
+  here = sym (h ∙ ap ronToken (tail-part text at))
+
+  module _ (g : ℕ) (l : Lexeme) (e : f ≡ Token g l) where
+    pub step-token : readFrom ronToken text at ≡ entry (record { kind = l .kind; start = at + g; end = at + g + l .len; detail = l .detail }) (readFrom ronToken text (at + g + l .len))
+    step-token =
+        let z : at + (g + l .len) ≡ at + g + l .len = omega arith in
+        from-token ronToken quietByte laws text at (tokenAt g l) (here ∙ ap answerOf e)
+        ∙ ap (λ (n : ℕ). entry (record { kind = l .kind; start = at + g; end = n; detail = l .detail }) (readFrom ronToken text n)) z
+
+    pub step-within : (0 < l .len) × (at + g + l .len ≤ length text) × (l .detail < length text + 0x110000)
+    step-within =
+        let w = lexed (drop at text) (tokenAt g l) (here ∙ ap answerOf e) in
+        let n = length-drop at text in
+        (w .0, omega (arith, w .0, w .1), omega (arith, w .4))
+
+  pub step-stop : f ≡ End → readFrom ronToken text at ≡ complete
+  step-stop e = from-stop ronToken quietByte laws text at (here ∙ ap answerOf e)
+
+  pub step-refuse : (r : Refusal) → f ≡ Refused r → readFrom ronToken text at ≡ broken (placedBehind at r)
+  step-refuse r e = from-refuse ronToken quietByte laws text at r (here ∙ ap answerOf e)
+
+  pub refuse-within : (r : Refusal) → f ≡ Refused r → r .place ≤ length text - at
+  refuse-within r e = omega (arith, refused-within (drop at text) r (here ∙ ap answerOf e), length-drop at text)

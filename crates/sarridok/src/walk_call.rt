@@ -1,0 +1,40 @@
+// One link per entry of a tape.
+use grammar::ends::Verdict;
+use rows::order::in_order;
+use rows::row::room;
+use text::Refusal;
+use walk::joining::join;
+use walk::judging::judge;
+ghost use mathlib.Core.Path.{_≡_};
+ghost use lib.ListN.{length};
+ghost use Rattle.sarridok.specs.Walked.{told, walkOf, linksAfter};
+
+// The links are written, or a refusal.
+pub enum WalkAnswer {
+    Walked,
+    Refused(Refusal),
+}
+
+pub fn walk(tape: &[u32], count: usize, limit: usize, links: &mut [u32]) -> WalkAnswer
+    ensures answer { λ r. ⌜ told r ≡ walkOf (now (tape .entry)) count limit (length (now (links .entry))) ⌝ }
+    ensures left { λ r. ⌜ now (links .exit) ≡ linksAfter (now (tape .entry)) count limit (now (links .entry)) ⌝ }
+{
+    if 128 < limit {
+        return WalkAnswer::Refused(Refusal::unfit());
+    }
+    if room(tape) < count {
+        return WalkAnswer::Refused(Refusal::not_in_order());
+    }
+    if !in_order(tape, count, 65536) {
+        return WalkAnswer::Refused(Refusal::not_in_order());
+    }
+    if links.len() < count {
+        return WalkAnswer::Refused(Refusal::no_room());
+    }
+    let verdict = judge(tape, count, limit);
+    if let Verdict::Refused(refusal) = verdict {
+        return WalkAnswer::Refused(refusal);
+    }
+    join(tape, count, links);
+    WalkAnswer::Walked
+}

@@ -1,0 +1,37 @@
+// The answer of a read, and the entries of its tape.
+use lines::out;
+use rows::row;
+use sarridok::ReadAnswer;
+
+// An entry's four numbers behind a separator.
+fn entry(o: &mut [u8], at: usize, tape: &[u32], i: usize, between: u8) -> usize {
+    if row::room(tape) <= i {
+        return at;
+    }
+    let e = row::entry(tape, i);
+    let a = out::byte(o, at, between);
+    let b = out::number(o, a, e.kind as u64);
+    let c = out::word(o, b, e.start as u64);
+    let d = out::word(o, c, e.end as u64);
+    out::word(o, d, e.detail as u64)
+}
+
+pub fn entries(o: &mut [u8], at: usize, tape: &[u32], n: usize, between: u8) -> usize {
+    let mut to = at;
+    for i in 0..n {
+        to = entry(o, to, tape, i, between);
+    }
+    to
+}
+
+// The separator stands before each entry.
+pub fn read(o: &mut [u8], at: usize, r: ReadAnswer, tape: &[u32], between: u8) -> usize {
+    match r {
+        ReadAnswer::Accepted(n) => {
+            let a = out::bytes(o, at, b"ok");
+            let b = out::word(o, a, n as u64);
+            entries(o, b, tape, n, between)
+        }
+        ReadAnswer::Refused(f) => crate::refused(o, at, f),
+    }
+}

@@ -1,0 +1,4 @@
+pub mod Kinds
+pub mod Passes
+pub mod Scan
+pub mod Structs

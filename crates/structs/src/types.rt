@@ -1,0 +1,107 @@
+// Which type of struct stands at the front of a part.
+use crate::kinds::NewtypeMode;
+use crate::kinds::StructAnswer;
+use crate::kinds::StructType;
+use crate::kinds::TupleMode;
+use crate::kinds::placed;
+use crate::passes::Passed;
+use crate::passes::skip_ws;
+use crate::scan::behind_comma;
+use crate::scan::scan_value;
+use names::Identifier;
+use names::identifiers::skip_identifier;
+use text::bytes::peek;
+ghost use mathlib.Core.Path.{_≡_};
+ghost use Prim.Native.Nat.{_≤_};
+ghost use lib.ListN.{length};
+ghost use Rattle.structs.specs.Structs.{undecidedOf, afterName, contentsOf, parenthesized, insideNewtype, structTypeOf};
+
+// Neither named nor empty: only a scan over the value tells more.
+fn undecided(s: &[u8], at: usize, tuple: TupleMode) -> StructAnswer
+    requires { ⌜ at ≤ length (now s) ⌝ }
+    ensures { λ r. ⌜ r ≡ undecidedOf tuple (now (s .entry)) at ⌝ }
+{
+    match tuple {
+        TupleMode::ImpreciseTupleOrNewtype => StructAnswer::Kind(StructType::AnyTuple),
+        TupleMode::DifferentiateNewtype => scan_value(s, at),
+    }
+}
+
+// A name was passed; the scan would go on behind it.
+fn behind_name(s: &[u8], at: usize, tuple: TupleMode) -> StructAnswer
+    requires { ⌜ at ≤ length (now s) ⌝ }
+    ensures { λ r. ⌜ r ≡ afterName tuple (now (s .entry)) at ⌝ }
+{
+    let gap = skip_ws(s, Passed::To(at));
+    match gap {
+        Passed::To(i) => {
+            let c = peek(s, i);
+            if c == b':' {
+                return StructAnswer::Kind(StructType::Named);
+            }
+            if c == b',' {
+                let next = i + 1;
+                return placed(behind_comma(&s[next..]), next);
+            }
+            if c == b')' {
+                return StructAnswer::Kind(StructType::NewtypeTuple);
+            }
+            undecided(s, i, tuple)
+        }
+        Passed::Refused(refusal) => StructAnswer::Refused(refusal),
+    }
+}
+
+fn contents(s: &[u8], at: usize, tuple: TupleMode) -> StructAnswer
+    requires { ⌜ at ≤ length (now s) ⌝ }
+    ensures { λ r. ⌜ r ≡ contentsOf tuple (now (s .entry)) at ⌝ }
+{
+    let name = skip_identifier(&s[at..]);
+    match name {
+        Identifier::Missing => undecided(s, at, tuple),
+        Identifier::Name(n) => behind_name(s, at + n, tuple),
+        Identifier::RawName(n) => behind_name(s, at + n, tuple),
+        Identifier::Refused(refusal) => StructAnswer::Refused(refusal.placed_behind(at)),
+    }
+}
+
+// s begins with `(`.
+fn in_parens(s: &[u8], tuple: TupleMode) -> StructAnswer
+    requires { ⌜ 1 ≤ length (now s) ⌝ }
+    ensures { λ r. ⌜ r ≡ parenthesized tuple (now (s .entry)) ⌝ }
+{
+    let gap = skip_ws(s, Passed::To(1));
+    match gap {
+        Passed::To(i) => {
+            if peek(s, i) == b')' {
+                return StructAnswer::Kind(StructType::EmptyTuple);
+            }
+            contents(s, i, tuple)
+        }
+        Passed::Refused(refusal) => StructAnswer::Refused(refusal),
+    }
+}
+
+fn in_newtype(s: &[u8], tuple: TupleMode) -> StructAnswer
+    ensures { λ r. ⌜ r ≡ insideNewtype tuple (now (s .entry)) ⌝ }
+{
+    let gap = skip_ws(s, Passed::To(0));
+    match gap {
+        Passed::To(i) => contents(s, i, tuple),
+        Passed::Refused(refusal) => StructAnswer::Refused(refusal),
+    }
+}
+
+pub fn check_struct_type(s: &[u8], newtype: NewtypeMode, tuple: TupleMode) -> StructAnswer
+    ensures { λ r. ⌜ r ≡ structTypeOf (now (s .entry)) newtype tuple ⌝ }
+{
+    match newtype {
+        NewtypeMode::NoParensMeanUnit => {
+            if peek(s, 0) == b'(' {
+                return in_parens(s, tuple);
+            }
+            StructAnswer::Kind(StructType::Unit)
+        }
+        NewtypeMode::InsideNewtype => in_newtype(s, tuple),
+    }
+}

@@ -1,0 +1,47 @@
+// `W LIMIT LINKS COUNT N,N,..`: a walk of any tape, into that many links.
+use crate::walks;
+use crate::walks::Asked;
+use words::list;
+use words::list::Count;
+use words::number;
+use words::number::Decimal;
+
+enum Said {
+    Asks(Asked),
+    Bad,
+}
+
+// What the first three words say.
+fn front(words: &[u8]) -> Said {
+    let first = number::decimal_of(words::word(words));
+    let Decimal::Value(limit) = first else {
+        return Said::Bad;
+    };
+    let words = words::behind(words);
+    let second = number::decimal_of(words::word(words));
+    let Decimal::Value(room) = second else {
+        return Said::Bad;
+    };
+    let third = number::decimal_of(words::word(words::behind(words)));
+    let Decimal::Value(count) = third else {
+        return Said::Bad;
+    };
+    Said::Asks(Asked {
+        count: count as usize,
+        limit: limit as usize,
+        room: room as usize,
+    })
+}
+
+pub fn answer(words: &[u8], tape: &mut [u32], links: &mut [u32], o: &mut [u8], at: usize) -> usize {
+    let asked = front(words);
+    let Said::Asks(q) = asked else {
+        return show::bad(o, at);
+    };
+    let words = words::behind(words::behind(words::behind(words)));
+    let last = list::numbers(words, tape);
+    let Count::Stored(n) = last else {
+        return show::bad(o, at);
+    };
+    walks::answer(list::first(&tape[..], n), q, links, o, at)
+}

@@ -1,0 +1,4 @@
+pub mod Shapes
+pub mod Token
+pub mod Lexemes
+pub mod Ron

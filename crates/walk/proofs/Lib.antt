@@ -1,0 +1,4 @@
+pub mod Rest
+pub mod Stacks
+pub mod JudgeLaws
+pub mod JoinLaws
