@@ -107,6 +107,8 @@ pub fn lines(lines: &mut Lines) {
     lines.add(|l| line::read(l, &sized("//", "x", "\n7", 65_536)));
     lines.add(|l| line::read(l, &sized("\"", "\\n", "\"", 65_536)));
     lines.add(|l| line::read(l, &sized("", " ", "", 65_537)));
+    lines.add(|l| line::read(l, &sized("", ",", "", 65_536)));
+    lines.add(|l| line::read(l, &sized("/*", "x", "*/", 65_536)));
     NO_CASES.iter().for_each(|l| lines.plain(l));
 }
 
