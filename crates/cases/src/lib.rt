@@ -25,6 +25,8 @@ pub fn answer(
     }
     let letter = line[0];
     match letter {
+        b'P' => tapes::repair_any::answer(&line[2..], text, tape, links, o, at),
+        b'p' => tapes::repair_text::answer(&line[2..], text, tape, links, o, at),
         b'R' => tapes::read_any::answer(&line[2..], text, tape, o, at),
         b'r' => tapes::read_text::answer(&line[2..], text, tape, o, at),
         b'W' => tapes::walk_any::answer(&line[2..], tape, links, o, at),

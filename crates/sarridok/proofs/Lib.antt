@@ -11,3 +11,4 @@ pub mod WalkDetermined
 pub mod WalkMeans
 pub mod StructPlaces
 pub mod StructKindDetermined
+pub mod RepairDetermined

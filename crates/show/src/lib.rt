@@ -4,6 +4,7 @@ pub mod contents;
 pub mod hex;
 pub mod integer;
 pub mod reading;
+pub mod repair;
 pub mod skip;
 pub mod struct_kind;
 pub mod walk;

@@ -1,0 +1,10 @@
+pub mod Leading
+pub mod Laying
+pub mod Clearing
+pub mod Searching
+pub mod Checks
+pub mod QuietEnds
+pub mod Rows
+pub mod Finding
+pub mod Finishing
+pub mod Judging

@@ -1,0 +1,80 @@
+// Searches over the old entries.
+use crate::place::wide;
+use rows::row;
+ghost use mathlib.Core.Path.{_≡_};
+ghost use Prim.Native.Nat.{_≤_, _<_, _+_, _-_, _^_};
+ghost use lib.ListN.{length, take};
+ghost use Rattle.reading.specs.Readings.{endOf};
+ghost use Rattle.rows.specs.Rows.{roomOf, entriesOf};
+ghost use Rattle.repair.specs.Repair.{leading, endsBefore, seekOf};
+ghost use Rattle.repair.specs.Steps.{seekFrom, metOf};
+
+// Whether a new entry joins at an old one, and the row where the search stands.
+pub enum Met {
+    At(usize),
+    Next(usize),
+}
+
+// How many entries from the first on end before q.
+pub fn ends_before(tape: &[u32], count: usize, q: usize) -> usize
+    requires { ⌜ count ≤ roomOf (length (now tape)) ⌝ }
+    ensures { λ r. ⌜ r ≡ leading (endsBefore q) (entriesOf count (now (tape .entry))) ⌝ }
+{
+    let mut i = 0;
+    while i < count {
+        let old = row::entry(tape, i);
+        if q <= wide(old.end) {
+            return i;
+        }
+        i += 1;
+    }
+    i
+}
+
+// Where the last of the first j entries ends.
+pub fn resume_at(tape: &[u32], j: usize) -> usize
+    requires { ⌜ j ≤ roomOf (length (now tape)) ⌝ }
+    ensures { λ r. ⌜ r ≡ endOf 0 (entriesOf j (now (tape .entry))) ⌝ }
+{
+    if j == 0 {
+        return 0;
+    }
+    let last = row::entry(tape, j - 1);
+    wide(last.end)
+}
+
+// The first entry from a row on that does not start before q.
+fn seek(tape: &[u32], count: usize, from: usize, q: usize) -> usize
+    requires { ⌜ (count ≤ roomOf (length (now tape))) × (from ≤ count) ⌝ }
+    ensures { λ r. ⌜ r ≡ seekFrom (entriesOf count (now (tape .entry))) from q ⌝ }
+{
+    let mut i = from;
+    while i < count {
+        let old = row::entry(tape, i);
+        if q <= wide(old.start) {
+            return i;
+        }
+        i += 1;
+    }
+    i
+}
+
+// Whether a new entry that starts at a place joins the old ones, the search standing at row i.
+pub fn meet(tape: &[u32], count: usize, i: usize, start: usize, b: usize, e: usize) -> Met
+    requires { ⌜ (count ≤ roomOf (length (now tape))) × (i ≤ seekOf (entriesOf count (now tape)) b e start) × (start - e + b < 2 ^ 64) ⌝ }
+    ensures { λ r. ⌜ r ≡ metOf (entriesOf count (now (tape .entry))) b e i start ⌝ }
+{
+    if start < e {
+        return Met::Next(i);
+    }
+    let q = start - e + b;
+    let k = seek(tape, count, i, q);
+    if count <= k {
+        return Met::Next(k);
+    }
+    let old = row::entry(tape, k);
+    if wide(old.start) == q {
+        return Met::At(k);
+    }
+    Met::Next(k)
+}

@@ -1,0 +1,106 @@
+// `P COUNT OLDLEN A B HEX N,N,..`: a repair of any tape. Accepted, every number of the slice is shown.
+use crate::copies;
+use crate::cuts::Cut;
+use sarridok::RepairAnswer;
+use words::hex;
+use words::hex::Hex;
+use words::list;
+use words::list::Count;
+use words::number;
+use words::number::Decimal;
+
+enum Said {
+    Asks(Cut),
+    Bad,
+}
+
+// What the first four words say.
+fn front(words: &[u8]) -> Said {
+    let first = number::decimal_of(words::word(words));
+    let Decimal::Value(count) = first else {
+        return Said::Bad;
+    };
+    let words = words::behind(words);
+    let second = number::decimal_of(words::word(words));
+    let Decimal::Value(old) = second else {
+        return Said::Bad;
+    };
+    let words = words::behind(words);
+    let third = number::decimal_of(words::word(words));
+    let Decimal::Value(a) = third else {
+        return Said::Bad;
+    };
+    let fourth = number::decimal_of(words::word(words::behind(words)));
+    let Decimal::Value(b) = fourth else {
+        return Said::Bad;
+    };
+    Said::Asks(Cut {
+        count: count as usize,
+        old: old as usize,
+        a: a as usize,
+        b: b as usize,
+    })
+}
+
+// A refused repair may change no number.
+fn repaired(
+    text: &[u8],
+    q: Cut,
+    tape: &mut [u32],
+    aside: &mut [u32],
+    o: &mut [u8],
+    at: usize,
+) -> usize {
+    copies::copy(&tape[..], aside);
+    let r = sarridok::repair(tape, q.count, q.old, q.a, q.b, text);
+    match r {
+        RepairAnswer::Repaired(n, before, behind) => {
+            let a = show::repair::counts(o, at, n, before, behind);
+            show::repair::numbers(o, a, &tape[..])
+        }
+        RepairAnswer::Refused(f) => {
+            let a = show::refused(o, at, f);
+            show::clean(o, a, copies::same(&tape[..], &aside[..]))
+        }
+    }
+}
+
+// The tape is lent with as many numbers as the line has.
+fn lent(
+    text: &[u8],
+    q: Cut,
+    k: usize,
+    tape: &mut [u32],
+    aside: &mut [u32],
+    o: &mut [u8],
+    at: usize,
+) -> usize {
+    if k < tape.len() {
+        return repaired(text, q, &mut tape[0..k], aside, o, at);
+    }
+    repaired(text, q, tape, aside, o, at)
+}
+
+pub fn answer(
+    words: &[u8],
+    text: &mut [u8],
+    tape: &mut [u32],
+    aside: &mut [u32],
+    o: &mut [u8],
+    at: usize,
+) -> usize {
+    let asked = front(words);
+    let Said::Asks(q) = asked else {
+        return show::bad(o, at);
+    };
+    let words = words::behind(words::behind(words::behind(words::behind(words))));
+    let bytes = hex::bytes(words::word(words), text);
+    let Hex::Bytes(n) = bytes else {
+        return show::bad(o, at);
+    };
+    let numbers = list::numbers(words::behind(words), tape);
+    let Count::Stored(k) = numbers else {
+        return show::bad(o, at);
+    };
+    lent(lines::part(&text[..], 0, n), q, k, tape, aside, o, at)
+}
