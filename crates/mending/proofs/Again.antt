@@ -1,23 +1,23 @@
 -- A tape that an accepted read or repair leaves holds the reading of its text, so that it may be repaired next. Assumes nothing.
-use Prim.Native.Nat.{ℕ, _+_, _*_, _<_, _≤_}
+use Prim.Native.Nat.{ℕ, _*_, _≤_}
 use native.Mathlib.Omega.{arith}
 use mathlib.Core.Bool.{Bool, true, false, cond}
-use mathlib.Core.List.{List, _++_}
+use mathlib.Core.List.{List}
 use mathlib.Core.Path.{_≡_, ap, refl, sym, _∙_, subst}
 use lib.Dec.{ltb}
 use lib.ListN.{length, drop, replicate, length-append, length-drop, length-replicate}
 use borrow.Author.Tests.{ltb-false}
-use Rattle.text.specs.Judged.{behindJudged, judgedOf}
+use Rattle.text.specs.Judged.{judgedOf}
 use Rattle.text.specs.Refusals.{Told, accepted, refused, noRoom}
 use Rattle.text.specs.declared.judge.Judged.{Judged}
 use Rattle.text.specs.declared.judge.Judged.the-variants.{Fit, Refused}
 use Rattle.rows.proofs.RowLaws.{entries-flat, length-flat}
 use Rattle.rows.specs.Rows.{entriesOf, flat, laid, roomOf, width}
 use Rattle.rows.specs.declared.Entry.{Entry}
-use Rattle.reading.proofs.Entries.{Complete, counted-accepted}
-use Rattle.reading.specs.Readings.{_▸_, Reading, complete, counted, entries}
+use Rattle.reading.proofs.Entries.{counted-accepted}
+use Rattle.reading.specs.Readings.{_▸_, complete, counted, entries}
 use Rattle.read.proofs.ReadLaws.{read-fit, read-refused, tape-by}
-use Rattle.read.specs.Read.{fitted, laidBy, readAnswer, readTape, readingOf, roomFor}
+use Rattle.read.specs.Read.{readAnswer, readTape, readingOf, roomFor}
 use Rattle.repair.specs.Repair.{cleared}
 use Rattle.mending.specs.Fresh.{freshBy, freshCallTape}
 

@@ -25,7 +25,7 @@ use Rattle.reading.specs.Kept.{lastQuiet}
 use Rattle.reading.specs.Readings.{_▸_, complete, endOf, entries, place}
 use Rattle.reading.specs.Tokens.{tokensFrom}
 use Rattle.read.specs.Read.{readingOf}
-use Rattle.repair.specs.Repair.{Repaired, cleared, cutFits, joins, leading, repairAnswerOf, repairFits, repairTapeOf, scanOf}
+use Rattle.repair.specs.Repair.{cleared, cutFits, joins, leading, repairAnswerOf, repairFits, repairTapeOf, scanOf}
 
 -- ---- the old text and its tape, with room for one entry more
 
@@ -54,3 +54,12 @@ worked = refl
 pub worked-tape : repairTapeOf tape 7 9 4 6 changed ≡ 3 ∷ 0 ∷ 1 ∷ 0 ∷ 11 ∷ 1 ∷ 2 ∷ 5 ∷ 7 ∷ 2 ∷ 3 ∷ 0 ∷ 11 ∷ 11 ∷ 12 ∷ 5 ∷ 4 ∷ 12 ∷ 13 ∷ 0 ∷ 0 ∷ 0 ∷ 0 ∷ 0 ∷ 0 ∷ 0 ∷ 0 ∷ 0 ∷ 1 ∷ 2 ∷ 3 ∷ 4 ∷ []
 unfolding repairTapeOf repairAnswerOf cleared laid flat entries repairFits cutFits leading joins scanOf inOrder inOrderFrom orderly lastQuiet quietByte endOf place tokensFrom ronToken gapOf gapFrom itemOf commentOf behindSlash blockEnd blockFrom markOf blankWidth blank1 blank2 blank3 within run run2 tokenOf shapeOf markKind startsNumber behindB behindR numberOf floatAhead floatGoes floatChar digit hexDigit intChar letter anyOf numeralOf frontOf signOf prefixOf digitOf digitsFrom runOf turnOf firstFit limitAt suffixOf suffixWord widthAt firstOf foreignAhead identOf startsWith foreign entriesOf
 worked-tape = refl
+
+-- ---- an empty cut at 3, new bytes `/*`: 4 at 11
+
+abbrev opened : List ℕ
+opened = 0x5b ∷ 0x37 ∷ 0x2c ∷ 0x2f ∷ 0x2a ∷ 0x20 ∷ 0x38 ∷ 0x2c ∷ 0x20 ∷ 0x39 ∷ 0x5d ∷ []
+
+pub worked-open : repairAnswerOf tape 7 9 3 3 opened ≡ refused (unclosedBlockComment 11)
+unfolding repairAnswerOf repairFits cutFits leading joins scanOf inOrder inOrderFrom orderly lastQuiet quietByte endOf place tokensFrom ronToken gapOf gapFrom itemOf commentOf behindSlash blockEnd blockFrom markOf blankWidth blank1 blank2 blank3 within run run2 tokenOf shapeOf markKind startsNumber behindB behindR numberOf floatAhead floatGoes floatChar digit hexDigit intChar letter anyOf numeralOf frontOf signOf prefixOf digitOf digitsFrom runOf turnOf firstFit limitAt suffixOf suffixWord widthAt firstOf foreignAhead identOf startsWith foreign entriesOf
+worked-open = refl

@@ -92,9 +92,6 @@ row-moved b e f g t t′ x s n is es en w =
     ∙ ap (λ (y : Entry). written t g (clippedFrom b e y)) is
 
 module _ (b e m f g : ℕ) (t : List ℕ) where
-  abbrev mv : Entry → Entry
-  mv = clippedFrom b e
-
   abbrev pub Up : ℕ → List ℕ → Type 0
   Up k s = s ≡ shifted b e k f g t
 

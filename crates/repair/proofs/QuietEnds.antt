@@ -1,5 +1,5 @@
 -- The last quiet byte, found from the end. Assumes nothing.
-use Prim.Native.Nat.{ℕ, suc, zero, _+_, _-_, _<_, _≤_}
+use Prim.Native.Nat.{ℕ, suc, _-_, _<_, _≤_}
 use native.Mathlib.Omega.{arith}
 use mathlib.Core.Bool.{Bool, true, false, cond}
 use mathlib.Core.List.{List, [], _∷_, _++_}

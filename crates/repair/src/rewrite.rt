@@ -12,7 +12,7 @@ ghost use Rattle.tokens.specs.Ron.{ronToken};
 ghost use Rattle.repair.specs.Repair.{cleared};
 ghost use Rattle.repair.specs.Steps.{clippedFrom};
 
-// Where the new entries come from and go to: n read from a place on, then the rows from f to z of the part, moved from b to e.
+// What the part is to hold: n entries of the text from a place on, then its own m rows from row f on, moved from b to e.
 pub struct Rest {
     pub from: usize,
     pub n: usize,

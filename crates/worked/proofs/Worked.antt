@@ -33,7 +33,7 @@ use Rattle.integers.specs.Width.{widthAt, limitAt, firstFit, suffixWord, suffix
 use Rattle.floats.specs.Classes.{floatGoes}
 use Rattle.floats.specs.Float.{runAt, floatOf}
 use Rattle.floats.specs.Grammar.{stepOf as stepOf·floats, accepts}
-use Rattle.structs.specs.Scan.{stepOf as stepOf·structs, markedBy, pastSpurious, afterComma, scanFrom, scanOf}
+use Rattle.structs.specs.Scan.{stepOf as stepOf·structs, scanOf as scanOf·structs, markedBy, pastSpurious, afterComma, scanFrom}
 use Rattle.numbers.specs.Numbers.{floatAhead, numberOf}
 use Rattle.strings.specs.Chars.{charEnds, charOf, byteEnds, byteOf}
 use Rattle.strings.specs.Quoted.{measured, quotedOf}
@@ -45,6 +45,8 @@ use Rattle.tokens.specs.Ron.{ronToken}
 use Rattle.tokens.specs.Shapes.{markKind, startsNumber, behindB, behindR, shapeOf}
 use Rattle.tokens.specs.Token.{tokenOf}
 use Rattle.read.specs.Read.{readAnswer, readTape}
+use Rattle.repair.specs.Repair.{cutFits, repairFits, leading, joins, scanOf as scanOf·repair, repairAnswerOf, cleared, repairTapeOf, repairOf, repairedTape}
+use Rattle.repair.specs.Steps.{laidAt}
 use Rattle.entries.specs.Named.{byKind, insideOf, namedOf}
 use Rattle.structs.specs.Passes.{pastGap, pastChar, pastString, pastByteString}
 use Rattle.structs.specs.Structs.{decided, afterName, contentsOf as contentsOf·structs, unlessEmpty, parenthesized, insideNewtype, structTypeOf}
@@ -57,5 +59,5 @@ use Rattle.worked.specs.Texts.{AllHold, texts}
 
 -- document 01, "Worked texts"
 pub worked : AllHold texts
-unfolding within blank blank1 blank2 blank3 blankWidth foreign digit letter hexDigit intChar floatChar identFirst identNext identRaw continuationBlank judgedOf·text judgedOf·floats placeFits behindFront run run2 asciiFor encode secondByte behindThree behindFour widthOf charLen utf8From utf8Of codeOf4 codeOf scalar encodedLen encodeAnswer encodedInto markOf blockFrom blockEnd behindSlash commentOf itemOf·comments itemOf·attributes gapFrom gapOf lineFrom lineEnd·comments lineEnd·strings hexOf secondDigit twoDigits closeOf digitsOf unicodeEscape nextByte moreBytes hexEscape simpleOf escapeOf orderly inOrderFrom inOrder entryAt entriesOf written flat laid anyQuiet countOf keptBefore lastQuiet isMoved areMoved allBehind areKept largest keptBehind quietByte place entries counted endOf tokensFrom charIf charsFrom chars foreignFront beginsFloat suffixed named missing wordOf·names wordOf·attributes nameLen plainOf rawOf·names rawOf·strings skipIdentifierOf strictOf identifierOf startsWith·names startsWith·integers beginsString beginsRaw digitOf turnOf digitsFrom runOf valueFrom·digits valueFrom·attributes signOf prefixOf frontOf numeralOf typedOf anyOf widthAt limitAt firstFit suffixWord suffixOf identOf firstOf foreignAhead floatGoes runAt floatOf stepOf·floats stepOf·structs accepts wellTo stripped floatAhead numberOf charEnds charOf byteEnds byteOf unquoted plain behindBackslash pieceOf decodedLen bodyFrom bodyOf decodedOf measured quotedOf rawEnd rawContents stringOf byteStringOf stringDecoded byteStringDecoded enableFrom keywordFrom openedOf attributeOf noEnd listEnd closeList stringEnd stringFrom isWord firstNamed extensionOf addedTo otherChar itemEnd behindName listFrom listOf skipFrom consumeFrom signAt signFrom byWord keywordAt ronToken markKind startsNumber behindB behindR shapeOf tokenOf readAnswer readTape byKind insideOf namedOf pastGap pastChar pastString pastByteString markedBy pastSpurious afterComma scanFrom scanOf decided afterName contentsOf·structs contentsOf·sarridok unlessEmpty parenthesized insideNewtype structTypeOf decodedAnswer decodedOut skipOf structKindOf integerAt integerOf behindWalkFront walkOf linksAfter
-worked = ((refl, refl), ((refl, refl), ((refl, refl), ((refl, refl), ((refl, refl), (refl, (refl, (refl, (refl, (refl, ((refl, refl), (refl, tt))))))))))))
+unfolding within blank blank1 blank2 blank3 blankWidth foreign digit letter hexDigit intChar floatChar identFirst identNext identRaw continuationBlank judgedOf·text judgedOf·floats placeFits behindFront run run2 asciiFor encode secondByte behindThree behindFour widthOf charLen utf8From utf8Of codeOf4 codeOf scalar encodedLen encodeAnswer encodedInto markOf blockFrom blockEnd behindSlash commentOf itemOf·comments itemOf·attributes gapFrom gapOf lineFrom lineEnd·comments lineEnd·strings hexOf secondDigit twoDigits closeOf digitsOf unicodeEscape nextByte moreBytes hexEscape simpleOf escapeOf orderly inOrderFrom inOrder entryAt entriesOf written flat laid anyQuiet countOf keptBefore lastQuiet isMoved areMoved allBehind areKept largest keptBehind quietByte place entries counted endOf tokensFrom charIf charsFrom chars foreignFront beginsFloat suffixed named missing wordOf·names wordOf·attributes nameLen plainOf rawOf·names rawOf·strings skipIdentifierOf strictOf identifierOf startsWith·names startsWith·integers beginsString beginsRaw digitOf turnOf digitsFrom runOf valueFrom·digits valueFrom·attributes signOf prefixOf frontOf numeralOf typedOf anyOf widthAt limitAt firstFit suffixWord suffixOf identOf firstOf foreignAhead floatGoes runAt floatOf stepOf·floats stepOf·structs accepts wellTo stripped floatAhead numberOf charEnds charOf byteEnds byteOf unquoted plain behindBackslash pieceOf decodedLen bodyFrom bodyOf decodedOf measured quotedOf rawEnd rawContents stringOf byteStringOf stringDecoded byteStringDecoded enableFrom keywordFrom openedOf attributeOf noEnd listEnd closeList stringEnd stringFrom isWord firstNamed extensionOf addedTo otherChar itemEnd behindName listFrom listOf skipFrom consumeFrom signAt signFrom byWord keywordAt ronToken markKind startsNumber behindB behindR shapeOf tokenOf readAnswer readTape cutFits repairFits leading joins scanOf·repair scanOf·structs repairAnswerOf cleared repairTapeOf repairOf repairedTape laidAt byKind insideOf namedOf pastGap pastChar pastString pastByteString markedBy pastSpurious afterComma scanFrom decided afterName contentsOf·structs contentsOf·sarridok unlessEmpty parenthesized insideNewtype structTypeOf decodedAnswer decodedOut skipOf structKindOf integerAt integerOf behindWalkFront walkOf linksAfter
+worked = ((refl, refl), ((refl, refl), ((refl, refl), ((refl, refl), ((refl, refl), (refl, (refl, (refl, (refl, (refl, ((refl, refl), (refl, ((refl, refl), tt)))))))))))))

@@ -14,6 +14,7 @@ use Rattle.structs.specs.declared.kinds.TupleMode.{TupleMode}
 use Rattle.structs.specs.declared.kinds.TupleMode.the-variants.{DifferentiateNewtype}
 use Rattle.structs.specs.declared.kinds.StructType.{StructType}
 use Rattle.structs.specs.declared.kinds.StructType.the-variants.{NewtypeTuple}
+use Rattle.repair.specs.Repair.{Repaired, repairOf, repairedTape}
 use Rattle.sarridok.specs.Typed.{Typed, integerOf}
 use Rattle.sarridok.specs.Contents.{decodedAnswer, decodedOut}
 use Rattle.sarridok.specs.StructKind.{structKindOf}
@@ -23,13 +24,16 @@ pub data Claim : Type 0 where
   reads : List ℕ → List ℕ → Told ℕ → List ℕ → Claim
   types : List ℕ → Width → Told Typed → Claim
   decodes : List ℕ → List ℕ → List ℕ → Told ℕ → List ℕ → Claim
+  repairs : List ℕ → ℕ → ℕ → ℕ → ℕ → List ℕ → Told Repaired → List ℕ → Claim
   struct-is : List ℕ → NewtypeMode → TupleMode → Told StructType → Claim
 
--- That it is so: a text read into a tape; typed at its front; the first of a tape's one entry decoded into a buffer; its struct kind at the front.
+-- That it is so: a text read into a tape; typed at its front; the first of a tape's one entry decoded into a buffer; its struct kind at the
+-- front; and the tape of an old text of so many bytes, of which those from a to b were replaced, repaired.
 abbrev pub Holds : Claim → Type 0
 Holds (reads text tape answer after) = (readAnswer text (length tape) ≡ answer) × (readTape text tape ≡ after)
 Holds (types text width answer) = integerOf text 0 width ≡ answer
 Holds (decodes text tape out answer after) = (decodedAnswer text tape 1 0 (length out) ≡ answer) × (decodedOut text tape 1 0 out ≡ after)
+Holds (repairs tape count old a b text answer after) = (repairOf tape count old a b text ≡ answer) × (repairedTape tape count old a b text ≡ after)
 Holds (struct-is text newtype tuple answer) = structKindOf text 0 newtype tuple ≡ answer
 
 -- That each of a list is so.
@@ -46,7 +50,7 @@ abbrev pub below : ℕ → ℕ → Told Typed
 below n end = accepted (record { number = record { minus = true; magnitude = n }; end = end })
 
 -- The list: `Lock(id: 7)`; `300a`; `'\xC3'`; `\"\q`; `/*/*/`; typed u8 `255`, `256`, `99f` and `25f`, typed i8 `-128`; `\"\xC3\xA9\"` decoded; the struct kind of
--- `(\"a\"/*,*/)`. A tape or buffer has one number more than it needs: what stands behind stays.
+-- `(\"a\"/*,*/)`; `[7, 8, 9]` with the bytes from 4 to 6 replaced by `/*8,*/`. A tape or buffer has one number more than it needs: what stands behind stays.
 abbrev pub texts : List Claim
 texts =
     reads (0x4c ∷ 0x6f ∷ 0x63 ∷ 0x6b ∷ 0x28 ∷ 0x69 ∷ 0x64 ∷ 0x3a ∷ 0x20 ∷ 0x37 ∷ 0x29 ∷ [])
@@ -64,4 +68,9 @@ texts =
     ∷ types (0x2d ∷ 0x31 ∷ 0x32 ∷ 0x38 ∷ []) I8 (below 128 4)
     ∷ decodes (0x22 ∷ 0x5c ∷ 0x78 ∷ 0x43 ∷ 0x33 ∷ 0x5c ∷ 0x78 ∷ 0x41 ∷ 0x39 ∷ 0x22 ∷ []) (14 ∷ 0 ∷ 10 ∷ 2 ∷ []) (0 ∷ 0 ∷ 77 ∷ []) (accepted 2) (0xc3 ∷ 0xa9 ∷ 77 ∷ [])
     ∷ struct-is (0x28 ∷ 0x22 ∷ 0x61 ∷ 0x22 ∷ 0x2f ∷ 0x2a ∷ 0x2c ∷ 0x2a ∷ 0x2f ∷ 0x29 ∷ []) NoParensMeanUnit DifferentiateNewtype (accepted NewtypeTuple)
+    ∷ repairs
+    (3 ∷ 0 ∷ 1 ∷ 0 ∷ 11 ∷ 1 ∷ 2 ∷ 5 ∷ 7 ∷ 2 ∷ 3 ∷ 0 ∷ 11 ∷ 4 ∷ 5 ∷ 5 ∷ 7 ∷ 5 ∷ 6 ∷ 0 ∷ 11 ∷ 7 ∷ 8 ∷ 5 ∷ 4 ∷ 8 ∷ 9 ∷ 0 ∷ 77 ∷ []) 7 9 4 6
+    (0x5b ∷ 0x37 ∷ 0x2c ∷ 0x20 ∷ 0x2f ∷ 0x2a ∷ 0x38 ∷ 0x2c ∷ 0x2a ∷ 0x2f ∷ 0x20 ∷ 0x39 ∷ 0x5d ∷ [])
+    (accepted (record { count = 5; before = 3; behind = 2 }))
+    (3 ∷ 0 ∷ 1 ∷ 0 ∷ 11 ∷ 1 ∷ 2 ∷ 5 ∷ 7 ∷ 2 ∷ 3 ∷ 0 ∷ 11 ∷ 11 ∷ 12 ∷ 5 ∷ 4 ∷ 12 ∷ 13 ∷ 0 ∷ 0 ∷ 0 ∷ 0 ∷ 0 ∷ 0 ∷ 0 ∷ 0 ∷ 0 ∷ 77 ∷ [])
     ∷ []

@@ -54,6 +54,15 @@ const WALK: Alphabet = Alphabet {
     longest: 5,
 };
 
+/// Pieces that are mostly read side by side, and often join.
+const EDITED: Alphabet = Alphabet {
+    pieces: &[
+        "a", "b", "r", "e5", "_", "1", "300", ".5", "-1", "0x1", "u8", "inf", "'c'", "\"s\"", "\"a b\"", "r#a", " ",
+        "\n", "\u{85}", ",", ":", "(", "]", "//\n", "/**/", "/*,*/", "\"\\\"\"", "\"é\"",
+    ],
+    longest: 5,
+};
+
 pub fn of_call(call: u8) -> &'static Alphabet {
     match call {
         b's' => &SKIP,
@@ -61,6 +70,7 @@ pub fn of_call(call: u8) -> &'static Alphabet {
         b'c' | b'C' => &CONTENTS,
         b'k' => &STRUCT,
         b'w' => &WALK,
+        b'p' => &EDITED,
         _ => &READ,
     }
 }
@@ -115,7 +125,7 @@ mod tests {
 
     #[test]
     fn strides_visit_every_text() {
-        for alphabet in [&SKIP, &INTEGER, &CONTENTS, &STRUCT, &READ, &WALK] {
+        for alphabet in [&SKIP, &INTEGER, &CONTENTS, &STRUCT, &READ, &WALK, &EDITED] {
             assert_ne!(texts(alphabet.pieces.len() as u64, alphabet.longest) % STRIDE, 0);
         }
         let all = texts(EDGES.len() as u64, LONGEST_EDGES);

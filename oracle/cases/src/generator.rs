@@ -1,7 +1,8 @@
 //! Case number `n` of a seed.
 use crate::documents::Draft;
+use crate::edits::Edit;
 use crate::random::Random;
-use crate::{alphabet, damage, entries, gaps, limits, line, names, numbers, places, strings, tapes};
+use crate::{alphabet, damage, edits, entries, gaps, limits, line, names, numbers, places, repairs, strings, tapes};
 
 /// One case in so many that have no short text has one at the size limit: one in 20,000 of all.
 const LIMITS: usize = 15_000;
@@ -19,21 +20,39 @@ pub fn case(seed: u64, n: u64, calls: &[u8], into: &mut Vec<u8>) {
     let mut r = Random::of_case(seed, n);
     let call = calls[(n % calls.len() as u64) as usize];
     let round = n / calls.len() as u64;
-    let sample = match round % 4 {
-        0 => Sample { text: short(&mut r, seed, round / 4, call), ..Sample::default() },
-        _ if r.once_in(LIMITS) => Sample { text: limits::text(&mut r), ..Sample::default() },
-        _ => sample(&mut r, call),
-    };
-    write(&mut r, call, &sample, into);
+    match call {
+        b'p' => line::edit(into, &edit(&mut r, seed, round)),
+        b'P' => line::repair(into, &repairs::any(&mut r)),
+        _ => {
+            let sample = match round % 4 {
+                0 => Sample { text: short(&mut r, seed, round / 4, call), ..Sample::default() },
+                _ if r.once_in(LIMITS) => Sample { text: limits::text(&mut r), ..Sample::default() },
+                _ => sample(&mut r, call),
+            };
+            write(&mut r, call, &sample, into);
+        }
+    }
     if r.once_in(400) {
         spoil(&mut r, into);
+    }
+}
+
+/// Where the seed starts the walk through the short texts.
+fn first_short(seed: u64) -> u64 {
+    Random::of_case(seed, u64::MAX).next() >> 16
+}
+
+fn edit(r: &mut Random, seed: u64, round: u64) -> Edit {
+    match round % 4 {
+        0 => edits::of_short_text(r, first_short(seed) + round / 4),
+        _ => edits::any(r),
     }
 }
 
 /// The short texts, from a place that the seed chooses, behind what makes the call look further;
 /// one in eight is nearly UTF-8 instead.
 fn short(r: &mut Random, seed: u64, number: u64, call: u8) -> Vec<u8> {
-    let from = Random::of_case(seed, u64::MAX).next() >> 16;
+    let from = first_short(seed);
     if number % 8 == 7 {
         return alphabet::nearly_utf8(from + number / 8);
     }
@@ -187,12 +206,12 @@ fn room(r: &mut Random, entries: usize) -> u64 {
     }
 }
 
-/// Makes most lines no case.
+/// Makes most lines no case; it never changes a number of a tape that is to be repaired.
 fn spoil(r: &mut Random, line: &mut Vec<u8>) {
     let at = r.below(line.len().min(40));
     match r.below(8) {
         0 => line.insert(at, b' '),
-        1 => drop(line.pop()),
+        1 if line[0] != b'P' => drop(line.pop()),
         2 => line.push(b' '),
         3 => line.extend_from_slice(b" 0"),
         4 => line[at] = b'A',

@@ -27,13 +27,23 @@ const FORMS: &[(&str, &str, &str)] = &[
 /// Such a text; the filling is repeated until it fits.
 pub fn text(r: &mut Random) -> Vec<u8> {
     let size = r.number(SIZES) as usize;
-    let (front, filling, back) = FORMS[r.below(FORMS.len())];
-    let mut text = sized(front, filling, back, size);
+    let mut text = of_size(r, size);
     if r.once_in(4) {
         let last = text.len() - 1;
         text[last] = 0xc3;
     }
     text
+}
+
+/// A text that an edit of a few bytes makes too large.
+pub fn nearly_full(r: &mut Random) -> Vec<u8> {
+    let size = r.from(65_533, 65_536);
+    of_size(r, size)
+}
+
+fn of_size(r: &mut Random, size: usize) -> Vec<u8> {
+    let (front, filling, back) = FORMS[r.below(FORMS.len())];
+    sized(front, filling, back, size)
 }
 
 /// A text of that many bytes: spaces make up for what the filling leaves.

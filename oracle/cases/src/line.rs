@@ -1,4 +1,6 @@
 //! A case line: the call's letter, then words.
+use crate::edits::Edit;
+use crate::repairs::Repair;
 
 /// Appends ` ` and the number.
 pub fn number(line: &mut Vec<u8>, n: u64) {
@@ -103,4 +105,24 @@ pub fn walk_of(line: &mut Vec<u8>, limit: u64, links: u64, count: u64, numbers: 
     number(line, links);
     number(line, count);
     tape(line, numbers);
+}
+
+/// `p A B NEWHEX HEX`.
+pub fn edit(line: &mut Vec<u8>, edit: &Edit) {
+    line.push(b'p');
+    number(line, edit.from as u64);
+    number(line, edit.to as u64);
+    bytes(line, &edit.put);
+    bytes(line, &edit.text);
+}
+
+/// `P COUNT OLDLEN A B HEX N,N,..`.
+pub fn repair(line: &mut Vec<u8>, repair: &Repair) {
+    line.push(b'P');
+    number(line, repair.count);
+    number(line, repair.old_length);
+    number(line, repair.from);
+    number(line, repair.to);
+    bytes(line, &repair.new);
+    tape(line, &repair.tape);
 }

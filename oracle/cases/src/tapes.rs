@@ -1,4 +1,4 @@
-//! Small tapes for contents and walks, in order or not.
+//! Small tapes for contents, walks and repairs, in order or not.
 use crate::random::Random;
 
 /// Numbers in one entry.
@@ -92,7 +92,7 @@ pub fn limit(r: &mut Random) -> u64 {
 }
 
 /// Entries of these kinds one behind the other, with and without a gap between.
-fn laid(r: &mut Random, kinds: &[u32]) -> Vec<u32> {
+pub fn laid(r: &mut Random, kinds: &[u32]) -> Vec<u32> {
     let mut tape = Vec::new();
     let mut end = match r.below(16) {
         0 => 65_536 - kinds.len().min(100) as u32,

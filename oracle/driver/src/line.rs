@@ -1,9 +1,10 @@
 //! The words of a case line. Every function answers `None` for what is no such word.
 
-/// Buffers that serve from case to case: the text's bytes and the tape.
+/// Buffers that serve from case to case: the text's bytes, those that an edit puts in, and the tape.
 #[derive(Default)]
 pub struct Store {
     pub text: Vec<u8>,
+    pub put: Vec<u8>,
     pub tape: Vec<u32>,
 }
 

@@ -5,6 +5,7 @@ mod integer;
 mod line;
 mod read;
 mod refusal;
+mod repair;
 mod run;
 mod skip;
 mod structs;
@@ -29,6 +30,8 @@ fn answer(line: &[u8], store: &mut Store, out: &mut Vec<u8>) -> Option<Answer> {
         b's' => skip::skip(&mut words, store, out),
         b'w' => walk::of_text(&mut words, store, out),
         b'W' => walk::of_any_tape(&mut words, store, out),
+        b'p' => repair::of_text(&mut words, store, out),
+        b'P' => repair::of_any_tape(&mut words, store, out),
         _ => None,
     }
 }

@@ -2,6 +2,7 @@
 mod contents;
 mod integers;
 mod read;
+mod repair;
 mod skip;
 mod structs;
 mod utf8;
@@ -39,6 +40,8 @@ pub fn lines(call: u8) -> Lines {
         b'R' => read::with_rooms(&mut lines),
         b'w' => walk::of_text(&mut lines),
         b'W' => walk::of_any_tape(&mut lines),
+        b'p' => repair::of_text(&mut lines),
+        b'P' => repair::of_any_tape(&mut lines),
         _ => {}
     }
     lines
