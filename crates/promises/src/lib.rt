@@ -1,0 +1,1 @@
+// What is promised, on one page: proofs/Promises.antt. No code.
