@@ -1,1 +1,2 @@
+pub mod Walkable
 pub mod Promises

@@ -29,7 +29,9 @@ use Rattle.floats.proofs.Decides.{decides}
 use Rattle.reading.specs.Owed.{Laws, quietByte}
 use Rattle.reading.specs.Kept.{keptBehind}
 use Rattle.reading.specs.Readings.{counted, entries}
+use Rattle.rows.specs.Order.{inOrder}
 use Rattle.rows.specs.Rows.{entriesOf}
+use Rattle.promises.proofs.Walkable.{read-walkable}
 use Rattle.tokens.specs.Ron.{ronToken}
 use Rattle.tokens.proofs.RonLaws.{laws}
 use Rattle.read.specs.Read.{readAnswer, readTape, readingOf, laidBy, toldRead}
@@ -122,6 +124,10 @@ digits-read signed bits minus base positive run v = reads-exactly signed bits mi
 -- A float is exactly a text of the grammar of `f64::from_str`.
 pub floats-read : (s : List ℕ) → (accepts s Start ≡ true) ↔ Float s
 floats-read = decides
+
+-- The tape that an accepted read leaves is in order, so that `walk` never answers 23 of it.
+pub read-ordered : (text tape : List ℕ) (n : ℕ) → readAnswer text (length tape) ≡ accepted n → inOrder (entriesOf n (readTape text tape)) 65536 ≡ true
+read-ordered = read-walkable
 
 -- A walk accepts exactly the entries that are a document within the limit, where limit, order and room are fit; its links are then the document's, each bracket's its
 -- partner's number (`Links`: with a tree of the grammar, properly nested).
