@@ -1,4 +1,6 @@
 // Cases in, one to a line, and answers out.
+mod dispatch;
+
 use lines::input;
 use lines::out;
 
@@ -27,7 +29,7 @@ fn answer(
     if passing {
         return at;
     }
-    let a = cases::answer(line, text, tape, links, spare, o, at);
+    let a = dispatch::answer(line, text, tape, links, spare, o, at);
     out::byte(o, a, b'\n')
 }
 

@@ -1,5 +1,5 @@
 // Contents and decoded of an entry: the view, then the decoding into a marked buffer.
-use crate::marks;
+use lent::bytes;
 use lines::out;
 use sarridok::ContentsAnswer;
 use sarridok::DecodedAnswer;
@@ -30,10 +30,10 @@ fn both(text: &[u8], tape: &[u32], q: Asked, buffer: &mut [u8], o: &mut [u8], at
     let view = sarridok::contents(text, tape, q.count, q.entry);
     let a = show::contents::view(o, at, view);
     let b = out::bytes(o, a, b" | ");
-    marks::mark(buffer);
+    bytes::mark(buffer);
     let r = sarridok::decoded(text, tape, q.count, q.entry, buffer);
     let c = show::contents::decoded(o, b, r, &buffer[..]);
-    let clean = marks::kept(&buffer[..], written(r));
+    let clean = bytes::kept(&buffer[..], written(r));
     let part = sarridok::contents_part(text, tape, q.count, q.entry);
     show::clean(o, c, clean && agrees(view, text, part))
 }

@@ -1,41 +1,8 @@
-// A line of the case format, and its answer: a letter, a space and the letter's own words.
-mod any_c;
-mod c;
+// The lines of the case format that ask for an integer, a cursor, a struct's kind or the contents of an entry. Each takes the line's own words, room for the
+// bytes that they say, and a place of the output.
+pub mod any_c;
+pub mod c;
 mod contents;
-mod i;
-mod k;
-mod marks;
-mod s;
-
-// The answer at a place of the output; text and tape are room for what a line says, links and spare for what a call writes.
-pub fn answer(
-    line: &[u8],
-    text: &mut [u8],
-    tape: &mut [u32],
-    links: &mut [u32],
-    spare: &mut [u8],
-    o: &mut [u8],
-    at: usize,
-) -> usize {
-    if line.len() < 2 {
-        return show::bad(o, at);
-    }
-    if line[1] != b' ' {
-        return show::bad(o, at);
-    }
-    let letter = line[0];
-    match letter {
-        b'P' => tapes::repair_any::answer(&line[2..], text, tape, links, o, at),
-        b'p' => tapes::repair_text::answer(&line[2..], text, tape, links, o, at),
-        b'R' => tapes::read_any::answer(&line[2..], text, tape, o, at),
-        b'r' => tapes::read_text::answer(&line[2..], text, tape, o, at),
-        b'W' => tapes::walk_any::answer(&line[2..], tape, links, o, at),
-        b'w' => tapes::walk_text::answer(&line[2..], text, tape, links, o, at),
-        b'C' => any_c::answer(&line[2..], text, tape, spare, o, at),
-        b'c' => c::answer(&line[2..], text, spare, o, at),
-        b'i' => i::answer(&line[2..], text, o, at),
-        b'k' => k::answer(&line[2..], text, o, at),
-        b's' => s::answer(&line[2..], text, o, at),
-        _ => show::bad(o, at),
-    }
-}
+pub mod i;
+pub mod k;
+pub mod s;

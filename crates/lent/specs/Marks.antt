@@ -1,20 +1,24 @@
--- Marks on lent numbers (the program `answers`): what a call may not write is told by them.
+-- Marks on lent numbers and bytes (the program `answers`): what a call may not write is told by them.
 use Prim.Native.Nat.{ℕ, zero, suc, _+_, _-_, _%_}
 use mathlib.Core.Bool.{Bool, true, _&&_}
 use mathlib.Core.List.{List, [], _∷_}
 use lib.Dec.{eqb}
 use lib.ListN.{set}
 
--- The mark of place i.
+-- The mark of place i among numbers: larger than any that a call writes.
 unfoldable pub markAt : ℕ → ℕ
 markAt i = 4294967295 - i % 65536
 
+-- The mark of place i among bytes.
+unfoldable pub byteMarkAt : ℕ → ℕ
+byteMarkAt i = i % 251
+
 -- The numbers with n of them marked from place i on.
-unfoldable pub marked : ℕ → ℕ → List ℕ → List ℕ
-marked zero i s = s
-marked (suc n) i s = marked n (i + 1) (set s i (markAt i))
+unfoldable pub marked : (ℕ → ℕ) → ℕ → ℕ → List ℕ → List ℕ
+marked mark zero i s = s
+marked mark (suc n) i s = marked mark n (i + 1) (set s i (mark i))
 
 -- The numbers from place i on all have their marks.
-unfoldable pub keptFrom : List ℕ → ℕ → Bool
-keptFrom [] i = true
-keptFrom (a ∷ s) i = eqb a (markAt i) && keptFrom s (i + 1)
+unfoldable pub keptFrom : (ℕ → ℕ) → List ℕ → ℕ → Bool
+keptFrom mark [] i = true
+keptFrom mark (a ∷ s) i = eqb a (mark i) && keptFrom mark s (i + 1)

@@ -14,7 +14,7 @@ fn mark_at(i: usize) -> u32
 
 // Marks every number.
 pub fn mark(s: &mut [u32])
-    ensures { λ r. ⌜ now (s .exit) ≡ marked (length (now (s .entry))) 0 (now (s .entry)) ⌝ }
+    ensures { λ r. ⌜ now (s .exit) ≡ marked markAt (length (now (s .entry))) 0 (now (s .entry)) ⌝ }
 {
     let mut i: usize = 0;
     while i < s.len() {
@@ -25,7 +25,7 @@ pub fn mark(s: &mut [u32])
 
 // Whether all numbers from a place on still have their marks.
 pub fn kept(s: &[u32], from: usize) -> bool
-    ensures { λ r. ⌜ r ≡ keptFrom (drop from (now (s .entry))) from ⌝ }
+    ensures { λ r. ⌜ r ≡ keptFrom markAt (drop from (now (s .entry))) from ⌝ }
 {
     let mut i = from;
     while i < s.len() {

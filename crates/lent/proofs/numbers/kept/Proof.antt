@@ -3,13 +3,13 @@ use native.Mathlib.Omega.{arith}
 use mathlib.Core.Path.{_≡_, refl}
 use lib.ListN.{length, drop}
 use borrow.Author.Needs.{needs}
-use Rattle.lent.specs.Marks.{keptFrom}
+use Rattle.lent.specs.Marks.{markAt, keptFrom}
 use Rattle.lent.proofs.MarkLaws.{kept-off, kept-on, kept-ends}
 use Rattle.lent.proofs.numbers.kept.Statement.{statement}
 use Rattle.lent.proofs.numbers.kept.Tie as tie
 
 abbrev Inv-loop : tie.InvT-loop
-Inv-loop s from i₀ i = keptFrom (drop i s) i ≡ keptFrom (drop from s) from
+Inv-loop s from i₀ i = keptFrom markAt (drop i s) i ≡ keptFrom markAt (drop from s) from
 
 abbrev μ-loop : tie.MeasureT-loop
 μ-loop s from i₀ i = length s - i
@@ -27,7 +27,7 @@ mark-at-requires : tie.Need-mark-at-requires Inv-loop μ-loop
 mark-at-requires c κs = search needs
 
 returns : tie.Need-returns Inv-loop μ-loop
-returns c = kept-off (c .before .before .before .before .before .before .args .s .now) (c .before .before .before .before .before .before .args .from) (c .before .before .before .before .loop .i) (c .before .before .before .before .loop .inv) (omega arith) _ (c .before .mark-at .ensures) (c .if1 .taken)
+returns c = kept-off markAt (c .before .before .before .before .before .before .args .s .now) (c .before .before .before .before .before .before .args .from) (c .before .before .before .before .loop .i) (c .before .before .before .before .loop .inv) (omega arith) _ (c .before .mark-at .ensures) (c .if1 .taken)
 
 add-i : tie.Need-add-i Inv-loop μ-loop
 add-i c = search needs
@@ -36,10 +36,10 @@ loop-less : tie.Need-loop-less Inv-loop μ-loop
 loop-less c = search needs
 
 loop-again : tie.Need-loop-again Inv-loop μ-loop
-loop-again c = kept-on (c .before .before .before .before .before .before .args .s .now) (c .before .before .before .before .before .before .args .from) (c .before .before .before .before .loop .i) (c .before .before .before .before .loop .inv) (omega arith) _ (c .before .mark-at .ensures) (c .if1 .left)
+loop-again c = kept-on markAt (c .before .before .before .before .before .before .args .s .now) (c .before .before .before .before .before .before .args .from) (c .before .before .before .before .loop .i) (c .before .before .before .before .loop .inv) (omega arith) _ (c .before .mark-at .ensures) (c .if1 .left)
 
 returns-2 : tie.Need-returns-2 Inv-loop μ-loop
-returns-2 c = kept-ends (c .before .before .before .args .s .now) (c .before .before .before .args .from) (c .before .loop .i) (c .before .loop .inv) (omega arith)
+returns-2 c = kept-ends markAt (c .before .before .before .args .s .now) (c .before .before .before .args .from) (c .before .loop .i) (c .before .loop .inv) (omega arith)
 
 pub kept-spec : {M : Type 1} → statement M
 kept-spec =

@@ -3,18 +3,19 @@ use native.Mathlib.Omega.{arith}
 use mathlib.Core.Path.{_∙_, _≡_, refl}
 use lib.ListN.{length, length-set}
 use borrow.Author.Needs.{needs}
+use Rattle.lent.specs.Marks.{markAt}
 use Rattle.lent.proofs.MarkLaws.{Marking, mark-starts, mark-on, mark-ends}
 use Rattle.lent.proofs.numbers.mark.Statement.{statement}
 use Rattle.lent.proofs.numbers.mark.Tie as tie
 
 abbrev Inv-loop : tie.InvT-loop
-Inv-loop s₀ i₀ s i = (length s ≡ length s₀) × (i ≤ length s₀) × Marking s₀ s i
+Inv-loop s₀ i₀ s i = (length s ≡ length s₀) × (i ≤ length s₀) × Marking markAt s₀ s i
 
 abbrev μ-loop : tie.MeasureT-loop
 μ-loop s₀ i₀ s i = length s₀ - i
 
 loop-holds : tie.Need-loop-holds Inv-loop μ-loop
-loop-holds c = (refl, search needs, mark-starts (c .before .args .s .now))
+loop-holds c = (refl, search needs, mark-starts markAt (c .before .args .s .now))
 
 mark-at-requires : tie.Need-mark-at-requires Inv-loop μ-loop
 mark-at-requires c κs = search needs
@@ -32,13 +33,13 @@ loop-less : tie.Need-loop-less Inv-loop μ-loop
 loop-less c = search needs
 
 loop-again : tie.Need-loop-again Inv-loop μ-loop
-loop-again c = (length-set (c .before .before .loop .s) (c .before .before .loop .i) _ ∙ c .before .before .loop .inv .0, omega arith, mark-on (c .before .before .before .before .args .s .now) (c .before .before .loop .s) (c .before .before .loop .i) _ (c .before .before .loop .inv .2) (omega arith) (c .mark-at .ensures))
+loop-again c = (length-set (c .before .before .loop .s) (c .before .before .loop .i) _ ∙ c .before .before .loop .inv .0, omega arith, mark-on markAt (c .before .before .before .before .args .s .now) (c .before .before .loop .s) (c .before .before .loop .i) _ (c .before .before .loop .inv .2) (omega arith) (c .mark-at .ensures))
 
 same-length : tie.Need-same-length Inv-loop μ-loop
 same-length c = search needs
 
 returns : tie.Need-returns Inv-loop μ-loop
-returns c = mark-ends (c .before .before .before .args .s .now) (c .before .loop .s) (c .before .loop .i) (c .before .loop .inv .2) (omega arith)
+returns c = mark-ends markAt (c .before .before .before .args .s .now) (c .before .loop .s) (c .before .loop .i) (c .before .loop .inv .2) (omega arith)
 
 pub mark-spec : {M : Type 1} → statement M
 mark-spec =

@@ -1,7 +1,7 @@
 // `p A B NEWHEX HEX`: the last text read, its bytes from A to B replaced, and its tape repaired.
-use crate::copies;
 use crate::cuts;
 use crate::cuts::Cut;
+use lent::copies;
 use lent::numbers;
 use rows::row;
 use sarridok::ReadAnswer;

@@ -1,6 +1,6 @@
 // `P COUNT OLDLEN A B HEX N,N,..`: a repair of any tape. Accepted, every number of the slice is shown.
-use crate::copies;
 use crate::cuts::Cut;
+use lent::copies;
 use sarridok::RepairAnswer;
 use words::hex;
 use words::hex::Hex;

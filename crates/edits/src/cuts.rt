@@ -1,4 +1,8 @@
 // A cut of an old text, and the new text that it makes.
+use text::bytes::peek;
+ghost use Prim.Native.Nat.{_-_};
+ghost use mathlib.Core.Path.{_≡_};
+ghost use Rattle.edits.specs.Moves.{moved};
 
 // The tape's count, the old length, and the cut's ends.
 pub struct Cut {
@@ -8,23 +12,17 @@ pub struct Cut {
     pub b: usize,
 }
 
-// The byte at a place, 0 past the end.
-fn byte_at(s: &[u8], i: usize) -> u8 {
-    if i < s.len() {
-        return s[i];
-    }
-    0
-}
-
 // The bytes between two places to another place, as far as there is room.
-pub fn put(s: &mut [u8], from: usize, to: usize, at: usize) {
+pub fn put(s: &mut [u8], from: usize, to: usize, at: usize)
+    ensures { λ r. ⌜ now (s .exit) ≡ moved (to - from) from at (now (s .entry)) ⌝ }
+{
     let mut i = from;
     let mut k = at;
     while i < to {
         if s.len() <= k {
             return;
         }
-        let b = byte_at(&s[..], i);
+        let b = peek(&s[..], i);
         s[k] = b;
         k += 1;
         i += 1;
