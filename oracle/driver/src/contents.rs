@@ -34,12 +34,12 @@ pub fn of_any_tape(words: &mut Line, store: &mut Store, out: &mut Vec<u8>) -> Op
 }
 
 /// What stands between the quotes: a part of the text where nothing was escaped.
-enum Contents<'a> {
+pub enum Contents<'a> {
     Part(usize, &'a [u8]),
     Decoded(Vec<u8>),
 }
 
-fn contents<'a>(entry: usize, count: usize, tape: &[u32], bytes: &'a [u8]) -> Answer<Contents<'a>> {
+pub fn contents<'a>(entry: usize, count: usize, tape: &[u32], bytes: &'a [u8]) -> Answer<Contents<'a>> {
     let text = text(bytes)?;
     let inside = tape.chunks_exact(WIDTH).nth(entry);
     fit(entry < count)?;

@@ -29,7 +29,7 @@ fn typed_at(width: usize, place: usize, bytes: &[u8], out: &mut Vec<u8>) -> Answ
 }
 
 /// Widths are numbered as on the tape: i8, i16, i32, i64, u8, u16, u32, u64.
-fn value(width: usize, parser: &mut Parser) -> Answer<i128> {
+pub fn value(width: usize, parser: &mut Parser) -> Answer<i128> {
     Ok(match width {
         1 => run(parser, |p| p.integer::<i8>())?.into(),
         2 => run(parser, |p| p.integer::<i16>())?.into(),

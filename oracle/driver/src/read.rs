@@ -46,12 +46,18 @@ fn read(room: usize, bytes: &[u8], out: &mut Vec<u8>) -> Answer {
 
 /// The entries of a text.
 pub fn entries(text: &str) -> Answer<Vec<Entry>> {
-    let mut parser = parser_at(text, 0);
     let mut entries = Vec::new();
+    entries_into(text, &mut entries)?;
+    Ok(entries)
+}
+
+/// The same, put behind what a lent vector holds.
+pub fn entries_into(text: &str, entries: &mut Vec<Entry>) -> Answer {
+    let mut parser = parser_at(text, 0);
     loop {
         run(&mut parser, |p| p.skip_ws())?;
         if parser.src().is_empty() {
-            return Ok(entries);
+            return Ok(());
         }
         entries.push(entry(&mut parser)?);
     }

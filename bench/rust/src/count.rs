@@ -1,0 +1,45 @@
+//! One call, to be counted from outside.
+use crate::calls::walk;
+use crate::edits::Edit;
+use crate::sides::Sides;
+use crate::texts::{Kind, KINDS, SHORT, WORST};
+
+fn all() -> impl Iterator<Item = &'static Kind> {
+    KINDS.iter().chain([&SHORT]).chain(WORST)
+}
+
+pub fn kinds() {
+    for kind in KINDS.iter().chain([&SHORT]) {
+        println!("{}", kind.name);
+    }
+}
+
+pub fn worst() {
+    for kind in WORST {
+        println!("{}", kind.name);
+    }
+}
+
+/// What is counted happens in here.
+#[no_mangle]
+#[inline(never)]
+pub extern "Rust" fn versus_measured(call: &mut dyn FnMut()) {
+    call();
+}
+
+/// Prints the bytes of the text. CALL: a read by `ours`, `crate` or `lean`; a `walk`; a `repair` in the middle.
+pub fn one(call: &str, name: &str, size: &str) {
+    let kind = all().find(|k| k.name == name).expect("no such kind");
+    let sides = Sides::of(kind.text(size.parse().expect("no number of bytes")));
+    let edit = Edit::of_same(&sides);
+    let mut call = match call {
+        "ours" => sides.ours(),
+        "crate" => sides.theirs(),
+        "lean" => sides.lean(),
+        "walk" => walk(&sides),
+        "repair" => edit.there_only(),
+        _ => panic!("no such call"),
+    };
+    versus_measured(&mut call);
+    println!("{}", sides.text.len());
+}

@@ -1,0 +1,115 @@
+//! The third table: the cost of a byte at four sizes, for every call and for the worst cases. Where it stands, the cost is linear.
+use crate::calls::{decoded, part, walk, Typed};
+use crate::clock::{medians, Call};
+use crate::edits::Edit;
+use crate::ours;
+use crate::sides::Sides;
+use crate::texts::{Kind, KINDS, WORST};
+
+/// The crate's `StructType::NewtypeTuple`.
+const NEWTYPE_TUPLE: u64 = 2;
+const SIZES: [usize; 4] = [1024, 4096, 16_384, 65_536];
+
+pub fn tables() {
+    println!("## Cost of a byte, in nanoseconds, at four sizes\n");
+    println!("| call | text | 1 KiB | 4 KiB | 16 KiB | 64 KiB |\n|---|---|--:|--:|--:|--:|");
+    calls();
+    println!("\n## Worst cases of reading: nanoseconds a byte\n");
+    println!("| text | 1 KiB | 4 KiB | 16 KiB | 64 KiB | crate, 64 KiB | ratio |\n|---|--:|--:|--:|--:|--:|--:|");
+    WORST.iter().for_each(worst);
+    println!();
+}
+
+/// The time of a byte of the texts of a kind, by a call made of each.
+fn row(call: &str, kind: &Kind, make: impl Fn(&Sides) -> f64) {
+    print!("| {call} | {} |", kind.name);
+    for size in SIZES {
+        let sides = Sides::of(kind.text(size));
+        print!(" {:.3} |", make(&sides) / sides.text.len() as f64);
+    }
+    println!();
+}
+
+fn one(call: Call) -> f64 {
+    let [time] = medians([call]);
+    time
+}
+
+fn repair(edit: &Edit) -> f64 {
+    let (call, calls) = edit.call();
+    one(call) / calls
+}
+
+fn calls() {
+    let [canal, spaces, comments] = ["canal network", "spaces", "block comments"].map(named);
+    for kind in KINDS {
+        row("read", kind, |s| one(s.ours()));
+    }
+    for kind in KINDS {
+        row("walk", kind, |s| one(walk(s)));
+    }
+    for kind in KINDS {
+        row("repair, the middle byte put anew", kind, |s| repair(&Edit::of_same(s)));
+    }
+    row("repair, a digit in the middle", canal, |s| repair(&Edit::of_digit(s, s.text.len() / 2)));
+    row("repair, a comment in the front", canal, |s| repair(&Edit::of_comment(s, 0)));
+    row("repair, all of it", canal, |s| repair(&Edit::of(s, 0, s.text.len(), &s.text)));
+    row("integer", named("zeros and a one"), |s| one(typed(s, 0)));
+    row("integer behind the text", canal, |s| one(typed(s, s.text.len())));
+    row("contents", named("continuation bytes"), |s| one(string(s, part)));
+    row("decoded", named("continuation bytes"), |s| one(string(s, decoded)));
+    row("decoded", named("one string of escapes"), |s| one(string(s, decoded)));
+    row("struct_kind", canal, |s| one(struct_kind(s)));
+    row("struct_kind", named("marks only"), |s| one(struct_kind(s)));
+    row("skip", spaces, |s| one(skip(s)));
+    row("skip", comments, |s| one(skip(s)));
+}
+
+fn named(name: &str) -> &'static Kind {
+    KINDS.iter().chain(WORST).find(|k| k.name == name).expect("a kind")
+}
+
+fn typed(sides: &Sides, place: usize) -> Call<'_> {
+    let typed = Typed { text: sides.text.clone(), place, width: 8 };
+    typed.agree();
+    Box::new(move || {
+        std::hint::black_box(typed.ours());
+    })
+}
+
+fn string(sides: &Sides, call: fn(&Sides, &mut [u8]) -> u64) -> Call<'_> {
+    let mut out = vec![0; sides.text.len()];
+    assert!(!ours::is_refused(call(sides, &mut out)), "the string is refused");
+    Box::new(move || {
+        std::hint::black_box(call(sides, &mut out));
+    })
+}
+
+/// The kind of a tuple struct of one value, the text: told only where it ends.
+fn struct_kind(sides: &Sides) -> Call<'_> {
+    let text = [b"(", &sides.text[..], b")"].concat();
+    assert_eq!(ours::struct_kind(&text, 0, 0, 1), NEWTYPE_TUPLE);
+    Box::new(move || {
+        std::hint::black_box(ours::struct_kind(&text, 0, 0, 1));
+    })
+}
+
+fn skip(sides: &Sides) -> Call<'_> {
+    Box::new(|| {
+        std::hint::black_box(ours::skip(&sides.text));
+    })
+}
+
+fn worst(kind: &Kind) {
+    print!("| {} |", kind.name);
+    for size in SIZES {
+        let sides = Sides::of(kind.text(size));
+        let bytes = sides.text.len() as f64;
+        if size < SIZES[3] {
+            print!(" {:.3} |", one(sides.ours()) / bytes);
+        } else {
+            let [ours, theirs] = medians([sides.ours(), sides.theirs()]);
+            println!(" {:.3} | {:.3} | {:.2} |", ours / bytes, theirs / bytes, theirs / ours);
+        }
+    }
+}

@@ -1,0 +1,180 @@
+//! The calls.
+
+use crate::answer::taken_apart;
+use crate::kinds::{NewtypeMode, ParserCursor, Repaired, StructType, TupleMode, Value, Width};
+use crate::raw;
+use crate::Refused;
+
+/// Reads a text into a tape, four numbers to an entry, and answers the number of entries; what stands behind them stays.
+/// A text has at most as many entries as bytes.
+///
+/// ```
+/// let mut tape = [0; 24];
+/// assert_eq!(sarridok::read(b"Lock(id: 7)", &mut tape), Ok(6));
+/// assert_eq!(tape[16..20], [11, 9, 10, 5]);
+/// assert_eq!(sarridok::read(b"'\\xC3'", &mut tape).unwrap_err().to_string(), "refused 13 at 5: invalid escape");
+/// ```
+pub fn read(text: &[u8], tape: &mut [u32]) -> Result<usize, Refused> {
+    // Safety: both slices are valid for the call, and the one that is written is borrowed alone.
+    let answer = unsafe { raw::sarridok_read(text.as_ptr(), text.len(), tape.as_mut_ptr(), tape.len()) };
+    Ok(taken_apart(answer)?.low)
+}
+
+/// Joins the brackets of a tape, one link to an entry: a bracket's link is its partner, any other entry's its own number. `limit` is how many brackets may
+/// be open at once, 0 to 128.
+///
+/// ```
+/// let mut tape = [0; 16];
+/// let count = sarridok::read(b"[7]", &mut tape)?;
+/// let mut links = [0; 3];
+/// sarridok::walk(&tape, count, 128, &mut links)?;
+/// assert_eq!(links, [2, 1, 0]);
+/// assert_eq!(sarridok::walk(&tape, count, 0, &mut links).unwrap_err().number, 24);
+/// # Ok::<(), sarridok::Refused>(())
+/// ```
+pub fn walk(tape: &[u32], count: usize, limit: usize, links: &mut [u32]) -> Result<(), Refused> {
+    // Safety: as in `read`.
+    let answer = unsafe { raw::sarridok_walk(tape.as_ptr(), tape.len(), count, limit, links.as_mut_ptr(), links.len()) };
+    taken_apart(answer)?;
+    Ok(())
+}
+
+/// Makes the tape of an old text that of `text`: the old text had `old_len` bytes, and those from `a` to `b` were replaced. `count` is the number of old entries.
+///
+/// ```
+/// let mut tape = [0; 4 * 16];
+/// let count = sarridok::read(b"[7, 8, 9]", &mut tape)?;
+/// let repaired = sarridok::repair(&mut tape, count, 9, 4, 6, b"[7, /*8,*/ 9]")?;
+/// assert_eq!((repaired.count, repaired.before, repaired.behind), (5, 3, 2));
+/// # Ok::<(), sarridok::Refused>(())
+/// ```
+pub fn repair(tape: &mut [u32], count: usize, old_len: usize, a: usize, b: usize, text: &[u8]) -> Result<Repaired, Refused> {
+    let (mut before, mut behind) = (0, 0);
+    // Safety: as in `read`; the two numbers are this function's own.
+    let answer = unsafe {
+        raw::sarridok_repair(
+            tape.as_mut_ptr(),
+            tape.len(),
+            count,
+            old_len,
+            a,
+            b,
+            text.as_ptr(),
+            text.len(),
+            &mut before,
+            &mut behind,
+        )
+    };
+    let count = taken_apart(answer)?.low;
+    Ok(Repaired {
+        count,
+        before: before as usize,
+        behind: behind as usize,
+    })
+}
+
+/// The integer at a place, and the place behind it. A byte literal is `u8`.
+///
+/// ```
+/// use sarridok::{integer, Width};
+/// let (value, end) = integer(b"-128", 0, Width::I8)?;
+/// assert_eq!((i128::from(value), end), (-128, 4));
+/// assert_eq!(integer(b"256", 0, Width::U8).unwrap_err().to_string(), "refused 10 at 3: integer out of bounds");
+/// # Ok::<(), sarridok::Refused>(())
+/// ```
+pub fn integer(text: &[u8], place: usize, width: Width) -> Result<(Value, usize), Refused> {
+    let mut magnitude = 0;
+    // Safety: the slice is valid for the call; the number is this function's own.
+    let answer = unsafe { raw::sarridok_integer(text.as_ptr(), text.len(), place, width as u32, &mut magnitude) };
+    let pair = taken_apart(answer)?;
+    let minus = pair.high == 1;
+    Ok((Value { minus, magnitude }, pair.low))
+}
+
+/// The bytes inside the string or byte string that an entry names, where nothing in it was escaped.
+///
+/// ```
+/// let text = br#"["weir", "a\nb"]"#;
+/// let mut tape = [0; 4 * 16];
+/// let count = sarridok::read(text, &mut tape)?;
+/// assert_eq!(sarridok::contents(text, &tape, count, 1)?, b"weir");
+/// assert_eq!(sarridok::contents(text, &tape, count, 3).unwrap_err().number, 29);
+/// # Ok::<(), sarridok::Refused>(())
+/// ```
+pub fn contents<'a>(text: &'a [u8], tape: &[u32], count: usize, entry: usize) -> Result<&'a [u8], Refused> {
+    // Safety: both slices are valid for the call; nothing is written.
+    let answer = unsafe { raw::sarridok_contents(text.as_ptr(), text.len(), tape.as_ptr(), tape.len(), count, entry) };
+    let span = taken_apart(answer)?;
+    Ok(&text[span.high..span.low])
+}
+
+/// The same decoded, in every case: how many bytes stand at the front of `out`; what is behind them stays.
+///
+/// ```
+/// let text = br#""\xC3\xA9""#;
+/// let mut tape = [0; 4];
+/// let count = sarridok::read(text, &mut tape)?;
+/// let mut out = [0; 3];
+/// assert_eq!(sarridok::decoded(text, &tape, count, 0, &mut out), Ok(2));
+/// assert_eq!(out, [0xC3, 0xA9, 0]);
+/// # Ok::<(), sarridok::Refused>(())
+/// ```
+pub fn decoded(text: &[u8], tape: &[u32], count: usize, entry: usize, out: &mut [u8]) -> Result<usize, Refused> {
+    // Safety: as in `read`.
+    let answer = unsafe {
+        raw::sarridok_decoded(
+            text.as_ptr(),
+            text.len(),
+            tape.as_ptr(),
+            tape.len(),
+            count,
+            entry,
+            out.as_mut_ptr(),
+            out.len(),
+        )
+    };
+    Ok(taken_apart(answer)?.low)
+}
+
+/// The kind of the struct at a place.
+///
+/// ```
+/// use sarridok::{struct_kind, NewtypeMode, StructType, TupleMode};
+/// let kind = struct_kind(b"(\"a\"/*,*/)", 0, NewtypeMode::NoParensMeanUnit, TupleMode::DifferentiateNewtype)?;
+/// assert_eq!(kind, StructType::NewtypeTuple);
+/// # Ok::<(), sarridok::Refused>(())
+/// ```
+pub fn struct_kind(text: &[u8], place: usize, newtype: NewtypeMode, tuple: TupleMode) -> Result<StructType, Refused> {
+    // Safety: the slice is valid for the call; nothing is written.
+    let answer = unsafe { raw::sarridok_struct_kind(text.as_ptr(), text.len(), place, newtype as u32, tuple as u32) };
+    Ok(StructType::ALL[taken_apart(answer)?.low])
+}
+
+/// Behind the whitespace and comments at a cursor.
+///
+/// ```
+/// use sarridok::{skip, ParserCursor};
+/// let moved = skip(b"/* weir */ 7", ParserCursor::at(0))?;
+/// assert_eq!(moved, ParserCursor { cursor: 11, pre_ws_cursor: 0, last_ws_len: 11 });
+/// # Ok::<(), sarridok::Refused>(())
+/// ```
+pub fn skip(text: &[u8], cursor: ParserCursor) -> Result<ParserCursor, Refused> {
+    let (mut pre, mut len) = (0, 0);
+    // Safety: the slice is valid for the call; the two numbers are this function's own.
+    let answer = unsafe {
+        raw::sarridok_skip(
+            text.as_ptr(),
+            text.len(),
+            cursor.cursor,
+            cursor.pre_ws_cursor,
+            cursor.last_ws_len,
+            &mut pre,
+            &mut len,
+        )
+    };
+    Ok(ParserCursor {
+        cursor: taken_apart(answer)?.low,
+        pre_ws_cursor: pre as usize,
+        last_ws_len: len as usize,
+    })
+}

@@ -1,0 +1,40 @@
+//! The archive's functions, as `bindings/c/sarridok.h` has them. A slice is a pointer and a length.
+
+extern "C" {
+    pub fn sarridok_read(text: *const u8, text_len: usize, tape: *mut u32, tape_len: usize) -> u64;
+    pub fn sarridok_walk(tape: *const u32, tape_len: usize, count: usize, limit: usize, links: *mut u32, links_len: usize) -> u64;
+    pub fn sarridok_repair(
+        tape: *mut u32,
+        tape_len: usize,
+        count: usize,
+        old_len: usize,
+        a: usize,
+        b: usize,
+        text: *const u8,
+        text_len: usize,
+        before: *mut u64,
+        behind: *mut u64,
+    ) -> u64;
+    pub fn sarridok_integer(text: *const u8, text_len: usize, place: usize, width: u32, magnitude: *mut u64) -> u64;
+    pub fn sarridok_contents(text: *const u8, text_len: usize, tape: *const u32, tape_len: usize, count: usize, entry: usize) -> u64;
+    pub fn sarridok_decoded(
+        text: *const u8,
+        text_len: usize,
+        tape: *const u32,
+        tape_len: usize,
+        count: usize,
+        entry: usize,
+        out: *mut u8,
+        out_len: usize,
+    ) -> u64;
+    pub fn sarridok_struct_kind(text: *const u8, text_len: usize, place: usize, newtype: u32, tuple: u32) -> u64;
+    pub fn sarridok_skip(
+        text: *const u8,
+        text_len: usize,
+        cursor: usize,
+        pre_ws_cursor: usize,
+        last_ws_len: usize,
+        new_pre_ws_cursor: *mut u64,
+        new_last_ws_len: *mut u64,
+    ) -> u64;
+}

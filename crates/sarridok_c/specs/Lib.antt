@@ -1,0 +1,3 @@
+pub mod Packed
+pub mod Words
+pub mod Numbered

@@ -1,0 +1,24 @@
+// `walk`: 0.
+use crate::packing::refused;
+use sarridok::WalkAnswer;
+ghost use mathlib.Core.Path.{_≡_};
+ghost use lib.ListN.{length};
+ghost use Rattle.sarridok.specs.Walked.{told, walkOf, linksAfter};
+ghost use Rattle.sarridok_c.specs.Packed.{packed};
+ghost use Rattle.sarridok_c.specs.Words.{doneWord};
+
+fn word(answer: WalkAnswer) -> u64
+    ensures { λ r. ⌜ r ≡ packed doneWord (told answer) ⌝ }
+{
+    match answer {
+        WalkAnswer::Walked => 0,
+        WalkAnswer::Refused(refusal) => refused(refusal),
+    }
+}
+
+#[no_mangle]
+pub extern "C" fn sarridok_walk(tape: &[u32], count: usize, limit: usize, links: &mut [u32]) -> u64
+    ensures { λ r. ⌜ (r ≡ packed doneWord (walkOf (now (tape .entry)) count limit (length (now (links .entry))))) × (now (links .exit) ≡ linksAfter (now (tape .entry)) count limit (now (links .entry))) ⌝ }
+{
+    word(sarridok::walk(tape, count, limit, links))
+}
