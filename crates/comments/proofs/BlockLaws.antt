@@ -1,17 +1,24 @@
 -- Laws of block comments, at an index of the text, as the loop asks for them. Assumes nothing.
 use Prim.Native.Nat.{_+_, _-_, _<_, _≤_, suc, zero, ℕ}
-use native.Mathlib.Nat.{le-of-suc-le-suc, not-suc-le-zero}
+use native.Mathlib.Nat.{add-zero, le-of-suc-le-suc, not-suc-le-zero}
 use native.Mathlib.Numerals.{add-one}
 use native.Mathlib.Omega.{arith}
+use mathlib.Core.Bool.{true, _||_}
 use mathlib.Core.List.{List, [], _∷_}
-use mathlib.Core.Path.{_≡_, refl}
+use mathlib.Core.Path.{_∙_, _≡_, ap, refl, sym}
+use lib.Dec.{eqb}
 use lib.ListN.{drop, getD, length, length-drop}
+use lib.Seq.{drop-drop}
+use borrow.Author.Tests.{not-true}
 use Rattle.comments.specs.Blocks.{blockEnd, blockFrom, byMark, markOf}
 use Rattle.comments.specs.declared.block.CommentEnd.{CommentEnd}
 use Rattle.comments.specs.declared.block.CommentEnd.the-variants.{Closed, Unclosed}
 use Rattle.comments.specs.declared.block.Mark.{Mark}
 use Rattle.comments.specs.declared.block.Mark.the-variants.{Closes, Neither, Opens}
+use Rattle.search.specs.Others.{neither}
+use Rattle.text.proofs.Choices.{bool-cases, either, or-left, or-right}
 use Rattle.text.proofs.Lists.{front2, next}
+use Rattle.text.specs.Runs.{run}
 
 module _ (a b : ℕ) (s : List ℕ) (k at : ℕ) where
   pub step-opens : markOf a b ≡ Opens → blockFrom (a ∷ b ∷ s) k at ≡ blockFrom s (suc k) (at + 2)
@@ -49,6 +56,39 @@ module _ (s : List ℕ) (i : ℕ) (h : i + 1 < length s) where
       → blockAt l (drop i s) i ≡ blockAt l (drop (i + 1) s) (i + 1)
   block-neither zero p e = absurd (not-suc-le-zero p)
   block-neither (suc k) p e = rw (front2 s i h, next s i h) (step-neither _ _ _ _ _ e)
+
+-- ---- up to the next mark
+
+-- a byte that is neither `*` nor `/` begins no mark
+no-mark : (a b : ℕ) → neither 0x2a 0x2f a ≡ true → markOf a b ≡ Neither
+unfolding markOf neither
+no-mark a b e =
+    let n = not-true (eqb a 0x2a || eqb a 0x2f) e in
+    rw (or-left (eqb a 0x2a) (eqb a 0x2f) n, or-right (eqb a 0x2a) (eqb a 0x2f) n)
+
+-- and is passed
+passed : (a : ℕ) (t : List ℕ) (k at : ℕ) → neither 0x2a 0x2f a ≡ true → blockFrom (a ∷ t) k at ≡ blockFrom t k (at + 1)
+unfolding blockFrom
+passed a [] k at e = refl
+passed a (b ∷ t) k at e = step-neither a b t k at (no-mark a b e)
+
+passes : (t : List ℕ) (k at : ℕ) → blockFrom t k at ≡ blockFrom (drop (run (neither 0x2a 0x2f) t) t) k (at + run (neither 0x2a 0x2f) t)
+unfolding run
+passes [] k at = ap (blockFrom [] k) (sym (add-zero at))
+passes (a ∷ t) k at =
+    either (bool-cases (neither 0x2a 0x2f a))
+    (λ e.
+    let n = run (neither 0x2a 0x2f) t in
+    let j : at + 1 + n ≡ at + suc n = omega arith in
+    rw e (passed a t k at e ∙ passes t k (at + 1) ∙ ap (blockFrom (drop n t) k) j))
+    (λ e. rw e (ap (blockFrom (a ∷ t) k) (sym (add-zero at))))
+
+pub block-passes : (s : List ℕ) (i l j : ℕ) → 0 < l → j ≡ i + run (neither 0x2a 0x2f) (drop i s)
+    → blockAt l (drop i s) i ≡ blockAt l (drop j s) j
+block-passes s i zero j p e = absurd (not-suc-le-zero p)
+block-passes s i (suc k) j p e =
+    let n = run (neither 0x2a 0x2f) (drop i s) in
+    rw e (passes (drop i s) k i ∙ ap (λ (t : List ℕ). blockFrom t k (i + n)) (drop-drop n i s))
 
 -- with fewer than two bytes left, no comment is closed
 short : (t : List ℕ) (k at : ℕ) → length t < 2 → blockFrom t k at ≡ Unclosed

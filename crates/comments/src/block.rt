@@ -39,21 +39,22 @@ pub fn block_comment(s: &[u8]) -> CommentEnd
     let mut level: usize = 1;
     let mut i: usize = 0;
     while level > 0 {
-        if s.len() - i < 2 {
+        let at = search::find_either(s, i, b'*', b'/');
+        if s.len() - at < 2 {
             return CommentEnd::Unclosed;
         }
-        let m = mark_at(s[i], s[i + 1]);
+        let m = mark_at(s[at], s[at + 1]);
         match m {
             Mark::Opens => {
                 level += 1;
-                i += 2;
+                i = at + 2;
             }
             Mark::Closes => {
                 level -= 1;
-                i += 2;
+                i = at + 2;
             }
             Mark::Neither => {
-                i += 1;
+                i = at + 1;
             }
         }
     }

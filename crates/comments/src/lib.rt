@@ -8,5 +8,6 @@ pub use block::Mark;
 pub use block::block_comment;
 pub use block::mark_at;
 pub use gap::Gap;
+pub use gap::is_blank;
 pub use gap::skip_gap;
 pub use line::line_comment;

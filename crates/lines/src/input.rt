@@ -62,3 +62,15 @@ pub fn more(buf: &mut [u8], from: usize, to: usize) -> Input {
     shift(buf, from, to);
     read_behind(buf, to - from)
 }
+
+// Reads on to the end of the input, so that whoever writes it is not cut off; the turns are counted down, since a proved loop has to end.
+pub fn drain(rest: &mut [u8]) {
+    let mut turns = u64::MAX;
+    while 0 < turns {
+        let n = io::read_full(STDIN_FILENO, rest);
+        if n == 0 {
+            return;
+        }
+        turns -= 1;
+    }
+}

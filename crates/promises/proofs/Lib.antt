@@ -1,2 +1,11 @@
 pub mod Walkable
+pub mod TypedWritten
+pub mod IntegerWritten
+pub mod WrittenWorked
+pub mod AnyWritten
+pub mod EntryTokens
+pub mod IntegerTokens
+pub mod TokenKinds
+pub mod Decodable
+pub mod Retyped
 pub mod Promises

@@ -7,9 +7,9 @@ use mathlib.Core.List.{List, _++_}
 use mathlib.Core.Logic.{_↔_}
 use mathlib.Core.Path.{_≡_, ap, refl}
 use lib.ListN.{length, take, drop}
-use Rattle.text.specs.Refusals.{Told, accepted, refused}
+use Rattle.text.specs.Refusals.{Told, accepted, noRoom, refused}
 use Rattle.text.specs.declared.refusal.Refusal.{Refusal}
-use Rattle.text.specs.Judged.{behindJudged, judgedOf}
+use Rattle.text.specs.Judged.{behindJudged, judgedOf, placeFits}
 use Rattle.text.specs.declared.judge.Judged.{Judged}
 use Rattle.text.specs.declared.judge.Judged.the-variants.{Fit, Refused as NotFit}
 use Rattle.text.specs.Utf8.{Encoded, Scalar, encode, utf8Of}
@@ -21,7 +21,7 @@ use Rattle.comments.proofs.Nesting.{ends-body, body-ends, unclosed}
 use Rattle.digits.specs.Digits.{runOf}
 use Rattle.digits.specs.declared.Run.the-variants.{Value}
 use Rattle.integers.specs.Range.{Reads}
-use Rattle.integers.specs.Width.{limitOf}
+use Rattle.integers.specs.Width.{codeOf, limitOf}
 use Rattle.integers.proofs.Exactly.{reads-exactly}
 use Rattle.floats.specs.Grammar.{Float, accepts}
 use Rattle.floats.specs.declared.state.State.the-variants.{Start}
@@ -30,12 +30,17 @@ use Rattle.reading.specs.Owed.{Laws, quietByte}
 use Rattle.reading.specs.Kept.{keptBehind}
 use Rattle.reading.specs.Readings.{counted, entries}
 use Rattle.rows.specs.Order.{inOrder}
-use Rattle.rows.specs.Rows.{entriesOf}
+use Rattle.rows.specs.Rows.{entriesOf, entryAt}
+use Rattle.promises.specs.Strings.{Handed, IsString}
+use Rattle.promises.specs.Written.{AsByte, AsWritten, IsWritten, byteLiteral}
 use Rattle.promises.proofs.Walkable.{read-walkable}
+use Rattle.promises.proofs.Decodable.{read-decoded, read-too-long, read-contents, repair-decoded}
+use Rattle.promises.proofs.IntegerWritten.{accepted-byte, accepted-written, written-accepted}
+use Rattle.promises.proofs.Retyped.{read-integer}
 use Rattle.tokens.specs.Ron.{ronToken}
 use Rattle.tokens.proofs.RonLaws.{laws}
 use Rattle.read.specs.Read.{readAnswer, readTape, readingOf, laidBy, toldRead}
-use Rattle.repair.specs.Repair.{repairAnswerOf, repairOf, repairTapeOf, repairedTape, toldRepair, unlessRefused}
+use Rattle.repair.specs.Repair.{Repaired, repairAnswerOf, repairOf, repairTapeOf, repairedTape, toldRepair, unlessRefused}
 use Rattle.mending.specs.Fresh.{OldText, freshCall, freshCallTape, reaching}
 use Rattle.mending.proofs.Demand3.{demand3-call, reaches}
 use Rattle.cursor.specs.declared.ParserCursor.{ParserCursor}
@@ -43,6 +48,7 @@ use Rattle.cursor.specs.declared.skip.Step.{Step}
 use Rattle.entries.specs.Contents.{toldContents, toldDecoded}
 use Rattle.entries.specs.declared.view.ContentsAnswer.{ContentsAnswer}
 use Rattle.entries.specs.declared.decoding.DecodedAnswer.{DecodedAnswer}
+use Rattle.integers.specs.declared.integer.Value.{Value as Number}
 use Rattle.integers.specs.declared.width.Width.{Width}
 use Rattle.read.specs.declared.measure.ReadAnswer.{ReadAnswer}
 use Rattle.repair.specs.declared.repairer.RepairAnswer.{RepairAnswer}
@@ -52,7 +58,7 @@ use Rattle.sarridok.specs.declared.integer_call.IntegerAnswer.{IntegerAnswer}
 use Rattle.sarridok.specs.declared.struct_kind_call.StructKindAnswer.{StructKindAnswer}
 use Rattle.sarridok.specs.declared.walk_call.WalkAnswer.{WalkAnswer}
 use Rattle.sarridok.specs.Skip.{skipOf, told as toldSkip}
-use Rattle.sarridok.specs.Typed.{integerOf, told as toldInteger}
+use Rattle.sarridok.specs.Typed.{Typed, integerOf, told as toldInteger}
 use Rattle.sarridok.specs.StructKind.{structKindOf, toldStruct}
 use Rattle.sarridok.proofs.SkipDetermined.{skip-determined}
 use Rattle.sarridok.proofs.IntegerDetermined.{integer-determined}
@@ -125,6 +131,41 @@ digits-read signed bits minus base positive run v = reads-exactly signed bits mi
 pub floats-read : (s : List ℕ) → (accepts s Start ≡ true) ↔ Float s
 floats-read = decides
 
+-- What `integer` accepts, where no byte literal stands, is the number written at the place: by its sign, its prefix's base and its digits, the underscores left out.
+-- It is a number of the width, and the place answered is the one behind its digits and its suffix.
+pub integer-written : (text : List ℕ) (place : ℕ) (width : Width) (t : Typed) → byteLiteral (drop place text) ≡ false → integerOf text place width ≡ accepted t
+    → IsWritten width (drop place text) × AsWritten width (drop place text) place t
+integer-written = accepted-written
+
+-- And what is written there, fits the width and carries no other suffix is accepted.
+pub integer-accepts : (text : List ℕ) (place : ℕ) (width : Width) → judgedOf text ≡ Fit → placeFits text place ≡ true → IsWritten width (drop place text)
+    → (t : Typed) × (integerOf text place width ≡ accepted t)
+integer-accepts = written-accepted
+
+-- A byte literal is accepted as a u8 alone, with the byte that it stands for.
+pub integer-byte : (text : List ℕ) (place : ℕ) (width : Width) (t : Typed) → byteLiteral (drop place text) ≡ true → integerOf text place width ≡ accepted t
+    → AsByte width (drop place text) place t
+integer-byte = accepted-byte
+
+-- Every integer of an accepted read is accepted again by `integer`, in the width that its detail says, and ends where its entry does.
+pub integer-again : (text tape : List ℕ) (count k : ℕ) (width : Width) → readAnswer text (length tape) ≡ accepted count → k < count
+    → entryAt (readTape text tape) k .kind ≡ 11 → codeOf width ≡ entryAt (readTape text tape) k .detail
+    → (v : Number) × (integerOf text (entryAt (readTape text tape) k .start) width ≡ accepted (record { number = v; end = entryAt (readTape text tape) k .end }))
+integer-again = read-integer
+
+-- Every string of an accepted read can be decoded: with room for as many bytes as its detail says that many are written, with less it is 22; its contents are
+-- a part of the text with so many bytes, or 29.
+module _ (text tape : List ℕ) (count k : ℕ) (e : readAnswer text (length tape) ≡ accepted count) (i : k < count) (is : IsString (entryAt (readTape text tape) k)) where
+  pub decoded-accepts : (room : ℕ) → entryAt (readTape text tape) k .detail ≤ room
+      → decodedAnswer text (readTape text tape) count k room ≡ accepted (entryAt (readTape text tape) k .detail)
+  decoded-accepts = read-decoded text tape count k e i is
+
+  pub decoded-lacks-room : (room : ℕ) → room < entryAt (readTape text tape) k .detail → decodedAnswer text (readTape text tape) count k room ≡ refused noRoom
+  decoded-lacks-room = read-too-long text tape count k e i is
+
+  pub contents-handed : Handed text (readTape text tape) count k
+  contents-handed = read-contents text tape count k e i is
+
 -- The tape that an accepted read leaves is in order, so that `walk` never answers 23 of it.
 pub read-ordered : (text tape : List ℕ) (n : ℕ) → readAnswer text (length tape) ≡ accepted n → inOrder (entriesOf n (readTape text tape)) 65536 ≡ true
 read-ordered = read-walkable
@@ -152,6 +193,12 @@ module _ (old tape : List ℕ) (count a b e : ℕ) (new : List ℕ) (O : OldText
   pub repair-reaches : (n : ℕ) → counted 0 (readingOf new) ≡ accepted n
       → keptBehind (length old) (length new) e (entriesOf count tape) (entries (readingOf new)) ≡ reaching (length old) (length new) e (entriesOf count tape) (entries (readingOf new))
   repair-reaches n h = reaches old tape count a b e new O n h
+
+  -- The strings of an accepted repair can be decoded as those of a read.
+  pub repair-decodes : (p : Repaired) → repairOf tape count (length old) a b new ≡ accepted p → (k room : ℕ) → k < p .count
+      → IsString (entryAt (repairedTape tape count (length old) a b new) k) → entryAt (repairedTape tape count (length old) a b new) k .detail ≤ room
+      → decodedAnswer new (repairedTape tape count (length old) a b new) (p .count) k room ≡ accepted (entryAt (repairedTape tape count (length old) a b new) k .detail)
+  repair-decodes = repair-decoded old tape count a b e new O
 
 -- ---- for each call, two answers that meet its promise are equal, and so are the slices afterwards
 

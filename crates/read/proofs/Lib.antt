@@ -1,3 +1,3 @@
 pub mod ReadSteps
-pub mod FillLaws
+pub mod PassLaws
 pub mod ReadLaws

@@ -2,16 +2,22 @@
 use Prim.Native.Nat.{ℕ, _+_, _-_, _<_, _≤_}
 use native.Mathlib.Omega.{arith}
 use mathlib.Core.List.{List}
-use mathlib.Core.Path.{_≡_, ap, sym, _∙_}
+use mathlib.Core.Path.{_≡_, ap, ap₂, subst, sym, _∙_}
 use lib.ListN.{drop, length, take, length-drop}
 use Rattle.text.proofs.Lists.{tail-part}
+use Rattle.text.proofs.RunLaws.{run-le}
+use Rattle.text.specs.Classes.{blank1}
 use Rattle.text.specs.Refusals.{placedBehind}
+use Rattle.text.specs.Runs.{run}
 use Rattle.text.specs.declared.refusal.Refusal.{Refusal}
+use Rattle.plain.proofs.PlainBlanks.{from-blanks}
+use Rattle.plain.proofs.PlainLaws.{plain-token}
+use Rattle.plain.specs.Plain.{plainOf}
 use Rattle.reading.proofs.Steps.{from-token, from-stop, from-refuse}
 use Rattle.reading.specs.Owed.{quietByte}
-use Rattle.reading.specs.Readings.{Reading, broken, complete, entry, readFrom}
-use Rattle.reading.specs.Tokens.{Token as Answered}
-use Rattle.tokens.proofs.RonLaws.{laws, lexed, refused-within, token-is}
+use Rattle.reading.specs.Readings.{broken, complete, entry, readFrom}
+use Rattle.reading.specs.Tokens.{Token as Answered, token}
+use Rattle.tokens.proofs.RonLaws.{laws, lexed, refused-within}
 use Rattle.tokens.specs.Ron.{answerOf, ronToken}
 use Rattle.tokens.specs.declared.following.Following.{Following}
 use Rattle.tokens.specs.declared.following.Following.the-variants.{End, Refused, Token}
@@ -46,3 +52,31 @@ module _ (text : List ℕ) (at : ℕ) (f : Following) (h : answerOf f ≡ ronTok
 
   pub refuse-within : (r : Refusal) → f ≡ Refused r → r .place ≤ length text - at
   refuse-within r e = omega (arith, refused-within (drop at text) r (here ∙ ap answerOf e), length-drop at text)
+
+-- ---- a plain token there
+
+module _ (text : List ℕ) (at : ℕ) (l : Lexeme) (e : l ≡ plainOf (drop at text)) (h : 0 < l .len) where
+  stands : ronToken (drop at text) ≡ token (tokenAt 0 l)
+  stands = subst (λ (x : Lexeme). 0 < x .len → ronToken (drop at text) ≡ token (tokenAt 0 x)) (sym e) (plain-token (drop at text)) h
+
+  pub step-plain : readFrom ronToken text at ≡ entry (record { kind = l .kind; start = at; end = at + l .len; detail = l .detail }) (readFrom ronToken text (at + l .len))
+  step-plain =
+      let start : at + 0 ≡ at = omega arith in
+      let end : at + (0 + l .len) ≡ at + l .len = omega arith in
+      from-token ronToken quietByte laws text at (tokenAt 0 l) stands
+      ∙ ap₂ (λ (b c : ℕ). entry (record { kind = l .kind; start = b; end = c; detail = l .detail }) (readFrom ronToken text c)) start end
+
+  pub plain-within : (at + l .len ≤ length text) × (l .detail < length text + 0x110000)
+  plain-within =
+      let w = lexed (drop at text) (tokenAt 0 l) stands in
+      let n = length-drop at text in
+      (omega (arith, w .1), omega (arith, w .4))
+
+-- ---- blanks there
+
+module _ (text : List ℕ) (at front : ℕ) (e : front ≡ at + run blank1 (drop at text)) where
+  pub step-blanks : readFrom ronToken text at ≡ readFrom ronToken text front
+  step-blanks = from-blanks text at ∙ ap (readFrom ronToken text) (sym e)
+
+  pub blanks-within : at ≤ length text → front ≤ length text
+  blanks-within h = omega (arith, run-le blank1 (drop at text), length-drop at text)

@@ -1,7 +1,6 @@
 // The first pass: nothing is written.
+use crate::pass::pass;
 use text::Refusal;
-use tokens::following::Following;
-use tokens::following::next_token;
 ghost use mathlib.Core.Path.{_≡_};
 ghost use Prim.Native.Nat.{_≤_};
 ghost use lib.ListN.{length};
@@ -15,27 +14,12 @@ pub enum ReadAnswer {
     Refused(Refusal),
 }
 
-// How many entries a text has, or its refusal.
+// How many entries a text has, or its refusal; there are no more than bytes.
 pub fn measure(text: &[u8]) -> ReadAnswer
     requires { ⌜ length (now text) ≤ 65536 ⌝ }
     ensures { λ r. ⌜ toldRead r ≡ counted 0 (readFrom ronToken (now (text .entry)) 0) ⌝ }
 {
-    let mut at = 0;
-    let mut n = 0;
-    while at < text.len() {
-        let found = next_token(&text[at..]);
-        match found {
-            Following::Token(g, l) => {
-                at = at + g + l.len;
-                n += 1;
-            }
-            Following::End => {
-                return ReadAnswer::Accepted(n);
-            }
-            Following::Refused(refusal) => {
-                return ReadAnswer::Refused(refusal.placed_behind(at));
-            }
-        }
-    }
-    ReadAnswer::Accepted(n)
+    let mut none = [0u32; 1];
+    let all = text.len() + 1;
+    pass(text, 0, &mut none, all, false)
 }

@@ -1,12 +1,12 @@
 -- What a repair finds lies within its text and tape, whatever the tape in order is. Assumes nothing.
-use Prim.Native.Nat.{_+_, _<_, _≤_, suc, ℕ, _-_}
+use Prim.Native.Nat.{_*_, _+_, _-_, _<_, _≤_, suc, zero, ℕ}
 use native.Mathlib.Omega.{arith}
 use mathlib.Core.Bool.{false, Bool, _&&_, cond, true}
 use mathlib.Core.List.{List, [], _∷_}
 use mathlib.Core.Path.{_≡_, ap, refl, subst, sym, _∙_}
 use lib.Dec.{leb, ltb}
 use lib.ListN.{drop, getD, length, length-drop, length-take, take}
-use borrow.Author.Tests.{eqb-true, leb-true, ltb-true}
+use borrow.Author.Tests.{eqb-true, le-leb, leb-true, lt-ltb, ltb-true}
 use Rattle.reading.proofs.Entries.{read-in-order}
 use Rattle.reading.proofs.QuietLaws.{last-le}
 use Rattle.reading.specs.Kept.{lastQuiet}
@@ -16,16 +16,18 @@ use Rattle.reading.specs.Readings.Reading.{broken, complete, entry}
 use Rattle.repair.proofs.Checks.{Fits}
 use Rattle.repair.proofs.Leading.{lead-at, lead-le}
 use Rattle.repair.specs.Repair.{endsBefore, foundOf, joins, keptOf, leading, movedAt, newEnd, noEntry, resumeAt, scanOf, seekOf}
+use Rattle.repair.specs.Steps.{Movable, startsBefore}
 use Rattle.repair.specs.declared.join.Scan.the-variants.{Found}
-use Rattle.rows.proofs.OrderLaws.{in-order-row, in-order-short}
+use Rattle.rows.proofs.OrderLaws.{in-order-first, in-order-row, in-order-short}
 use Rattle.rows.proofs.RowLaws.{length-entries}
-use Rattle.rows.specs.Order.{inOrder}
-use Rattle.rows.specs.Rows.{entriesOf}
+use Rattle.rows.specs.Order.{inOrder, inOrderFrom, orderly}
+use Rattle.rows.specs.Rows.{entriesOf, width}
 use Rattle.rows.specs.declared.Entry.{Entry}
 use Rattle.text.proofs.Choices.{and-true, either, lt-or-le}
+use Rattle.text.specs.Classes.{within}
 use Rattle.tokens.proofs.RonLaws.{kinds, laws}
 use Rattle.tokens.specs.Ron.{ronToken}
-use Rattle.repair.proofs.Rows.{entries-take}
+use Rattle.repair.proofs.Rows.{entries-drop, entries-take}
 use Rattle.repair.specs.declared.join.Scan.{Scan}
 
 -- ---- readings
@@ -55,6 +57,34 @@ resume-le q x (y ∷ l) at h k = go (endsBefore q y) refl (λ p. resume-le q x l
     go : (t : Bool) → endsBefore q y ≡ t → (y .end ≤ x → endOf (y .end) (take (leading (endsBefore q) l) l) ≤ x) → endOf at (take (cond t (suc (leading (endsBefore q) l)) 0) (y ∷ l)) ≤ x
     go true e f = f (omega (arith, ltb-true (y .end) q e))
     go false e f = h
+
+-- entries kept start before the cut's end
+kept-starts : (q b : ℕ) (l : List Entry) (at o : ℕ) → q ≤ b → inOrderFrom l at o ≡ true → leading (endsBefore q) l ≤ leading (startsBefore b) l
+unfolding leading
+kept-starts q b [] at o k h = omega arith
+kept-starts q b (y ∷ l) at o k h = let p = in-order-first y l at o h in go (endsBefore q y) refl (p .0 .some) (kept-starts q b l (y .end) o k (p .1))
+  where
+    go : (t : Bool) → endsBefore q y ≡ t → y .start < y .end → leading (endsBefore q) l ≤ leading (startsBefore b) l → cond t (suc (leading (endsBefore q) l)) 0 ≤ cond (startsBefore b y) (suc (leading (startsBefore b) l)) 0
+    go true e s r = rw (lt-ltb (y .start) b (omega (arith, ltb-true (y .end) q e))) (omega arith)
+    go false e s r = omega arith
+
+-- ---- entries in order from a place on
+
+order-behind : (x : Entry) (l : List Entry) (at b o : ℕ) → inOrderFrom (x ∷ l) at o ≡ true → b ≤ x .start → inOrderFrom (x ∷ l) b o ≡ true
+unfolding inOrderFrom orderly
+order-behind x l at b o h k =
+    let p = and-true (orderly at x) (inOrderFrom l (x .end) o) h in
+    let q = and-true (within 1 16 (x .kind)) (leb at (x .start) && ltb (x .start) (x .end)) (p .0) in
+    let r = and-true (leb at (x .start)) (ltb (x .start) (x .end)) (q .1) in
+    rw (q .0, le-leb b (x .start) k, r .1) (p .1)
+
+-- those from row k on, where that one starts at b or behind it
+order-at : (l : List Entry) (at o b k : ℕ) → inOrderFrom l at o ≡ true → b ≤ o → (k < length l → b ≤ getD l k noEntry .start) → inOrderFrom (drop k l) b o ≡ true
+unfolding inOrderFrom
+order-at [] at o b zero h j f = le-leb b o j
+order-at [] at o b (suc k) h j f = le-leb b o j
+order-at (x ∷ l) at o b zero h j f = order-behind x l at b o h (f (omega arith))
+order-at (x ∷ l) at o b (suc k) h j f = order-at l (x .end) o b k (in-order-first x l at o h .1) j (λ q. f (omega arith))
 
 -- ---- the join
 
@@ -117,6 +147,11 @@ module _ (t : List ℕ) (count o a b : ℕ) (text : List ℕ) (F : Fits t count 
   pub resume-inside : resumeAt (entriesOf count t) (keptOf (entriesOf count t) a text) ≤ length text
   resume-inside = omega (arith, cut-inside, resume-le q a old 0 (omega arith) quiet-le)
 
+  -- the search for the join may begin behind the entries kept
+  pub kept-early : (j′ : ℕ) → j′ ≡ keptOf (entriesOf count t) a text → j′ ≤ leading (startsBefore b) (entriesOf count t)
+  unfolding inOrder
+  kept-early j′ h = omega (arith, kept-starts q b old 0 o (omega (arith, quiet-le, F .cuts .cut)) (F .sorted))
+
   module _ (m i : ℕ) (found : foundOf (entriesOf count t) (keptOf (entriesOf count t) a text) b (newEnd o b (length text)) text ≡ Found m i) where
     bounds : Bounds old b (0 + length (entries (readFrom ronToken text (resumeAt old j)))) m i
     bounds = found-bounds old b e (readFrom ronToken text (resumeAt old j)) 0 m i found
@@ -137,6 +172,14 @@ module _ (t : List ℕ) (count o a b : ℕ) (text : List ℕ) (F : Fits t count 
 
     pub join-behind : keptOf (entriesOf count t) a text ≤ i
     join-behind = either (lt-or-le i j) (λ h. absurd (clash h)) (λ h. h)
+
+    -- the entries behind the join may be moved
+    pub behind-movable : length text ≤ 65536 → (j′ : ℕ) → j′ ≡ keptOf (entriesOf count t) a text → Movable b (newEnd o b (length text)) (entriesOf (count - i) (drop (width * (j′ + (i - j′))) t))
+    unfolding inOrder
+    behind-movable short j′ h =
+        let z : j′ + (i - j′) ≡ i = omega (arith, join-behind) in
+        let rows : entriesOf (count - i) (drop (width * (j′ + (i - j′))) t) ≡ drop i old = ap (λ (k : ℕ). entriesOf (count - i) (drop (width * k) t)) z ∙ sym (entries-drop count i t join-le) in
+        (o, ap (λ (l : List Entry). inOrderFrom l b o) rows ∙ order-at old 0 o b i (F .sorted) (F .cuts .inOld) (bounds .late), omega (arith, F .cuts .inOld, F .cuts .lengths))
 
     pub few-new : (p : ℕ) → p ≡ resumeAt (entriesOf count t) (keptOf (entriesOf count t) a text) → m ≤ length (entries (readFrom ronToken text p))
     few-new p h = subst (λ (x : ℕ). m ≤ length (entries (readFrom ronToken text x))) (sym h) new-few

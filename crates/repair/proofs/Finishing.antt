@@ -14,7 +14,7 @@ use Rattle.repair.proofs.Clearing.{tape-is}
 use Rattle.repair.proofs.Finding.{join-behind, join-le}
 use Rattle.repair.proofs.Rows.{entries-drop, entries-take}
 use Rattle.repair.specs.Repair.{Repaired, answerBy, cleared, entriesBy, foundOf, keptOf, movedFrom, newEnd, repairAnswerOf, repairFits, repairTapeOf, resumeAt, tapeBy}
-use Rattle.repair.specs.Steps.{clipped, clippedFrom, finishAnswer, finishTape}
+use Rattle.repair.specs.Steps.{Movable, clipped, clippedFrom, finishAnswer, finishTape}
 use Rattle.repair.specs.declared.join.Scan.{Scan}
 use Rattle.repair.specs.declared.join.Scan.the-variants.{Found, Refused as Failed}
 use Rattle.repair.specs.declared.rewrite.Rest.{Rest}
@@ -43,6 +43,13 @@ module _ (t : List ℕ) (j : ℕ) (text : List ℕ) (rest : Rest) where
   -- what the lent part comes to
   abbrev pub anew : List ℕ → List ℕ
   anew part = laid (take (rest .n) (entries (readFrom ronToken text (rest .from))) ++ map (clippedFrom (rest .b) (rest .e)) (entriesOf (rest .m) (drop (width * rest .f) part))) (cleared (rest .f + rest .m) part)
+
+  -- its rows to be moved are the tape's
+  pub part-movable : (x : ℕ) → x ≡ width * j → Movable (rest .b) (rest .e) (entriesOf (rest .m) (drop (width * (j + rest .f)) t)) → Movable (rest .b) (rest .e) (entriesOf (rest .m) (drop (width * rest .f) (take (length t - x) (drop x t))))
+  part-movable x ex v =
+      let w : x + width * rest .f ≡ width * (j + rest .f) = omega arith in
+      let same : drop (width * rest .f) (take (length t - x) (drop x t)) ≡ drop (width * (j + rest .f)) t = ap (drop (width * rest .f)) (tail-part t x) ∙ drop-drop (width * rest .f) x t ∙ ap (λ (k : ℕ). drop k t) w in
+      subst (λ (l : List ℕ). Movable (rest .b) (rest .e) (entriesOf (rest .m) l)) (sym same) v
 
   pub finish-tape : j + rest .n + rest .m ≤ roomOf (length t) → width * j ≤ length t → (x : ℕ) → x ≡ width * j → (s : List ℕ) → s ≡ anew (take (length t - x) (drop x t))
       → take x t ++ (s ++ drop (length t - x) (drop x t)) ≡ finishTape t j text rest

@@ -1,13 +1,14 @@
 -- Entries laid on a tape from a row on, and the loops that move and clear rows. Assumes nothing.
-use Prim.Native.Nat.{_*_, _+_, _-_, _≤_, suc, zero, ℕ}
+use Prim.Native.Nat.{_*_, _+_, _-_, _<_, _≤_, suc, zero, ℕ}
 use native.Mathlib.Numerals.{add-one}
 use native.Mathlib.Omega.{arith}
 use mathlib.Core.List.{[], _++_, _∷_, append-assoc, append-nil, map, List}
-use mathlib.Core.Path.{_∙_, _≡_, ap, ap₂, refl, sym}
+use mathlib.Core.Path.{_∙_, _≡_, ap, ap₂, refl, subst, sym}
 use lib.ListN.{drop, drop-of-length-le, length, length-append, length-drop, length-map, length-replicate, replicate, take, take-append-drop}
 use lib.Seq.{drop-at, drop-cons, drop-drop, length-take-le, take-append-le, take-at, take-take}
 use Rattle.repair.specs.Repair.{noEntry}
-use Rattle.repair.specs.Steps.{clipped, clippedFrom, emptied, laidAt, shifted}
+use Rattle.repair.specs.Steps.{Movable, MovableRow, clipped, clippedFrom, emptied, laidAt, shifted}
+use Rattle.rows.proofs.OrderLaws.{in-order-row}
 use Rattle.rows.proofs.RowLaws.{entries-at, entries-last, entry-agree, entry-part, flat-append, length-entries, length-flat}
 use Rattle.rows.specs.Rows.{cells, entriesOf, entryAt, entryOf, flat, width, written}
 use Rattle.rows.specs.declared.Entry.{Entry}
@@ -108,14 +109,29 @@ module _ (b e m f g : ℕ) (t : List ℕ) where
   pub up-length : (k : ℕ) (s : List ℕ) → width * (g + k) ≤ length t → Up k s → length s ≡ length t
   up-length k s h inv = ap length inv ∙ length-laid g (ups k) t (omega (arith, count-ups k))
 
-  pub up-goes : (k : ℕ) (s s′ : List ℕ) → g ≤ f → width * (f + k + 1) ≤ length t → Up k s → s′ ≡ written s (g + k) (clippedFrom b e (entryAt s (f + k))) → Up (k + 1) s′
+  -- the row to be moved next is as it was
+  up-here : (k : ℕ) (s : List ℕ) → g ≤ f → width * (f + k + 1) ≤ length t → Up k s → entryAt s (f + k) ≡ entryAt (drop (width * f) t) k
   unfolding entryAt
+  up-here k s gf h inv =
+      let c = count-ups k in
+      ap (λ (u : List ℕ). entryAt u (f + k)) inv ∙ ap entryOf (drop-laid g (ups k) t (omega arith) (width * (f + k)) (omega arith)) ∙ sym (entry-part f k t)
+
+  -- and may be moved
+  row-movable : (k : ℕ) (x : Entry) → k < m → x ≡ entryAt (drop (width * f) t) k → Movable b e (entriesOf m (drop (width * f) t)) → MovableRow b e x
+  row-movable k x h is v =
+      let rows : List Entry = entriesOf m (drop (width * f) t) in
+      let r = in-order-row rows b (v .0) (v .1) k noEntry (omega (arith, length-entries m (drop (width * f) t))) in
+      subst (MovableRow b e) (entries-at m k (drop (width * f) t) noEntry h ∙ sym is)
+      (record { behind = r .orderly-there .behind; some = omega (arith, r .orderly-there .some); inside = omega (arith, r .inside, v .2) })
+
+  pub up-movable : (k : ℕ) (s : List ℕ) → k < m → g ≤ f → width * (f + k + 1) ≤ length t → Movable b e (entriesOf m (drop (width * f) t)) → Up k s → MovableRow b e (entryAt s (f + k))
+  up-movable k s l gf h v inv = row-movable k (entryAt s (f + k)) l (up-here k s gf h inv) v
+
+  pub up-goes : (k : ℕ) (s s′ : List ℕ) → g ≤ f → width * (f + k + 1) ≤ length t → Up k s → s′ ≡ written s (g + k) (clippedFrom b e (entryAt s (f + k))) → Up (k + 1) s′
   up-goes k s s′ gf h inv w =
       let c = count-ups k in
-      let here : entryAt s (f + k) ≡ entryAt (drop (width * f) t) k =
-      ap (λ (u : List ℕ). entryAt u (f + k)) inv ∙ ap entryOf (drop-laid g (ups k) t (omega arith) (width * (f + k)) (omega arith)) ∙ sym (entry-part f k t) in
       w
-      ∙ ap₂ (λ (u : List ℕ) (x : Entry). written u (g + k) (clippedFrom b e x)) inv here
+      ∙ ap₂ (λ (u : List ℕ) (x : Entry). written u (g + k) (clippedFrom b e x)) inv (up-here k s gf h inv)
       ∙ laid-next g (ups k) t (g + k) (clippedFrom b e (entryAt (drop (width * f) t) k)) (omega arith) (omega arith)
       ∙ ap (λ (l : List Entry). laidAt g l t) (sym (map-last (clippedFrom b e) (entriesOf k (drop (width * f) t)) (entryAt (drop (width * f) t) k)) ∙ ap (map (clippedFrom b e)) (sym (entries-last k (drop (width * f) t))))
 
@@ -138,19 +154,26 @@ module _ (b e m f g : ℕ) (t : List ℕ) where
   pub down-length : (k : ℕ) (s : List ℕ) → k ≤ m → width * (g + m) ≤ length t → Down k s → length s ≡ length t
   down-length k s l h inv = ap length inv ∙ length-laid (g + k) (rest k) t (omega (arith, count-rest k))
 
+  down-here : (k j : ℕ) (s : List ℕ) → k ≡ j + 1 → k ≤ m → f ≤ g → width * (g + m) ≤ length t → Down k s → entryAt s (f + j) ≡ entryAt t (f + j)
+  down-here k j s kj l fg h inv =
+      let c = count-rest k in
+      let fit : width * (g + k + length (rest k)) ≤ length t = omega arith in
+      ap (λ (u : List ℕ). entryAt u (f + j)) inv
+      ∙ entry-agree (f + j) (laidAt (g + k) (rest k) t) t (take-front (g + k) (rest k) t fit (width * (f + j + 1)) (omega arith))
+
+  pub down-movable : (k j : ℕ) (s : List ℕ) → k ≡ j + 1 → k ≤ m → f ≤ g → width * (g + m) ≤ length t → Movable b e (entriesOf m (drop (width * f) t)) → Down k s → MovableRow b e (entryAt s (f + j))
+  down-movable k j s kj l fg h v inv = row-movable j (entryAt s (f + j)) (omega arith) (down-here k j s kj l fg h inv ∙ sym (entry-part f j t)) v
+
   pub down-goes : (k j : ℕ) (s s′ : List ℕ) → k ≡ j + 1 → k ≤ m → f ≤ g → width * (g + m) ≤ length t → Down k s → s′ ≡ written s (g + j) (clippedFrom b e (entryAt s (f + j))) → Down j s′
   down-goes k j s s′ kj l fg h inv w =
       let c = count-rest k in
       let rows : List Entry = entriesOf m (drop (width * f) t) in
       let fit : width * (g + k + length (rest k)) ≤ length t = omega arith in
-      let here : entryAt s (f + j) ≡ entryAt t (f + j) =
-      ap (λ (u : List ℕ). entryAt u (f + j)) inv
-      ∙ entry-agree (f + j) (laidAt (g + k) (rest k) t) t (take-front (g + k) (rest k) t fit (width * (f + j + 1)) (omega arith)) in
       let first : drop j rows ≡ entryAt t (f + j) ∷ drop k rows =
       drop-cons rows j noEntry (omega (arith, length-entries m (drop (width * f) t)))
       ∙ ap₂ {B = ℕ} {C = List Entry} (λ (x : Entry) (n : ℕ). x ∷ drop n rows) (entries-at m j (drop (width * f) t) noEntry (omega arith) ∙ entry-part f j t) (sym (add-one j) ∙ sym kj) in
       w
-      ∙ ap₂ (λ (u : List ℕ) (x : Entry). written u (g + j) (clippedFrom b e x)) inv here
+      ∙ ap₂ (λ (u : List ℕ) (x : Entry). written u (g + j) (clippedFrom b e x)) inv (down-here k j s kj l fg h inv)
       ∙ laid-before (g + k) (rest k) t (g + j) (clippedFrom b e (entryAt t (f + j))) (omega arith) fit
       ∙ ap (λ (d : List Entry). laidAt (g + j) (map (clippedFrom b e) d) t) (sym first)
 

@@ -2,9 +2,11 @@ pub mod Leading
 pub mod Laying
 pub mod Clearing
 pub mod Searching
+pub mod Staying
 pub mod Checks
 pub mod QuietEnds
 pub mod Rows
 pub mod Finding
 pub mod Finishing
+pub mod Halving
 pub mod Judging

@@ -10,7 +10,7 @@ use borrow.Author.Tests.{eq-eqb, le-leb, le-ltb, lt-leb, lt-ltb, ltb-true, ne-eq
 use Rattle.reading.specs.Readings.{Reading}
 use Rattle.reading.specs.Readings.Reading.{broken, complete, entry}
 use Rattle.repair.proofs.Leading.{lead-le, lead-more, lead-same, lead-skip}
-use Rattle.repair.specs.Repair.{joins, movedBefore, noEntry, scanOf, seekOf}
+use Rattle.repair.specs.Repair.{joins, leading, movedBefore, noEntry, scanOf, seekOf}
 use Rattle.repair.specs.Steps.{metOf, seekFrom, startsBefore}
 use Rattle.repair.specs.declared.join.Scan.the-variants.{Found, Refused}
 use Rattle.repair.specs.declared.search.Met.the-variants.{At, Next}
@@ -31,6 +31,16 @@ module _ (old : List Entry) (b e : ℕ) where
 
   pub seek-le : (x : ℕ) → seekOf old b e x ≤ length old
   seek-le x = lead-le (movedBefore b e x) old
+
+  -- where the search may stand while the new reading is at a place
+  abbrev pub Standing : ℕ → ℕ → Type 0
+  Standing at i = (x : ℕ) → e ≤ x → at ≤ x → i ≤ seekOf old b e x
+
+  -- behind entries that start before b
+  pub stands : (at j : ℕ) → j ≤ leading (startsBefore b) old → Standing at j
+  stands at j h x l m =
+      let w = lead-more (startsBefore b) (movedBefore b e x) old (λ z y. let s = ltb-true (z .start) b y in lt-ltb (z .start + e) (x + b) (omega arith)) in
+      omega arith
 
   -- and it may go on from where it stood
   pub seek-is : (i x : ℕ) → e ≤ x → i ≤ seekOf old b e x → seekFrom old i (x - e + b) ≡ seekOf old b e x
@@ -64,15 +74,15 @@ module _ (old : List Entry) (b e : ℕ) where
 
   -- ---- what a meeting says
 
-  pub met-next : (i x k : ℕ) → i ≤ seekOf old b e x → metOf old b e i x ≡ Next k → (joins old b e x (seekOf old b e x) ≡ false) × (k ≤ seekOf old b e x)
+  pub met-next : (i x k : ℕ) → metOf old b e i x ≡ Next k → (joins old b e x (seekOf old b e x) ≡ false) × ((y : ℕ) → x ≤ y → i ≤ seekOf old b e y → k ≤ seekOf old b e y)
   unfolding joins
-  met-next i x k h m =
+  met-next i x k m =
       either (lt-or-le x e)
-      (λ l. let z : i ≡ k = (let w : Next i ≡ Next k = meet-early i x l ∙ m in cc) in (rw (lt-leb e x l), omega arith))
+      (λ l. let z : i ≡ k = (let w : Next i ≡ Next k = meet-early i x l ∙ m in cc) in (rw (lt-leb e x l), λ y h f. omega arith))
       (λ l. go l (joins old b e x (seekOf old b e x)) refl)
     where
-      go : e ≤ x → (t : Bool) → joins old b e x (seekOf old b e x) ≡ t → (joins old b e x (seekOf old b e x) ≡ false) × (k ≤ seekOf old b e x)
-      go l false j = let z : seekOf old b e x ≡ k = (let w : Next (seekOf old b e x) ≡ Next k = by-join i x (seekOf old b e x) l refl false j ∙ m in cc) in (j, omega arith)
+      go : e ≤ x → (t : Bool) → joins old b e x (seekOf old b e x) ≡ t → (joins old b e x (seekOf old b e x) ≡ false) × ((y : ℕ) → x ≤ y → i ≤ seekOf old b e y → k ≤ seekOf old b e y)
+      go l false j = let z : seekOf old b e x ≡ k = (let w : Next (seekOf old b e x) ≡ Next k = by-join i x (seekOf old b e x) l refl false j ∙ m in cc) in (j, λ y h f. omega (arith, seek-grows x y h))
       go l true j = let w : At (seekOf old b e x) ≡ Next k = by-join i x (seekOf old b e x) l refl true j ∙ m in let y : _≡_ {A = ℕ} 0 1 = cc in absurd (omega arith)
 
   pub met-at : (i x k : ℕ) → metOf old b e i x ≡ At k → (joins old b e x (seekOf old b e x) ≡ true) × (seekOf old b e x ≡ k)
@@ -87,9 +97,9 @@ module _ (old : List Entry) (b e : ℕ) where
 
   -- ---- one entry of the new reading
 
-  pub scan-on : (n i k : ℕ) (x : Entry) (r : Reading) → i ≤ seekOf old b e (x .start) → metOf old b e i (x .start) ≡ Next k → scanOf old b e n (entry x r) ≡ scanOf old b e (n + 1) r
+  pub scan-on : (n i k : ℕ) (x : Entry) (r : Reading) → metOf old b e i (x .start) ≡ Next k → scanOf old b e n (entry x r) ≡ scanOf old b e (n + 1) r
   unfolding scanOf
-  scan-on n i k x r h m = ap (λ (c : Bool). cond c (Found n (seekOf old b e (x .start))) (scanOf old b e (n + 1) r)) (met-next i (x .start) k h m .0)
+  scan-on n i k x r m = ap (λ (c : Bool). cond c (Found n (seekOf old b e (x .start))) (scanOf old b e (n + 1) r)) (met-next i (x .start) k m .0)
 
   pub scan-at : (n i k : ℕ) (x : Entry) (r : Reading) → metOf old b e i (x .start) ≡ At k → scanOf old b e n (entry x r) ≡ Found n k
   unfolding scanOf

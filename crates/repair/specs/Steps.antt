@@ -1,10 +1,12 @@
 -- What the inner steps of a repair come to: the search over the old entries, which only goes forward, and the rows that are moved and cleared.
-use Prim.Native.Nat.{ℕ, _+_, _-_, _*_, min}
-use mathlib.Core.Bool.{Bool, cond}
+use Prim.Native.Nat.{ℕ, _+_, _-_, _*_, _≤_, min}
+use mathlib.Core.Bool.{Bool, true, cond}
+use mathlib.Core.Path.{_≡_}
 use mathlib.Core.List.{List, [], _∷_, _++_, map}
 use lib.Dec.{ltb, leb}
 use lib.ListN.{length, take, drop, replicate}
 use Rattle.rows.specs.Rows.{width, roomOf, entriesOf, flat, laid}
+use Rattle.rows.specs.Order.{inOrder, inOrderFrom}
 use Rattle.text.specs.Refusals.{Told, accepted, refused, noRoom}
 use Rattle.reading.specs.Readings.{readFrom, entries}
 use Rattle.tokens.specs.Ron.{ronToken}
@@ -17,6 +19,10 @@ use Rattle.repair.specs.declared.search.Met.the-variants.{At, Next}
 -- The six brackets, which end the list of the quiet bytes.
 abbrev pub brackets : List ℕ
 brackets = 0x28 ∷ 0x29 ∷ 0x5b ∷ 0x5d ∷ 0x7b ∷ 0x7d ∷ []
+
+-- The entries are in order, within some limit.
+abbrev pub InOrder : List Entry → Type 0
+InOrder es = (limit : ℕ) × (inOrder es limit ≡ true)
 
 -- The entry starts before the place q.
 abbrev pub startsBefore : ℕ → Entry → Bool
@@ -37,6 +43,16 @@ clipped b e p = min (p + e - b) 4294967295
 -- An entry moved so.
 abbrev pub clippedFrom : ℕ → ℕ → Entry → Entry
 clippedFrom b e y = record { kind = y .kind; start = clipped b e (y .start); end = clipped b e (y .end); detail = y .detail }
+
+-- The entry stands at b or behind it, and moved from b to e ends within 65,536.
+pub record MovableRow (b e : ℕ) (y : Entry) : Type 0 where
+  pub behind : b ≤ y .start
+  pub some : y .start ≤ y .end
+  pub inside : y .end + e ≤ b + 65536
+
+-- The entries are in order from b on, and moved from b to e they end within 65,536: none of their places is clipped.
+abbrev pub Movable : ℕ → ℕ → List Entry → Type 0
+Movable b e es = (limit : ℕ) × (inOrderFrom es b limit ≡ true) × (limit + e ≤ b + 65536)
 
 -- The tape with entries from row g on.
 unfoldable pub laidAt : ℕ → List Entry → List ℕ → List ℕ

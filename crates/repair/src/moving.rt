@@ -3,15 +3,15 @@ use crate::place::moved_place;
 use rows::Entry;
 use rows::row;
 ghost use mathlib.Core.Path.{_≡_};
-ghost use Prim.Native.Nat.{_≤_, _<_, _+_, _^_};
-ghost use lib.ListN.{length};
-ghost use Rattle.rows.specs.Rows.{roomOf, entryAt, written};
+ghost use Prim.Native.Nat.{_≤_, _<_, _+_, _*_};
+ghost use lib.ListN.{length, drop};
+ghost use Rattle.rows.specs.Rows.{width, roomOf, entryAt, entriesOf, written};
 ghost use Rattle.repair.specs.Repair.{noEntry};
-ghost use Rattle.repair.specs.Steps.{clippedFrom, shifted, emptied};
+ghost use Rattle.repair.specs.Steps.{MovableRow, Movable, clippedFrom, shifted, emptied};
 
 // One row to another, its places moved.
 fn shift_row(tape: &mut [u32], f: usize, g: usize, b: usize, e: usize)
-    requires { ⌜ (f < roomOf (length (now tape))) × (g < roomOf (length (now tape))) × (e < 2 ^ 32) ⌝ }
+    requires { ⌜ (f < roomOf (length (now tape))) × (g < roomOf (length (now tape))) × MovableRow b e (entryAt (now tape) f) ⌝ }
     ensures { λ r. ⌜ now (tape .exit) ≡ written (now (tape .entry)) g (clippedFrom b e (entryAt (now (tape .entry)) f)) ⌝ }
 {
     let old = row::entry(&tape[..], f);
@@ -26,7 +26,7 @@ fn shift_row(tape: &mut [u32], f: usize, g: usize, b: usize, e: usize)
 
 // m rows from f on to rows further in front, from the first to the last.
 fn shift_up(tape: &mut [u32], m: usize, f: usize, g: usize, b: usize, e: usize)
-    requires { ⌜ (g ≤ f) × (f + m ≤ roomOf (length (now tape))) × (e < 2 ^ 32) ⌝ }
+    requires { ⌜ (g ≤ f) × (f + m ≤ roomOf (length (now tape))) × Movable b e (entriesOf m (drop (width * f) (now tape))) ⌝ }
     ensures { λ r. ⌜ now (tape .exit) ≡ shifted b e m f g (now (tape .entry)) ⌝ }
 {
     let mut k = 0;
@@ -38,7 +38,7 @@ fn shift_up(tape: &mut [u32], m: usize, f: usize, g: usize, b: usize, e: usize)
 
 // m rows from f on to rows further behind, from the last to the first.
 fn shift_down(tape: &mut [u32], m: usize, f: usize, g: usize, b: usize, e: usize)
-    requires { ⌜ (f ≤ g) × (g + m ≤ roomOf (length (now tape))) × (e < 2 ^ 32) ⌝ }
+    requires { ⌜ (f ≤ g) × (g + m ≤ roomOf (length (now tape))) × Movable b e (entriesOf m (drop (width * f) (now tape))) ⌝ }
     ensures { λ r. ⌜ now (tape .exit) ≡ shifted b e m f g (now (tape .entry)) ⌝ }
 {
     let mut k = m;
@@ -48,11 +48,26 @@ fn shift_down(tape: &mut [u32], m: usize, f: usize, g: usize, b: usize, e: usize
     }
 }
 
+// m rows from f on where they stand: only their places move, and nothing is written where these do not move either.
+fn stay(tape: &mut [u32], m: usize, f: usize, b: usize, e: usize)
+    requires { ⌜ (f + m ≤ roomOf (length (now tape))) × Movable b e (entriesOf m (drop (width * f) (now tape))) ⌝ }
+    ensures { λ r. ⌜ now (tape .exit) ≡ shifted b e m f f (now (tape .entry)) ⌝ }
+{
+    if b == e {
+        return;
+    }
+    shift_up(tape, m, f, f, b, e);
+}
+
 // m rows from f on to the rows from g on.
 pub fn shift(tape: &mut [u32], m: usize, f: usize, g: usize, b: usize, e: usize)
-    requires { ⌜ (f + m ≤ roomOf (length (now tape))) × (g + m ≤ roomOf (length (now tape))) × (e < 2 ^ 32) ⌝ }
+    requires { ⌜ (f + m ≤ roomOf (length (now tape))) × (g + m ≤ roomOf (length (now tape))) × Movable b e (entriesOf m (drop (width * f) (now tape))) ⌝ }
     ensures { λ r. ⌜ now (tape .exit) ≡ shifted b e m f g (now (tape .entry)) ⌝ }
 {
+    if f == g {
+        stay(tape, m, f, b, e);
+        return;
+    }
     if g <= f {
         shift_up(tape, m, f, g, b, e);
         return;

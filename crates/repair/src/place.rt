@@ -1,6 +1,6 @@
 // Places as a tape has them.
 ghost use mathlib.Core.Path.{_≡_};
-ghost use Prim.Native.Nat.{_<_, _^_};
+ghost use Prim.Native.Nat.{_≤_, _+_};
 ghost use Rattle.repair.specs.Steps.{clipped};
 
 pub fn wide(place: u32) -> usize
@@ -9,18 +9,11 @@ pub fn wide(place: u32) -> usize
     place as usize
 }
 
-// A place moved from b to e; a place of a tape in order always fits.
+// A place moved from b to e, where both it and the moved place fit: two sums, and no test in the loops that move rows.
 pub fn moved_place(place: u32, b: usize, e: usize) -> u32
-    requires { ⌜ e < 2 ^ 32 ⌝ }
+    requires { ⌜ (b ≤ place) × (place + e ≤ b + 65536) ⌝ }
     ensures { λ r. ⌜ r ≡ clipped b e place ⌝ }
 {
-    let far = wide(place) + e;
-    if far < b {
-        return 0;
-    }
-    let near = far - b;
-    if 4294967295 < near {
-        return 4294967295;
-    }
-    near as u32
+    let moved = wide(place) - b + e;
+    moved as u32
 }

@@ -10,13 +10,13 @@ use crate::search::resume_at;
 use rows::row;
 use text::Refusal;
 ghost use mathlib.Core.Path.{_≡_};
-ghost use Prim.Native.Nat.{_≤_, _<_, _+_, _^_};
-ghost use lib.ListN.{length};
+ghost use Prim.Native.Nat.{_≤_, _+_, _*_};
+ghost use lib.ListN.{length, drop};
 ghost use Rattle.reading.specs.Readings.{readFrom, entries};
-ghost use Rattle.rows.specs.Rows.{roomOf};
+ghost use Rattle.rows.specs.Rows.{width, roomOf, entriesOf};
 ghost use Rattle.tokens.specs.Ron.{ronToken};
 ghost use Rattle.repair.specs.Repair.{toldRepair, repairAnswerOf, repairTapeOf};
-ghost use Rattle.repair.specs.Steps.{finishAnswer, finishTape};
+ghost use Rattle.repair.specs.Steps.{Movable, finishAnswer, finishTape};
 
 pub enum RepairAnswer {
     // How many entries the tape holds now, and how many were kept before and behind.
@@ -26,7 +26,7 @@ pub enum RepairAnswer {
 
 // The first j entries kept, the rest written anew; 22 last.
 fn finish(tape: &mut [u32], j: usize, text: &[u8], rest: Rest) -> RepairAnswer
-    requires { ⌜ (length (now text) ≤ 65536) × (rest .from ≤ length (now text)) × (rest .n ≤ length (entries (readFrom ronToken (now text) (rest .from)))) × (j + rest .f + rest .m ≤ roomOf (length (now tape))) × (rest .n ≤ 65536) × (rest .e < 2 ^ 32) ⌝ }
+    requires { ⌜ (length (now text) ≤ 65536) × (rest .from ≤ length (now text)) × (rest .n ≤ length (entries (readFrom ronToken (now text) (rest .from)))) × (j + rest .f + rest .m ≤ roomOf (length (now tape))) × (rest .n ≤ 65536) × Movable (rest .b) (rest .e) (entriesOf (rest .m) (drop (width * (j + rest .f)) (now tape))) ⌝ }
     ensures { λ r. ⌜ (toldRepair r ≡ finishAnswer (roomOf (length (now (tape .entry)))) j rest) × (now (tape .exit) ≡ finishTape (now (tape .entry)) j (now (text .entry)) rest) ⌝ }
 {
     let total = j + rest.n + rest.m;
@@ -56,7 +56,7 @@ pub fn repair_text(
     let q = last_quiet(&text[0..a]);
     let j = ends_before(&tape[..], count, q);
     let from = resume_at(&tape[..], j);
-    let found = find_join(text, from, &tape[..], count, b, e);
+    let found = find_join(text, from, &tape[..], count, j, b, e);
     match found {
         Scan::Refused(refusal) => RepairAnswer::Refused(refusal),
         Scan::Found(n, i) => {

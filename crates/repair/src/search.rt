@@ -7,7 +7,7 @@ ghost use lib.ListN.{length, take};
 ghost use Rattle.reading.specs.Readings.{endOf};
 ghost use Rattle.rows.specs.Rows.{roomOf, entriesOf};
 ghost use Rattle.repair.specs.Repair.{leading, endsBefore, seekOf};
-ghost use Rattle.repair.specs.Steps.{seekFrom, metOf};
+ghost use Rattle.repair.specs.Steps.{InOrder, seekFrom, metOf};
 
 // Whether a new entry joins at an old one, and the row where the search stands.
 pub enum Met {
@@ -15,20 +15,23 @@ pub enum Met {
     Next(usize),
 }
 
-// How many entries from the first on end before q.
+// How many entries from the first on end before q: searched by halves, since no entry of a tape in order ends before a former one.
 pub fn ends_before(tape: &[u32], count: usize, q: usize) -> usize
-    requires { ⌜ count ≤ roomOf (length (now tape)) ⌝ }
+    requires { ⌜ (count ≤ roomOf (length (now tape))) × InOrder (entriesOf count (now tape)) ⌝ }
     ensures { λ r. ⌜ r ≡ leading (endsBefore q) (entriesOf count (now (tape .entry))) ⌝ }
 {
-    let mut i = 0;
-    while i < count {
-        let old = row::entry(tape, i);
-        if q <= wide(old.end) {
-            return i;
+    let mut low = 0;
+    let mut high = count;
+    while low < high {
+        let half = low + (high - low) / 2;
+        let old = row::entry(tape, half);
+        if wide(old.end) < q {
+            low = half + 1;
+        } else {
+            high = half;
         }
-        i += 1;
     }
-    i
+    low
 }
 
 // Where the last of the first j entries ends.
@@ -61,7 +64,7 @@ fn seek(tape: &[u32], count: usize, from: usize, q: usize) -> usize
 
 // Whether a new entry that starts at a place joins the old ones, the search standing at row i.
 pub fn meet(tape: &[u32], count: usize, i: usize, start: usize, b: usize, e: usize) -> Met
-    requires { ⌜ (count ≤ roomOf (length (now tape))) × (i ≤ seekOf (entriesOf count (now tape)) b e start) × (start - e + b < 2 ^ 64) ⌝ }
+    requires { ⌜ (count ≤ roomOf (length (now tape))) × (e ≤ start → i ≤ seekOf (entriesOf count (now tape)) b e start) × (start - e + b < 2 ^ 64) ⌝ }
     ensures { λ r. ⌜ r ≡ metOf (entriesOf count (now (tape .entry))) b e i start ⌝ }
 {
     if start < e {

@@ -5,7 +5,7 @@ pub mod literal;
 pub mod pieces;
 pub mod quoted;
 pub mod raw;
-pub mod search;
+pub mod runs;
 
 use escapes::Mode;
 pub use literal::Literal;

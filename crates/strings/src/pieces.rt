@@ -1,6 +1,6 @@
 // The pieces of a quoted string: a plain run, an escape, a line continuation, and the closing quote.
-use crate::search::count_blanks;
-use crate::search::find_end;
+use crate::runs::count_blanks;
+use crate::runs::find_end;
 use escapes::EscapeAnswer;
 use escapes::Mode;
 use text::Refusal;

@@ -2,8 +2,8 @@
 use crate::Literal;
 use crate::LiteralAnswer;
 use crate::literal::unclosed;
-use crate::search::count_hashes;
-use crate::search::find_quote;
+use crate::runs::count_hashes;
+use crate::runs::find_quote;
 use escapes::Mode;
 use text::Refusal;
 ghost use mathlib.Core.Path.{_≡_};

@@ -1,23 +1,12 @@
 // A RON text on standard input, to the entries of its tape.
 use libc::STDIN_FILENO;
+use lines::input;
 use lines::out;
-
-// Reads on to the end of the input, so that whoever writes it is not cut off; the turns are counted down, since a proved loop has to end.
-fn drain(rest: &mut [u8]) {
-    let mut turns = u64::MAX;
-    while 0 < turns {
-        let n = io::read_full(STDIN_FILENO, rest);
-        if n == 0 {
-            return;
-        }
-        turns -= 1;
-    }
-}
 
 // A byte more than a text may have is read, so that a longer one is refused.
 fn print(text: &mut [u8], rest: &mut [u8], tape: &mut [u32], o: &mut [u8]) {
     let n = io::read_full(STDIN_FILENO, text);
-    drain(rest);
+    input::drain(rest);
     let r = sarridok::read(lines::part(&text[..], 0, n), tape);
     let a = show::reading::read(o, 0, r, &tape[..], b'\n');
     let b = out::byte(o, a, b'\n');

@@ -7,9 +7,9 @@ use Rattle.read.proofs.ReadSteps.{refuse-within, step-refuse, step-stop, step-t
 use Rattle.reading.proofs.Steps.{from-end}
 use Rattle.reading.specs.Owed.{quietByte}
 use Rattle.reading.specs.Readings.{readFrom}
-use Rattle.repair.proofs.Searching.{met-next, scan-at, scan-broken, scan-end, scan-on, seek-grows}
+use Rattle.repair.proofs.Searching.{Standing, met-next, scan-at, scan-broken, scan-end, scan-on, stands}
 use Rattle.repair.proofs.join.find_join.Statement.{statement}
-use Rattle.repair.specs.Repair.{scanOf, seekOf}
+use Rattle.repair.specs.Repair.{scanOf}
 use Rattle.repair.specs.declared.join.Scan.the-variants.{Found, Refused}
 use Rattle.rows.proofs.RowLaws.{length-entries}
 use Rattle.rows.specs.Rows.{entriesOf}
@@ -18,14 +18,14 @@ use Rattle.tokens.specs.Ron.{ronToken}
 use Rattle.repair.proofs.join.find_join.Tie as tie
 
 abbrev Inv-loop : tie.InvT-loop
-Inv-loop text from tape count b e at₀ n₀ i₀ at n i = (at ≤ length text) × (n ≤ at) × (i ≤ seekOf (entriesOf count tape) b e at) × (scanOf (entriesOf count tape) b e n (readFrom ronToken text at) ≡ scanOf (entriesOf count tape) b e 0 (readFrom ronToken text from))
+Inv-loop text from tape count j b e at₀ n₀ i₀ at n i = (at ≤ length text) × (n ≤ at) × Standing (entriesOf count tape) b e at i × (scanOf (entriesOf count tape) b e n (readFrom ronToken text at) ≡ scanOf (entriesOf count tape) b e 0 (readFrom ronToken text from))
 
 abbrev μ-loop : tie.MeasureT-loop
-μ-loop text from tape count b e at₀ n₀ i₀ at n i = length text - at
+μ-loop text from tape count j b e at₀ n₀ i₀ at n i = length text - at
 
 -- src/join.rt:29:5
 loop-holds : tie.Need-loop-holds Inv-loop μ-loop
-loop-holds c = (c .before .before .pre .1, omega arith, omega arith, refl)
+loop-holds c = ((c .before .before .pre .1), omega arith, stands (entriesOf (c .before .before .args .count) (c .before .before .args .tape .now)) (c .before .before .args .b) (c .before .before .args .e) _ _ (c .before .before .pre .4), refl)
 
 -- src/join.rt:30:32
 sub-next-token : tie.Need-sub-next-token Inv-loop μ-loop
@@ -53,7 +53,7 @@ add-start c = let w = step-within (c .before .before .before .before .before .be
 
 -- src/join.rt:34:21
 meet-requires : tie.Need-meet-requires Inv-loop μ-loop
-meet-requires c κs = let w = step-within (c .before .before .before .before .before .before .before .before .before .args .text .now) (c .before .before .before .before .before .before .loop .at) _ (c .before .before .before .next-token .ensures) _ _ (c .before .found .given .1) in (c .before .before .before .before .before .before .before .before .before .pre .2, omega (arith, c .before .before .before .before .before .before .loop .inv .2, seek-grows (entriesOf (c .before .before .before .before .before .before .before .before .before .args .count) (c .before .before .before .before .before .before .before .before .before .args .tape .now)) (c .before .before .before .before .before .before .before .before .before .args .b) (c .before .before .before .before .before .before .before .before .before .args .e) (c .before .before .before .before .before .before .loop .at) (c .before .before .before .before .before .before .loop .at + c .before .found .given .0 .0) (omega arith)), omega (arith, w .1, c .before .before .before .before .before .before .before .before .before .pre .3))
+meet-requires c κs = let w = step-within (c .before .before .before .before .before .before .before .before .before .args .text .now) (c .before .before .before .before .before .before .loop .at) _ (c .before .before .before .next-token .ensures) _ _ (c .before .found .given .1) in ((c .before .before .before .before .before .before .before .before .before .pre .2), λ h. (c .before .before .before .before .before .before .loop .inv .2) ((c .before .before .before .before .before .before .loop .at) + (c .before .found .given .0 .0)) h (omega arith), omega (arith, w .1, (c .before .before .before .before .before .before .before .before .before .pre .3)))
 
 -- src/join.rt:36:29
 enum-known-met : tie.Need-enum-known-met Inv-loop μ-loop
@@ -81,7 +81,7 @@ loop-less c = let w = step-within (c .before .before .before .before .before .be
 
 -- src/join.rt:29:5
 loop-again : tie.Need-loop-again Inv-loop μ-loop
-loop-again c = let w = step-within (c .before .before .before .before .before .before .before .before .before .before .before .before .before .before .args .text .now) (c .before .before .before .before .before .before .before .before .before .before .before .loop .at) _ (c .before .before .before .before .before .before .before .before .next-token .ensures) _ _ (c .before .before .before .before .before .before .found .given .1) in let r : c .before .before .before .before .before .before .before .before .before .before .before .loop .i ≤ seekOf (entriesOf (c .before .before .before .before .before .before .before .before .before .before .before .before .before .before .args .count) (c .before .before .before .before .before .before .before .before .before .before .before .before .before .before .args .tape .now)) (c .before .before .before .before .before .before .before .before .before .before .before .before .before .before .args .b) (c .before .before .before .before .before .before .before .before .before .before .before .before .before .before .args .e) (c .before .before .before .before .before .before .before .before .before .before .before .loop .at + c .before .before .before .before .before .before .found .given .0 .0) = omega (arith, c .before .before .before .before .before .before .before .before .before .before .before .loop .inv .2, seek-grows (entriesOf (c .before .before .before .before .before .before .before .before .before .before .before .before .before .before .args .count) (c .before .before .before .before .before .before .before .before .before .before .before .before .before .before .args .tape .now)) (c .before .before .before .before .before .before .before .before .before .before .before .before .before .before .args .b) (c .before .before .before .before .before .before .before .before .before .before .before .before .before .before .args .e) (c .before .before .before .before .before .before .before .before .before .before .before .loop .at) (c .before .before .before .before .before .before .before .before .before .before .before .loop .at + c .before .before .before .before .before .before .found .given .0 .0) (omega arith)) in let m = sym (c .before .before .before .before .meet .ensures) ∙ c .before .before .met2 .given .1 in (omega (arith, w .1), omega (arith, w .0, c .before .before .before .before .before .before .before .before .before .before .before .loop .inv .1), omega (arith, met-next (entriesOf (c .before .before .before .before .before .before .before .before .before .before .before .before .before .before .args .count) (c .before .before .before .before .before .before .before .before .before .before .before .before .before .before .args .tape .now)) (c .before .before .before .before .before .before .before .before .before .before .before .before .before .before .args .b) (c .before .before .before .before .before .before .before .before .before .before .before .before .before .before .args .e) (c .before .before .before .before .before .before .before .before .before .before .before .loop .i) _ _ r m .1, seek-grows (entriesOf (c .before .before .before .before .before .before .before .before .before .before .before .before .before .before .args .count) (c .before .before .before .before .before .before .before .before .before .before .before .before .before .before .args .tape .now)) (c .before .before .before .before .before .before .before .before .before .before .before .before .before .before .args .b) (c .before .before .before .before .before .before .before .before .before .before .before .before .before .before .args .e) (c .before .before .before .before .before .before .before .before .before .before .before .loop .at + c .before .before .before .before .before .before .found .given .0 .0) (c .before .before .before .before .before .before .before .before .before .before .before .loop .at + c .before .before .before .before .before .before .found .given .0 .0 + c .before .before .before .before .before .before .found .given .0 .1 .0 .len) (omega arith)), sym (ap (scanOf (entriesOf (c .before .before .before .before .before .before .before .before .before .before .before .before .before .before .args .count) (c .before .before .before .before .before .before .before .before .before .before .before .before .before .before .args .tape .now)) (c .before .before .before .before .before .before .before .before .before .before .before .before .before .before .args .b) (c .before .before .before .before .before .before .before .before .before .before .before .before .before .before .args .e) (c .before .before .before .before .before .before .before .before .before .before .before .loop .n)) (step-token (c .before .before .before .before .before .before .before .before .before .before .before .before .before .before .args .text .now) (c .before .before .before .before .before .before .before .before .before .before .before .loop .at) _ (c .before .before .before .before .before .before .before .before .next-token .ensures) _ _ (c .before .before .before .before .before .before .found .given .1)) ∙ scan-on (entriesOf (c .before .before .before .before .before .before .before .before .before .before .before .before .before .before .args .count) (c .before .before .before .before .before .before .before .before .before .before .before .before .before .before .args .tape .now)) (c .before .before .before .before .before .before .before .before .before .before .before .before .before .before .args .b) (c .before .before .before .before .before .before .before .before .before .before .before .before .before .before .args .e) (c .before .before .before .before .before .before .before .before .before .before .before .loop .n) (c .before .before .before .before .before .before .before .before .before .before .before .loop .i) _ _ _ r m) ∙ c .before .before .before .before .before .before .before .before .before .before .before .loop .inv .3)
+loop-again c = let w = step-within (c .before .before .before .before .before .before .before .before .before .before .before .before .before .before .args .text .now) (c .before .before .before .before .before .before .before .before .before .before .before .loop .at) _ (c .before .before .before .before .before .before .before .before .next-token .ensures) _ _ (c .before .before .before .before .before .before .found .given .1) in let m = sym (c .before .before .before .before .meet .ensures) ∙ (c .before .before .met2 .given .1) in (omega (arith, w .1), omega (arith, w .0, (c .before .before .before .before .before .before .before .before .before .before .before .loop .inv .1)), λ y h l. met-next (entriesOf (c .before .before .before .before .before .before .before .before .before .before .before .before .before .before .args .count) (c .before .before .before .before .before .before .before .before .before .before .before .before .before .before .args .tape .now)) (c .before .before .before .before .before .before .before .before .before .before .before .before .before .before .args .b) (c .before .before .before .before .before .before .before .before .before .before .before .before .before .before .args .e) (c .before .before .before .before .before .before .before .before .before .before .before .loop .i) ((c .before .before .before .before .before .before .before .before .before .before .before .loop .at) + (c .before .before .before .before .before .before .found .given .0 .0)) _ m .1 y (omega arith) ((c .before .before .before .before .before .before .before .before .before .before .before .loop .inv .2) y h (omega arith)), sym (ap (scanOf (entriesOf (c .before .before .before .before .before .before .before .before .before .before .before .before .before .before .args .count) (c .before .before .before .before .before .before .before .before .before .before .before .before .before .before .args .tape .now)) (c .before .before .before .before .before .before .before .before .before .before .before .before .before .before .args .b) (c .before .before .before .before .before .before .before .before .before .before .before .before .before .before .args .e) (c .before .before .before .before .before .before .before .before .before .before .before .loop .n)) (step-token (c .before .before .before .before .before .before .before .before .before .before .before .before .before .before .args .text .now) (c .before .before .before .before .before .before .before .before .before .before .before .loop .at) _ (c .before .before .before .before .before .before .before .before .next-token .ensures) _ _ (c .before .before .before .before .before .before .found .given .1)) ∙ scan-on (entriesOf (c .before .before .before .before .before .before .before .before .before .before .before .before .before .before .args .count) (c .before .before .before .before .before .before .before .before .before .before .before .before .before .before .args .tape .now)) (c .before .before .before .before .before .before .before .before .before .before .before .before .before .before .args .b) (c .before .before .before .before .before .before .before .before .before .before .before .before .before .before .args .e) (c .before .before .before .before .before .before .before .before .before .before .before .loop .n) (c .before .before .before .before .before .before .before .before .before .before .before .loop .i) _ _ _ m) ∙ (c .before .before .before .before .before .before .before .before .before .before .before .loop .inv .3))
 
 -- src/join.rt:47:17
 enum-told : tie.Need-enum-told Inv-loop μ-loop

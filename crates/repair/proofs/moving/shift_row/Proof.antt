@@ -1,6 +1,9 @@
+use native.Mathlib.Omega.{arith}
+use mathlib.Core.Path.{subst, sym}
 use borrow.Author.Needs.{needs}
 use Rattle.repair.proofs.Laying.{row-moved}
 use Rattle.repair.proofs.moving.shift_row.Statement.{statement}
+use Rattle.repair.specs.Steps.{MovableRow}
 use Rattle.repair.proofs.moving.shift_row.Tie as tie
 
 -- src/moving.rt:38:9
@@ -9,11 +12,11 @@ entry-requires c κs = search needs
 
 -- src/moving.rt:41:16
 moved-place-requires : tie.Need-moved-place-requires
-moved-place-requires c κs = search needs
+moved-place-requires c κs = let v = subst (MovableRow (c .before .before .before .args .b) (c .before .before .before .args .e)) (sym (c .entry .ensures)) (c .before .before .before .pre .2) in (v .behind, omega (arith, v .some, v .inside))
 
 -- src/moving.rt:42:14
 moved-place-requires-2 : tie.Need-moved-place-requires-2
-moved-place-requires-2 c κs = search needs
+moved-place-requires-2 c κs = let v = subst (MovableRow (c .before .before .before .before .args .b) (c .before .before .before .before .args .e)) (sym (c .before .entry .ensures)) (c .before .before .before .before .pre .2) in (omega (arith, v .behind, v .some), v .inside)
 
 -- src/moving.rt:45:5
 write-requires : tie.Need-write-requires

@@ -3,7 +3,7 @@ use native.Mathlib.Omega.{arith}
 use mathlib.Core.Path.{_∙_, _≡_, refl}
 use lib.ListN.{length}
 use borrow.Author.Needs.{needs}
-use Rattle.repair.proofs.Laying.{Up, up-ends, up-goes, up-starts}
+use Rattle.repair.proofs.Laying.{Up, up-ends, up-goes, up-movable, up-starts}
 use Rattle.repair.proofs.moving.shift_up.Statement.{statement}
 use Rattle.repair.proofs.moving.shift_up.Tie as tie
 
@@ -27,7 +27,7 @@ add-shift-row-2 c = omega (arith, c .before .before .before .before .pre .0, c .
 
 -- src/moving.rt:55:9
 shift-row-requires : tie.Need-shift-row-requires Inv-loop μ-loop
-shift-row-requires c κs = (omega (arith, c .before .before .loop .inv .1, c .before .before .before .before .pre .1), omega (arith, c .before .before .loop .inv .1, c .before .before .before .before .pre .0, c .before .before .before .before .pre .1), c .before .before .before .before .pre .2)
+shift-row-requires c κs = (omega (arith, c .before .before .loop .inv .1, c .before .before .before .before .pre .1), omega (arith, c .before .before .loop .inv .1, c .before .before .before .before .pre .0, c .before .before .before .before .pre .1), up-movable (c .before .before .before .before .args .b) (c .before .before .before .before .args .e) (c .before .before .before .before .args .m) (c .before .before .before .before .args .f) (c .before .before .before .before .args .g) (c .before .before .before .before .args .tape .now) (c .before .before .loop .k) _ (omega arith) (c .before .before .before .before .pre .0) (omega (arith, (c .before .before .before .before .pre .1))) (c .before .before .before .before .pre .2) (c .before .before .loop .inv .2))
 
 -- src/moving.rt:56:9
 add-k : tie.Need-add-k Inv-loop μ-loop

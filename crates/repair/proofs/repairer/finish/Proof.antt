@@ -1,7 +1,7 @@
 use native.Mathlib.Omega.{arith}
 use mathlib.Core.Path.{_∙_, ap}
 use borrow.Author.Needs.{needs}
-use Rattle.repair.proofs.Finishing.{finish-answer, finish-full, finish-tape}
+use Rattle.repair.proofs.Finishing.{finish-answer, finish-full, finish-tape, part-movable}
 use Rattle.repair.proofs.repairer.finish.Statement.{statement}
 use Rattle.text.specs.Refusals.Told.{refused}
 use Rattle.repair.proofs.repairer.finish.Tie as tie
@@ -52,7 +52,7 @@ part-rewrite-end c = search needs
 
 -- src/repairer.rt:36:5
 rewrite-requires : tie.Need-rewrite-requires
-rewrite-requires c κs = search needs
+rewrite-requires c κs = ((c .before .before .before .before .before .before .before .before .before .pre .0), (c .before .before .before .before .before .before .before .before .before .pre .1), (c .before .before .before .before .before .before .before .before .before .pre .2), search needs, search needs, part-movable (c .before .before .before .before .before .before .before .before .before .args .tape .now) (c .before .before .before .before .before .before .before .before .before .args .j) (c .before .before .before .before .before .before .before .before .before .args .text .now) (c .before .before .before .before .before .before .before .before .before .args .rest) (c .before .begins .result) (c .before .begins .ensures) (c .before .before .before .before .before .before .before .before .before .pre .5))
 
 -- src/repairer.rt:28:1
 same-length-2 : tie.Need-same-length-2

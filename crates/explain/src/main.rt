@@ -1,0 +1,107 @@
+// A RON text on standard input, explained to people: how many entries it has and how deep they are nested, or why it is refused, and where.
+mod excerpt;
+mod sentence;
+
+use depth::deepest;
+use libc::STDIN_FILENO;
+use lines::input;
+use lines::out;
+use places::column::column_of;
+use places::entry::walk_place;
+use places::line::line_of;
+use rows::row;
+use sarridok::ReadAnswer;
+use sarridok::WalkAnswer;
+ghost use mathlib.Core.Path.{_≡_};
+ghost use Prim.Native.Nat.{min};
+ghost use lib.ListN.{length};
+
+// Brackets may be open up to this many.
+const LIMIT: usize = 128;
+
+fn accepted(o: &mut [u8], count: usize, depth: usize) -> usize {
+    let a = out::bytes(o, 0, b"ok");
+    let b = out::word(o, a, count as u64);
+    let c = out::bytes(o, b, b" entries, depth");
+    let d = out::word(o, c, depth as u64);
+    out::byte(o, d, b'\n')
+}
+
+// A place behind the end, which no refusal has, would be shown at the end.
+fn within(place: usize, s: &[u8]) -> usize
+    ensures { λ r. ⌜ r ≡ min place (length (now (s .entry))) ⌝ }
+{
+    if place < s.len() { place } else { s.len() }
+}
+
+// Line and column are counted from 1.
+fn position(o: &mut [u8], s: &[u8], place: usize) -> usize {
+    let a = out::bytes(o, 0, b"line");
+    let b = out::word(o, a, line_of(s, place) as u64);
+    let c = out::bytes(o, b, b", column");
+    let d = out::word(o, c, column_of(s, place) as u64);
+    out::bytes(o, d, b": ")
+}
+
+// The sentence of a refusal, with its number.
+fn reason(o: &mut [u8], at: usize, number: u8) -> usize {
+    let a = sentence::say(o, at, number);
+    let b = out::bytes(o, a, b" [");
+    let c = out::number(o, b, number as u64);
+    out::bytes(o, c, b"]\n")
+}
+
+// The refusal with this number, at a byte of the text.
+fn refused(o: &mut [u8], s: &[u8], number: u8, at: usize) -> usize {
+    let place = within(at, s);
+    let a = position(o, s, place);
+    let b = reason(o, a, number);
+    excerpt::excerpt(o, b, s, place)
+}
+
+// An accepted read has room for its entries.
+fn walked(o: &mut [u8], s: &[u8], tape: &[u32], count: usize, links: &mut [u32]) -> usize {
+    if row::room(tape) < count {
+        return refused(o, s, 22, 0);
+    }
+    let r = sarridok::walk(tape, count, LIMIT, links);
+    match r {
+        WalkAnswer::Walked => accepted(o, count, deepest(tape, count)),
+        WalkAnswer::Refused(f) => refused(o, s, f.number, walk_place(tape, count, f)),
+    }
+}
+
+fn explain(o: &mut [u8], s: &[u8], tape: &mut [u32], links: &mut [u32]) -> usize {
+    let r = sarridok::read(s, tape);
+    match r {
+        ReadAnswer::Accepted(n) => walked(o, s, &tape[..], n, links),
+        ReadAnswer::Refused(f) => refused(o, s, f.number, f.place),
+    }
+}
+
+// A byte more than a text may have is read, so that a longer one is refused; what stands behind is read into the output's buffer, which is still empty.
+fn print(text: &mut [u8], tape: &mut [u32], links: &mut [u32], o: &mut [u8]) {
+    let n = io::read_full(STDIN_FILENO, text);
+    input::drain(o);
+    let end = explain(o, lines::part(&text[..], 0, n), tape, links);
+    out::flush(&o[..], end);
+}
+
+// The arrays are lent as arrays first: then no proof computes their lengths.
+fn lend(
+    text: &mut [u8; 65537],
+    tape: &mut [u32; 262144],
+    links: &mut [u32; 65536],
+    o: &mut [u8; 16384],
+) {
+    print(text, tape, links, o);
+}
+
+// A text has at most an entry for each byte, so the tape has room for all; with the links, about 1.4 MB of stack.
+fn main() {
+    let mut text = [0u8; 65537];
+    let mut tape = [0u32; 262144];
+    let mut links = [0u32; 65536];
+    let mut o = [0u8; 16384];
+    lend(&mut text, &mut tape, &mut links, &mut o);
+}

@@ -1,0 +1,38 @@
+// The byte at which a refusal of the walk stands.
+use rows::row;
+use text::Refusal;
+ghost use mathlib.Core.Path.{_≡_};
+ghost use Prim.Native.Nat.{_≤_};
+ghost use lib.ListN.{length};
+ghost use Rattle.rows.specs.Rows.{roomOf};
+ghost use Rattle.places.specs.Entries.{entryPlace, walkPlace};
+
+// Where entry n of so many starts, or the last one ends.
+fn entry_place(tape: &[u32], count: usize, n: usize) -> usize
+    requires { ⌜ count ≤ roomOf (length (now tape)) ⌝ }
+    ensures { λ r. ⌜ r ≡ entryPlace (now (tape .entry)) count n ⌝ }
+{
+    if n < count {
+        let e = row::entry(tape, n);
+        return e.start as usize;
+    }
+    if 0 < count {
+        let e = row::entry(tape, count - 1);
+        return e.end as usize;
+    }
+    0
+}
+
+// 24 to 26 name an entry; the walk's other refusals have no place.
+pub fn walk_place(tape: &[u32], count: usize, r: Refusal) -> usize
+    requires { ⌜ count ≤ roomOf (length (now tape)) ⌝ }
+    ensures { λ p. ⌜ p ≡ walkPlace (now (tape .entry)) count r ⌝ }
+{
+    if r.number < 24 {
+        return r.place;
+    }
+    if 26 < r.number {
+        return r.place;
+    }
+    entry_place(tape, count, r.place)
+}

@@ -1,0 +1,2 @@
+pub mod PlainBlanks
+pub mod PlainLaws

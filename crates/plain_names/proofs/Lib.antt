@@ -1,0 +1,4 @@
+pub mod NameRuns
+pub mod PlaceLaws
+pub mod PlainNames
+pub mod Worked

@@ -1,0 +1,120 @@
+-- The general reader says of a plain integer what its definition does. Assumes nothing.
+use Prim.Native.Nat.{ℕ, _+_, _≤_, _<_}
+use native.Mathlib.Nat.{add-zero}
+use native.Mathlib.Omega.{arith}
+use mathlib.Core.Bool.{Bool, true, false}
+use mathlib.Core.List.{List}
+use mathlib.Core.Logic.{inr}
+use mathlib.Core.Path.{_≡_, refl, ap, sym, _∙_}
+use lib.Dec.{eqb}
+use lib.ListN.{length, take, drop, getD, length-drop}
+use lib.Seq.{length-take-le}
+use borrow.Author.Tests.{le-ltb, ne-eqb}
+use Rattle.text.proofs.Choices.{bool-cases, either, lt-or-le}
+use Rattle.text.proofs.Lists.{head-at}
+use Rattle.text.proofs.RunLaws.{run-le}
+use Rattle.text.specs.Classes.{digit, intChar, within}
+use Rattle.text.specs.Runs.{run}
+use Rattle.digits.proofs.Exact.{digits-exact}
+use Rattle.digits.specs.Digits.{runOf}
+use Rattle.digits.specs.Value.{valueOf}
+use Rattle.digits.specs.declared.Run.the-variants.{Value}
+use Rattle.floats.specs.Classes.{floatGoes, floatRun}
+use Rattle.integers.proofs.Fronts.{front-said}
+use Rattle.integers.proofs.Runs.{digits-run}
+use Rattle.integers.proofs.Suffixes.{no-suffix}
+use Rattle.integers.specs.Front.{frontOf, prefixOf, signOf}
+use Rattle.integers.specs.Integer.{anyOf, numeralOf}
+use Rattle.integers.specs.Width.{firstFit, limitAt, suffixFirst, suffixOf, widest}
+use Rattle.integers.specs.Words.{nothingFound}
+use Rattle.integers.specs.declared.integer.AnyInteger.the-variants as any
+use Rattle.integers.specs.declared.integer.Numeral.the-variants as numeral
+use Rattle.numbers.specs.Numbers.{floatAhead, numberOf}
+use Rattle.numbers.specs.declared.Number.the-variants.{Int}
+use Rattle.reading.specs.Owed.{quietByte}
+use Rattle.plain_numbers.proofs.Runs.{digit-goes, digit-in, digit-int, quiet-float, quiet-int, quiet-not, run-holds, run-wider, run2-none, run2-passed}
+use Rattle.plain_numbers.proofs.Values.{digit-value, run-only, value-nine}
+
+-- ---- digits and a quiet byte
+
+module _ (t : List ℕ) (some : 0 < run digit t) (quiet : quietByte (getD t (run digit t) 0) ≡ true) where
+  pub int-run : run intChar t ≡ run digit t
+  int-run = run-wider digit intChar digit-int t (quiet-int _ quiet)
+
+  pub float-run : floatRun t ≡ run digit t
+  float-run =
+      run2-passed digit floatGoes digit-goes t
+      ∙ ap (λ (n : ℕ). run digit t + n) (run2-none floatGoes (drop (run digit t) t) (λ b. ap (λ (c : ℕ). floatGoes c b) (head-at t (run digit t)) ∙ quiet-float _ quiet b))
+      ∙ add-zero (run digit t)
+
+  -- the byte behind a first 0 is no letter of a base
+  second : (l : ℕ) → quietByte l ≡ false → digit l ≡ false → getD t 1 0 ≡ l → ⊥
+  second l q d e =
+      either (lt-or-le 1 (run digit t))
+      (λ k. let z : true ≡ false = sym (run-holds digit t 1 k) ∙ ap digit e ∙ d in let y : _≡_ {A = ℕ} 0 1 = cc in omega arith)
+      (λ k. let n : run digit t ≡ 1 = omega arith in quiet-not (getD t 1 0) (rw n at quiet) l q e)
+
+  no-prefix : prefixOf t ≡ record { base = 10; end = 0 }
+  unfolding prefixOf quietByte digit within
+  no-prefix =
+      either (bool-cases (eqb (getD t 0 0) 0x30))
+      (λ p. rw (p, ne-eqb (getD t 1 0) 0x62 (second 0x62 refl refl), ne-eqb (getD t 1 0) 0x6f (second 0x6f refl refl), ne-eqb (getD t 1 0) 0x78 (second 0x78 refl refl)))
+      (λ p. rw p)
+
+  no-letters : suffixOf (drop (run digit t) t) ≡ nothingFound
+  unfolding quietByte
+  no-letters =
+      let b : ℕ = getD t (run digit t) 0 in
+      no-suffix (drop (run digit t) t)
+      (ap suffixFirst (head-at t (run digit t)) ∙ rw (ne-eqb b 0x69 (quiet-not b quiet 0x69 refl), ne-eqb b 0x75 (quiet-not b quiet 0x75 refl)))
+
+-- the limit of 64 bits is no hindrance
+wide : (minus : Bool) → 1000000000 ≤ limitAt (widest minus) minus
+unfolding limitAt
+wide false = omega arith
+wide true = omega arith
+
+module _ (t : List ℕ) (some : 0 < run digit t) (few : run digit t ≤ 9) where
+  nine-run : (minus : Bool) → runOf (limitAt (widest minus) minus) 10 (take (run digit t) t) ≡ Value (valueOf 10 (take (run digit t) t))
+  nine-run minus =
+      let n : ℕ = run digit t in
+      let part : List ℕ = take n t in
+      let long : length part ≡ n = length-take-le n t (run-le digit t) in
+      let only = run-only t n (omega arith) in
+      let first = digit-in (getD part 0 0) (only 0 (omega arith)) in
+      sym (digits-run (limitAt (widest minus) minus) 10 part (λ z. omega arith) (λ z. omega arith))
+      ∙ digits-exact (limitAt (widest minus) minus) 10 part (valueOf 10 part) (omega arith) .1
+      (record {
+        only = λ i k. inr (let d = digit-in (getD part i 0) (only i k) in omega (arith, digit-value (getD part i 0) (only i k)));
+        value = refl;
+        fits = omega (arith, wide minus, value-nine t n (omega arith) few);
+      })
+
+-- ---- the whole
+
+module _ (s : List ℕ) (some : 0 < run digit (drop (signOf s .end) s)) (quiet : quietByte (getD (drop (signOf s .end) s) (run digit (drop (signOf s .end) s)) 0) ≡ true) where
+  not-ahead : floatAhead s ≡ false
+  unfolding floatAhead
+  not-ahead = let t : List ℕ = drop (signOf s .end) s in rw (int-run t some quiet, float-run t some quiet) (le-ltb (run digit t) (run digit t) (omega arith))
+
+  front-is : frontOf s ≡ record { minus = signOf s .minus; base = 10; end = signOf s .end }
+  front-is =
+      sym (front-said s (signOf s) (record { base = 10; end = 0 }) refl (sym (no-prefix (drop (signOf s .end) s) some quiet)))
+      ∙ ap (λ (e : ℕ). record { minus = signOf s .minus; base = 10; end = e }) (add-zero (signOf s .end))
+
+  numeral-is : run digit (drop (signOf s .end) s) ≤ 9 → numeralOf (widest (signOf s .minus)) (signOf s .minus) 10 (drop (signOf s .end) s)
+      ≡ numeral.Read (valueOf 10 (take (run digit (drop (signOf s .end) s)) (drop (signOf s .end) s))) 0 (run digit (drop (signOf s .end) s))
+  unfolding numeralOf
+  numeral-is few =
+      let t : List ℕ = drop (signOf s .end) s in
+      let n : ℕ = run digit t in
+      let long : length (take n t) ≡ n = length-take-le n t (run-le digit t) in
+      rw (int-run t some quiet, no-letters t some quiet, nine-run t some few (signOf s .minus), long, add-zero n)
+
+  pub integer-is : run digit (drop (signOf s .end) s) ≤ 9 → numberOf s
+      ≡ Int (firstFit (signOf s .minus) (valueOf 10 (take (run digit (drop (signOf s .end) s)) (drop (signOf s .end) s)))) (signOf s .end + run digit (drop (signOf s .end) s))
+  unfolding numberOf anyOf
+  integer-is few =
+      let t : List ℕ = drop (signOf s .end) s in
+      let long : 0 < length s = omega (arith, length-drop (signOf s .end) s, run-le digit t) in
+      rw (not-ahead, ne-eqb (length s) 0 (λ z. omega arith), front-is, numeral-is few)

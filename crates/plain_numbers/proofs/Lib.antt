@@ -1,0 +1,8 @@
+pub mod Runs
+pub mod Values
+pub mod Places
+pub mod Begins
+pub mod Integers
+pub mod Floats
+pub mod PlainNumbers
+pub mod Worked

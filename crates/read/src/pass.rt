@@ -1,0 +1,80 @@
+// One pass over a text: it counts or refuses, and where it is on it lays the entries on the tape.
+use crate::measure::ReadAnswer;
+use plain::blanks::behind_blanks;
+use plain::forms::plain;
+use rows::Entry;
+use rows::row;
+use tokens::following::Following;
+use tokens::following::next_token;
+use tokens::lexeme::Lexeme;
+ghost use mathlib.Core.Bool.{true, cond};
+ghost use mathlib.Core.Path.{_≡_};
+ghost use Prim.Native.Nat.{_≤_, _<_, _^_};
+ghost use lib.ListN.{length};
+ghost use Rattle.reading.specs.Readings.{readFrom, counted};
+ghost use Rattle.rows.specs.Rows.{roomOf, written};
+ghost use Rattle.tokens.specs.Ron.{ronToken};
+ghost use Rattle.read.specs.Read.{toldRead};
+ghost use Rattle.read.specs.Pass.{upTo, passedTape};
+
+// A lexeme between two places.
+fn entry_of(l: Lexeme, start: usize, end: usize) -> Entry
+    requires { ⌜ (start < 2 ^ 32) × (end < 2 ^ 32) × (l .detail < 2 ^ 32) ⌝ }
+    ensures { λ r. ⌜ r ≡ record { kind = l .kind; start = start; end = end; detail = l .detail } ⌝ }
+{
+    Entry {
+        kind: l.kind,
+        start: start as u32,
+        end: end as u32,
+        detail: l.detail as u32,
+    }
+}
+
+// An entry into row i where the pass is on.
+fn put(tape: &mut [u32], i: usize, e: Entry, on: bool)
+    requires { ⌜ (on ≡ true → i < roomOf (length (now tape))) ⌝ }
+    ensures { λ r. ⌜ now (tape .exit) ≡ cond on (written (now (tape .entry)) i e) (now (tape .entry)) ⌝ }
+{
+    if !on {
+        return;
+    }
+    row::write(tape, i, e);
+}
+
+// The first n entries of a text from a place on; blanks and plain tokens are taken here, and the general reader is asked for the rest.
+pub fn pass(text: &[u8], from: usize, tape: &mut [u32], n: usize, on: bool) -> ReadAnswer
+    requires { ⌜ (length (now text) ≤ 65536) × (from ≤ length (now text)) × (on ≡ true → n ≤ roomOf (length (now tape))) ⌝ }
+    ensures { λ r. ⌜ (toldRead r ≡ counted 0 (upTo n (readFrom ronToken (now (text .entry)) from))) × (now (tape .exit) ≡ passedTape on (upTo n (readFrom ronToken (now (text .entry)) from)) (now (tape .entry))) ⌝ }
+{
+    let mut at = from;
+    let mut i = 0;
+    while i < n {
+        let front = behind_blanks(text, at);
+        if text.len() <= front {
+            return ReadAnswer::Accepted(i);
+        }
+        let p = plain(text, front);
+        if 0 < p.len {
+            let end = front + p.len;
+            put(tape, i, entry_of(p, front, end), on);
+            at = end;
+            i += 1;
+            continue;
+        }
+        let found = next_token(&text[front..]);
+        match found {
+            Following::Token(g, l) => {
+                let start = front + g;
+                let end = start + l.len;
+                put(tape, i, entry_of(l, start, end), on);
+                at = end;
+                i += 1;
+            }
+            Following::End => return ReadAnswer::Accepted(i),
+            Following::Refused(refusal) => {
+                return ReadAnswer::Refused(refusal.placed_behind(front));
+            }
+        }
+    }
+    ReadAnswer::Accepted(i)
+}
