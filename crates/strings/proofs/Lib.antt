@@ -10,3 +10,4 @@ pub mod Encodes
 pub mod Bounds
 pub mod Closes
 pub mod Worked
+pub mod SimpleLaws

@@ -4,7 +4,7 @@ use Prim.Native.Nat.{ℕ, zero, suc, _+_, _-_}
 use mathlib.Core.List.{List, [], _∷_, _++_}
 use mathlib.Core.Bool.{Bool, true, false, cond, not, _&&_, _||_}
 use lib.ListN.{length, getD, take, drop}
-use lib.Dec.{eqb}
+use lib.Dec.{eqb, ltb}
 use Rattle.text.specs.declared.refusal.Refusal.{Refusal}
 use Rattle.text.specs.Refusals.{placedBehind}
 use Rattle.text.specs.Classes.{continuationBlank}
@@ -13,7 +13,7 @@ use Rattle.text.specs.Utf8.{encode, scalar}
 use Rattle.escapes.specs.declared.answers.Mode.{Mode}
 use Rattle.escapes.specs.declared.answers.EscapeAnswer.{EscapeAnswer}
 use Rattle.escapes.specs.declared.answers.EscapeAnswer.the-variants.{Ascii, Utf8, Refused}
-use Rattle.escapes.specs.Escapes.{escapeOf}
+use Rattle.escapes.specs.Escapes.{escapeOf, simpleOf}
 use Rattle.strings.specs.declared.pieces.Decoded.{Decoded}
 use Rattle.strings.specs.declared.pieces.Decoded.the-variants.{Nothing, Byte, Point}
 use Rattle.strings.specs.declared.pieces.Piece.{Piece}
@@ -48,6 +48,10 @@ unfoldable pub pieceOf : Mode → List ℕ → Piece
 pieceOf m s =
     cond (eqb (getD s 0 0) 0x22) Quote
     (cond (eqb (getD s 0 0) 0x5C) (behindBackslash m (drop 1 s)) (Plain (run plain s)))
+
+-- A backslash and a letter that stands for one byte are at the front of s.
+unfoldable pub simpleFront : List ℕ → Bool
+simpleFront s = eqb (getD s 0 0) 0x5C && ltb (simpleOf (getD s 1 0)) 256
 
 -- The bytes that a piece with a backslash decodes to.
 abbrev pub bytesOf : Decoded → List ℕ

@@ -7,8 +7,10 @@ use text::Refusal;
 use text::bytes::peek;
 ghost use mathlib.Core.Path.{_≡_};
 ghost use Prim.Native.Nat.{_+_, _<_, _^_};
-ghost use lib.ListN.{length};
-ghost use Rattle.strings.specs.Pieces.{lineEnd, behindBackslash, pieceOf, decodedLen};
+ghost use lib.ListN.{drop, length};
+ghost use lib.Dec.{ltb};
+ghost use Rattle.escapes.specs.Escapes.{simpleOf};
+ghost use Rattle.strings.specs.Pieces.{simpleFront, lineEnd, behindBackslash, pieceOf, decodedLen};
 
 // What a piece that begins with a backslash decodes to: a line continuation to nothing.
 pub enum Decoded {
@@ -63,6 +65,45 @@ fn behind_backslash(m: Mode, s: &[u8]) -> Piece
         EscapeAnswer::Utf8(c, n) => Piece::Backslash(n + 1, Decoded::Point(c)),
         EscapeAnswer::Refused(r) => Piece::Spoilt(r.placed_behind(1)),
     }
+}
+
+// A quote, a backslash or one of the letters that stand for one byte behind a backslash; in two ranges, each of which compiles to the bits of one word.
+fn is_simple(b: u8) -> bool
+    ensures { λ r. ⌜ r ≡ ltb (simpleOf b) 256 ⌝ }
+{
+    if b < 0x40 {
+        if b == b'"' {
+            return true;
+        }
+        if b == b'\'' {
+            return true;
+        }
+        return b == b'0';
+    }
+    if b == b'n' {
+        return true;
+    }
+    if b == b'\\' {
+        return true;
+    }
+    if b == b't' {
+        return true;
+    }
+    b == b'r'
+}
+
+// Whether such an escape of two bytes stands at a place.
+pub fn simple_escape(s: &[u8], at: usize) -> bool
+    requires { ⌜ at < length (now s) ⌝ }
+    ensures { λ r. ⌜ r ≡ simpleFront (drop at (now (s .entry))) ⌝ }
+{
+    if s[at] != b'\\' {
+        return false;
+    }
+    if s.len() - at < 2 {
+        return false;
+    }
+    is_simple(s[at + 1])
 }
 
 // The piece at the front of s.

@@ -5,6 +5,7 @@ use crate::literal::unclosed;
 use crate::pieces::Piece;
 use crate::pieces::decoded_len;
 use crate::pieces::next_piece;
+use crate::pieces::simple_escape;
 use crate::runs::find_end;
 use crate::runs::find_quote;
 use escapes::Mode;
@@ -25,6 +26,13 @@ fn body(m: Mode, s: &[u8], start: usize) -> LiteralAnswer
     let mut decoded: usize = 0;
     let mut escaped = false;
     while at < s.len() {
+        if simple_escape(s, at) {
+            at += 2;
+            from = at;
+            decoded += 1;
+            escaped = true;
+            continue;
+        }
         let p = next_piece(m, &s[at..]);
         match p {
             Piece::Quote => {
