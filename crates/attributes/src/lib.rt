@@ -1,4 +1,5 @@
-// Attributes (document 01, module 7), after the crate's `attribute` and `extension_list`, over the part of the text that begins with the `#`.
+// Attributes (document 01, module 7), after the crate's `attribute` and `extension_list`, over the part of the text that begins with the `#`: `enable`
+// with its list, `type` and `schema`; 19, 20 and 21 stand at the `#`.
 pub mod close;
 pub mod extensions;
 pub mod list;

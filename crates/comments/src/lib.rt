@@ -1,4 +1,10 @@
 // Comments (document 01, module 2): marks, block and line comments, and the gap before a token.
+//
+// `mark_at` decides over the two bytes at hand; `block_comment` keeps the level beside it; `line_comment` runs to LF; `skip_gap` passes whitespace and
+// comments up to a token, the end, or a refusal (4, 5, 6).
+//
+// A block comment ends exactly where its nesting does: proofs/Nesting, against a definition of its own (specs/Blocks). That an edit elsewhere leaves a gap
+// as it was is GapWindow.
 mod block;
 mod gap;
 mod line;

@@ -1,4 +1,5 @@
-// How deep the entries of a tape are nested.
+// How deep the entries of a tape are nested, for people (program explain): brackets open at once, at most. proofs/DepthMeans: it is exactly the most open
+// brackets, and within the limit of a walk that accepts (document 01, module 10).
 use grammar::kinds::Side;
 use grammar::kinds::kind_of;
 use grammar::kinds::side_of;

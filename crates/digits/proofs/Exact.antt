@@ -8,7 +8,7 @@ use mathlib.Core.Path.{_≡_, ap, refl}
 use lib.Dec.{eqb, leb, ltb}
 use lib.Ieee.{fits}
 use borrow.Author.Tests.{eqb-false, eqb-true, le-ltb, leb-false, lt-leb, ltb-false}
-use Rattle.digits.specs.Digits.{digitOf, digitsFrom, digitsOf, turnOf}
+use Rattle.digits.specs.Digits.{hexOf, digitsFrom, digitsOf, turnOf}
 use Rattle.digits.specs.Value.{Fit, ReadsFrom, stepOf, valueFrom}
 use Rattle.digits.specs.declared.Run.the-variants.{Value, NotDigit, Over}
 use Rattle.digits.specs.declared.up.Turned.{Turned}
@@ -45,18 +45,18 @@ module _ (limit base acc c : ℕ) where
   turn-next n e h =
       either (bool-cases (eqb c 0x5f)) (λ p. let q : acc ≡ n = cc (simp p at e) in (rw (p) q, (inl (eqb-true _ _ p), omega arith))) λ p.
       either (bool-cases (ltb limit (acc * base))) (λ q. over-next n (simp (p, q) at e)) λ q.
-      either (bool-cases (leb base (digitOf c))) (λ r. not-next n (simp (p, q, r) at e)) λ r.
-      either (bool-cases (ltb limit (acc * base + digitOf c))) (λ s. over-next n (simp (p, q, r, s) at e)) λ s.
-      let t : acc * base + digitOf c ≡ n = cc (simp (p, q, r, s) at e) in
-      (rw p t, (inr (leb-false _ _ r), omega (arith, ltb-false limit (acc * base + digitOf c) s)))
+      either (bool-cases (leb base (hexOf c))) (λ r. not-next n (simp (p, q, r) at e)) λ r.
+      either (bool-cases (ltb limit (acc * base + hexOf c))) (λ s. over-next n (simp (p, q, r, s) at e)) λ s.
+      let t : acc * base + hexOf c ≡ n = cc (simp (p, q, r, s) at e) in
+      (rw p t, (inr (leb-false _ _ r), omega (arith, ltb-false limit (acc * base + hexOf c) s)))
 
   pub turn-fit : Fit base c → stepOf base acc c ≤ limit → turnOf limit base acc c ≡ turned.Next (stepOf base acc c)
   unfolding turnOf
   turn-fit f h =
       either (bool-cases (eqb c 0x5f)) (λ e. simp e) λ e.
-      let d : digitOf c < base = either f (λ u. absurd (eqb-false _ _ e u)) (λ d. d) in
-      let g : acc * base + digitOf c ≤ limit = simp e at h in
-      simp (e, le-ltb limit (acc * base) (omega arith), lt-leb base (digitOf c) d, le-ltb limit (acc * base + digitOf c) g)
+      let d : hexOf c < base = either f (λ u. absurd (eqb-false _ _ e u)) (λ d. d) in
+      let g : acc * base + hexOf c ≤ limit = simp e at h in
+      simp (e, le-ltb limit (acc * base) (omega arith), lt-leb base (hexOf c) d, le-ltb limit (acc * base + hexOf c) g)
 
 module _ (limit base : ℕ) (positive : 0 < base) where
   -- where the definition answers a value, the run reads as it

@@ -92,8 +92,11 @@ module _ {acc low : ℤ} {base : ℕ} (n : Negative acc low base) where
   pub quot-fits : SFits w64 (quotZ (toZ w64 (ofZ w64 low)) (toZ w64 base))
   quot-fits = rw quot-is (neg-fits (natAbs low / base) quot-le)
 
-  pub test-is : ltZ (toZ w64 (ofZ w64 acc)) (toZ w64 (ofZ w64 (quotZ (toZ w64 (ofZ w64 low)) (toZ w64 base)))) ≡ ltb (natAbs low / base) (natAbs acc)
-  test-is = rw (acc-is, quot-is, toZ-ofZ w64 (negℤ (pos (natAbs low / base))) (neg-fits (natAbs low / base) quot-le)) (lt-neg (natAbs acc) (natAbs low / base))
+  pub quot-held : toZ w64 (ofZ w64 (quotZ (toZ w64 (ofZ w64 low)) (toZ w64 base))) ≡ negℤ (pos (natAbs low / base))
+  quot-held = toZ-ofZ w64 _ quot-fits ∙ quot-is
+
+  pub test-is : {least : ℤ} → SFits w64 least → least ≡ negℤ (pos (natAbs low / base)) → ltZ (toZ w64 (ofZ w64 acc)) (toZ w64 (ofZ w64 least)) ≡ ltb (natAbs low / base) (natAbs acc)
+  test-is {least} f e = rw (acc-is, toZ-ofZ w64 least f ∙ e) (lt-neg (natAbs acc) (natAbs low / base))
 
   product-is : toZ w64 (ofZ w64 acc) *ℤ toZ w64 base ≡ negℤ (pos (natAbs acc * base))
   product-is = rw (acc-is, base-is) (mul-neg (natAbs acc) base)

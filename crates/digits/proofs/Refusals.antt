@@ -9,7 +9,7 @@ use lib.Ieee.{fits}
 use lib.ListN.{take}
 use borrow.Author.Tests.{eqb-false, leb-false, leb-true, ltb-false, ltb-true, le-leb, le-ltb, lt-leb, lt-ltb, ne-eqb}
 use Rattle.digits.proofs.Exact.{turn-fit, turn-next, value-grows}
-use Rattle.digits.specs.Digits.{digitOf, digitsFrom, digitsOf, onTurn, turnOf}
+use Rattle.digits.specs.Digits.{hexOf, digitsFrom, digitsOf, onTurn, turnOf}
 use Rattle.digits.specs.Value.{Fit, StopsAt, stepOf, valueFrom}
 use Rattle.digits.specs.declared.Run.{Run}
 use Rattle.digits.specs.declared.Run.the-variants.{Value, Empty, Underscore, NotDigit, Over}
@@ -25,32 +25,32 @@ clash e = absurd (omega arith)
 
 -- what a refused character is
 module _ (limit base acc c : ℕ) where
-  pub turn-not : turnOf limit base acc c ≡ turned.NotDigit → (c ≡ 0x5f → ⊥) × (acc * base ≤ limit) × (base ≤ digitOf c)
+  pub turn-not : turnOf limit base acc c ≡ turned.NotDigit → (c ≡ 0x5f → ⊥) × (acc * base ≤ limit) × (base ≤ hexOf c)
   unfolding turnOf
   turn-not e =
       either (bool-cases (eqb c 0x5f)) (λ p. clash (cc (simp p at e))) λ p.
       either (bool-cases (ltb limit (acc * base))) (λ q. clash (cc (simp (p, q) at e))) λ q.
-      either (bool-cases (leb base (digitOf c))) (λ r. (eqb-false _ _ p, ltb-false _ _ q, leb-true _ _ r)) λ r.
-      either (bool-cases (ltb limit (acc * base + digitOf c))) (λ s. clash (cc (simp (p, q, r, s) at e))) (λ s. clash (cc (simp (p, q, r, s) at e)))
+      either (bool-cases (leb base (hexOf c))) (λ r. (eqb-false _ _ p, ltb-false _ _ q, leb-true _ _ r)) λ r.
+      either (bool-cases (ltb limit (acc * base + hexOf c))) (λ s. clash (cc (simp (p, q, r, s) at e))) (λ s. clash (cc (simp (p, q, r, s) at e)))
 
-  pub turn-over : turnOf limit base acc c ≡ turned.Over → (c ≡ 0x5f → ⊥) × ((limit < acc * base) ⊎ ((digitOf c < base) × (limit < acc * base + digitOf c)))
+  pub turn-over : turnOf limit base acc c ≡ turned.Over → (c ≡ 0x5f → ⊥) × ((limit < acc * base) ⊎ ((hexOf c < base) × (limit < acc * base + hexOf c)))
   unfolding turnOf
   turn-over e =
       either (bool-cases (eqb c 0x5f)) (λ p. clash (cc (simp p at e))) λ p.
       either (bool-cases (ltb limit (acc * base))) (λ q. (eqb-false _ _ p, inl (ltb-true _ _ q))) λ q.
-      either (bool-cases (leb base (digitOf c))) (λ r. clash (cc (simp (p, q, r) at e))) λ r.
-      either (bool-cases (ltb limit (acc * base + digitOf c))) (λ s. (eqb-false _ _ p, inr (leb-false _ _ r, ltb-true _ _ s))) (λ s. clash (cc (simp (p, q, r, s) at e)))
+      either (bool-cases (leb base (hexOf c))) (λ r. clash (cc (simp (p, q, r) at e))) λ r.
+      either (bool-cases (ltb limit (acc * base + hexOf c))) (λ s. (eqb-false _ _ p, inr (leb-false _ _ r, ltb-true _ _ s))) (λ s. clash (cc (simp (p, q, r, s) at e)))
 
-  pub not-turn : (c ≡ 0x5f → ⊥) → acc * base ≤ limit → base ≤ digitOf c → turnOf limit base acc c ≡ turned.NotDigit
+  pub not-turn : (c ≡ 0x5f → ⊥) → acc * base ≤ limit → base ≤ hexOf c → turnOf limit base acc c ≡ turned.NotDigit
   unfolding turnOf
-  not-turn n p d = simp (ne-eqb c 0x5f n, le-ltb limit (acc * base) p, le-leb base (digitOf c) d)
+  not-turn n p d = simp (ne-eqb c 0x5f n, le-ltb limit (acc * base) p, le-leb base (hexOf c) d)
 
-  pub over-turn : (c ≡ 0x5f → ⊥) → (limit < acc * base) ⊎ ((digitOf c < base) × (limit < acc * base + digitOf c)) → turnOf limit base acc c ≡ turned.Over
+  pub over-turn : (c ≡ 0x5f → ⊥) → (limit < acc * base) ⊎ ((hexOf c < base) × (limit < acc * base + hexOf c)) → turnOf limit base acc c ≡ turned.Over
   unfolding turnOf
   over-turn n w =
       either w (λ p. simp (ne-eqb c 0x5f n, lt-ltb limit (acc * base) p)) λ h.
       either (bool-cases (ltb limit (acc * base))) (λ p. simp (ne-eqb c 0x5f n, p))
-      (λ p. simp (ne-eqb c 0x5f n, p, lt-leb base (digitOf c) (h .0), lt-ltb limit (acc * base + digitOf c) (h .1)))
+      (λ p. simp (ne-eqb c 0x5f n, p, lt-leb base (hexOf c) (h .0), lt-ltb limit (acc * base + hexOf c) (h .1)))
 
 module _ (limit base : ℕ) (positive : 0 < base) where
   -- one character more in front

@@ -1,31 +1,23 @@
 -- Digit runs (document 01, module 5): "For each digit: multiply (10 on overflow), judge the digit (9), add or, after a minus, subtract (10)."
 -- The limit is the largest magnitude that the width holds, on the side of 0 where the number lies.
-use Prim.Native.Nat.{ℕ, _+_, _-_, _*_}
+use Prim.Native.Nat.{ℕ, _+_, _*_}
 use mathlib.Core.List.{List, [], _∷_}
 use mathlib.Core.Bool.{cond}
 use lib.Dec.{ltb, leb, eqb}
-use Rattle.text.specs.Classes.{within}
+unfoldable pub use Rattle.hexes.specs.Hex.{hexOf}
 use Rattle.digits.specs.declared.up.Turned.{Turned}
 use Rattle.digits.specs.declared.up.Turned.the-variants as turned
 use Rattle.digits.specs.declared.Run.{Run}
 use Rattle.digits.specs.declared.Run.the-variants.{Value, Empty, Underscore, NotDigit, Over}
-
--- The digit that a byte stands for: 0 to 9, A to F, a to f; 16 for any other byte.
-unfoldable pub digitOf : ℕ → ℕ
-digitOf c =
-    cond (within 0x30 0x39 c) (c - 0x30)
-    (cond (within 0x41 0x46 c) (c - 0x37)
-    (cond (within 0x61 0x66 c) (c - 0x57)
-    16))
 
 -- One character: an underscore leaves the magnitude; a digit is multiplied in, judged, and added, in this order.
 unfoldable pub turnOf : (limit base acc c : ℕ) → Turned
 turnOf limit base acc c =
     cond (eqb c 0x5f) (turned.Next acc)
     (cond (ltb limit (acc * base)) turned.Over
-    (cond (leb base (digitOf c)) turned.NotDigit
-    (cond (ltb limit (acc * base + digitOf c)) turned.Over
-    (turned.Next (acc * base + digitOf c)))))
+    (cond (leb base (hexOf c)) turned.NotDigit
+    (cond (ltb limit (acc * base + hexOf c)) turned.Over
+    (turned.Next (acc * base + hexOf c)))))
 
 -- What a run answers whose character at the place `at` does this, where the rest answers `rest` from the next magnitude on.
 abbrev pub onTurn : (at : ℕ) → Turned → (ℕ → Run) → Run

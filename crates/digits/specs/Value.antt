@@ -6,12 +6,12 @@ use mathlib.Core.Logic.{_⊎_}
 use mathlib.Core.Path.{_≡_}
 use lib.ListN.{length, getD, take}
 use lib.Dec.{eqb}
-use Rattle.digits.specs.Digits.{digitOf, turnOf}
+use Rattle.digits.specs.Digits.{hexOf, turnOf}
 use Rattle.digits.specs.declared.up.Turned.{Turned}
 
 -- One character's part in the value: an underscore leaves it, a digit is one place more.
 abbrev pub stepOf : (base acc c : ℕ) → ℕ
-stepOf base acc c = cond (eqb c 0x5f) acc (acc * base + digitOf c)
+stepOf base acc c = cond (eqb c 0x5f) acc (acc * base + hexOf c)
 
 -- The value of a run behind digits whose value is `acc`.
 unfoldable pub valueFrom : (base acc : ℕ) → List ℕ → ℕ
@@ -24,7 +24,7 @@ valueOf base run = valueFrom base 0 run
 
 -- An underscore, or a digit below the base.
 abbrev pub Fit : (base c : ℕ) → Type 0
-Fit base c = (c ≡ 0x5f) ⊎ (digitOf c < base)
+Fit base c = (c ≡ 0x5f) ⊎ (hexOf c < base)
 
 -- The digits read as `v`: only digits below the base and underscores, and a value that is `v` and within the limit.
 pub record ReadsFrom (limit base acc : ℕ) (run : List ℕ) (v : ℕ) : Type 0 where

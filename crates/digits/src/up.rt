@@ -1,6 +1,6 @@
 // The unsigned accumulator: up to a limit.
 use crate::Run;
-use crate::digit::decode_hex;
+use hexes::decode_hex;
 ghost use mathlib.Core.Path.{_≡_};
 ghost use Prim.Native.Nat.{_/_, _<_};
 ghost use Rattle.digits.specs.Digits.{turnOf, digitsOf};
@@ -24,14 +24,29 @@ fn turn(acc: u64, c: u8, base: u64, limit: u64, most: u64) -> Turned
         return Turned::Over;
     }
     let product = acc * base;
-    let d = decode_hex(c);
+    let d = decode_hex(c) as u64;
     if base <= d {
         return Turned::NotDigit;
     }
     if limit - product < d {
         return Turned::Over;
     }
-    Turned::Next(product + d)
+    let next = product + d;
+    Turned::Next(next)
+}
+
+// The quotient, in the two common bases by a number that the compiler knows: no division is left of it.
+fn most_of(limit: u64, base: u64) -> u64
+    requires { ⌜ 0 < base ⌝ }
+    ensures { λ r. ⌜ r ≡ limit / base ⌝ }
+{
+    if base == 10 {
+        return limit / 10;
+    }
+    if base == 16 {
+        return limit / 16;
+    }
+    limit / base
 }
 
 // A whole run.
@@ -39,7 +54,7 @@ pub fn digits(run: &[u8], base: u64, limit: u64) -> Run
     requires { ⌜ 0 < base ⌝ }
     ensures { λ r. ⌜ r ≡ digitsOf limit base (now (run .entry)) ⌝ }
 {
-    let most = limit / base;
+    let most = most_of(limit, base);
     let mut acc: u64 = 0;
     let mut i: usize = 0;
     while i < run.len() {

@@ -1,3 +1,2 @@
 pub mod LiteralLaws
 pub mod NamedLaws
-pub mod Cuts

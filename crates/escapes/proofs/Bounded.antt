@@ -9,6 +9,7 @@ use lib.Ieee.{low}
 use lib.ListN.{drop, length, length-drop}
 use borrow.Author.Tests.{eqb-false, eqb-true, lt-ltb, ltb-true}
 use Rattle.escapes.proofs.EscapeLaws.{next-ascii, next-short, two-ascii}
+use Rattle.hexes.proofs.HexLaws.{hex-ascii}
 use Rattle.escapes.specs.Escapes.{closeOf, digitsOf, escapeOf, hexBy, hexEscape, hexOf, moreBytes, nextByte, secondDigit, simpleOf, twoDigits, unicodeEscape, withByte}
 use Rattle.escapes.specs.declared.answers.EscapeAnswer.{EscapeAnswer}
 use Rattle.escapes.specs.declared.answers.EscapeAnswer.the-variants.{Ascii, Refused, Utf8}
@@ -43,15 +44,6 @@ less-reach low low′ at t (Refused r) i h = h
 run-cons : (b : ℕ) (t : List ℕ) → b < 0x80 → run ascii (b ∷ t) ≡ suc (run ascii t)
 unfolding run
 run-cons b t h = rw (lt-ltb b 0x80 h)
-
--- a hex digit is ASCII
-pub hex-ascii : (b : ℕ) → (hexOf b ≡ 16 → ⊥) → b < 0x80
-unfolding hexOf
-hex-ascii b =
-    cond-cases (λ (n : ℕ). (n ≡ 16 → ⊥) → b < 0x80) (within 0x30 0x39 b) _ _ (λ e n. let h = within-true 0x30 0x39 b e in omega arith)
-    (λ n1. cond-cases (λ (n : ℕ). (n ≡ 16 → ⊥) → b < 0x80) (within 0x61 0x66 b) _ _ (λ e n. let h = within-true 0x61 0x66 b e in omega arith)
-    (λ n2. cond-cases (λ (n : ℕ). (n ≡ 16 → ⊥) → b < 0x80) (within 0x41 0x46 b) _ _ (λ e n. let h = within-true 0x41 0x46 b e in omega arith)
-    (λ n3 n. absurd (n refl))))
 
 -- ---- each reader in turn
 

@@ -9,7 +9,7 @@ use lib.Dec.{eqb, ltb}
 use lib.Ieee.{low, top}
 use lib.ListN.{drop, getD}
 use borrow.Author.Tests.{eqb-false, ltb-true}
-use Rattle.escapes.proofs.EscapeLaws.{hex-le}
+use Rattle.hexes.proofs.HexLaws.{hex-le}
 use Rattle.escapes.specs.Escapes.{closeOf, digitsOf, escapeOf, hexBy, hexEscape, hexOf, moreBytes, nextByte, secondDigit, simpleOf, twoDigits, unicodeEscape, withByte}
 use Rattle.escapes.specs.declared.answers.EscapeAnswer.{EscapeAnswer}
 use Rattle.escapes.specs.declared.answers.EscapeAnswer.the-variants.{Ascii, Refused, Utf8}

@@ -21,30 +21,6 @@ use Rattle.text.specs.Refusals.{eof, invalidEscape}
 use Rattle.text.specs.Utf8.{In, charLen, codeOf, scalar}
 use Rattle.text.specs.declared.refusal.Refusal.{Refusal}
 
--- ---- a hex digit
-
-abbrev pub Out : ℕ → ℕ → ℕ → Type 0
-Out lo hi x = (x < lo) ⊎ (hi < x)
-
-out-within : (lo hi x : ℕ) → Out lo hi x → within lo hi x ≡ false
-out-within lo hi x o = ⊎-elim (below lo hi x) (above lo hi x) o
-
-pub hex-digit : (b : ℕ) → In 0x30 0x39 b → hexOf b ≡ b - 0x30
-unfolding hexOf
-hex-digit b h = simp (in-within 0x30 0x39 b h)
-
-pub hex-lower : (b : ℕ) → In 0x61 0x66 b → hexOf b ≡ b - 0x57
-unfolding hexOf
-hex-lower b h = simp (above 0x30 0x39 b (omega arith), in-within 0x61 0x66 b h)
-
-pub hex-upper : (b : ℕ) → In 0x41 0x46 b → hexOf b ≡ b - 0x37
-unfolding hexOf
-hex-upper b h = simp (above 0x30 0x39 b (omega arith), below 0x61 0x66 b (omega arith), in-within 0x41 0x46 b h)
-
-pub hex-none : (b : ℕ) → Out 0x30 0x39 b → Out 0x61 0x66 b → Out 0x41 0x46 b → hexOf b ≡ 16
-unfolding hexOf
-hex-none b o p q = simp (out-within 0x30 0x39 b o, out-within 0x61 0x66 b p, out-within 0x41 0x46 b q)
-
 -- ---- the end of `\u{...}`
 
 pub close-end : (empty : Bool) (v at : ℕ) (t : List ℕ) → length t ≡ 0 → closeOf empty v at t ≡ Refused (invalidEscape at)
@@ -125,14 +101,6 @@ room-fits (suc (suc (suc (suc zero)))) h = omega arith
 room-fits (suc (suc (suc (suc (suc zero))))) h = omega arith
 room-fits (suc (suc (suc (suc (suc (suc zero)))))) h = omega arith
 room-fits (suc (suc (suc (suc (suc (suc (suc left))))))) h = absurd (omega arith)
-
-pub hex-le : (b : ℕ) → hexOf b ≤ 16
-unfolding hexOf
-hex-le b =
-    cond-cases (λ (n : ℕ). n ≤ 16) (within 0x30 0x39 b) (b - 0x30) _ (λ e. let h = within-true 0x30 0x39 b e in omega arith)
-    (λ n1. cond-cases (λ (n : ℕ). n ≤ 16) (within 0x61 0x66 b) (b - 0x57) _ (λ e. let h = within-true 0x61 0x66 b e in omega arith)
-    (λ n2. cond-cases (λ (n : ℕ). n ≤ 16) (within 0x41 0x46 b) (b - 0x37) _ (λ e. let h = within-true 0x41 0x46 b e in omega arith)
-    (λ n3. omega arith)))
 
 -- ---- the start
 

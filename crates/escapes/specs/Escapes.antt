@@ -1,12 +1,12 @@
 -- Escapes (document 01, module 3): "`\u{}` takes 1 to 6 hex digits, no surrogate, nothing above U+10FFFF. In a string `\x` takes up to four in a row until they form one UTF-8 character; in a char only one; in byte literals and byte strings any byte."
 -- An escape is read over the part of the text from behind its `\`, and its length and places are counted from there. Below, t is what is left of the part, and `at` its place.
-use Prim.Native.Nat.{ℕ, zero, suc, _+_, _-_, _*_}
+use Prim.Native.Nat.{ℕ, zero, suc, _+_, _*_}
 use mathlib.Core.List.{List, [], _∷_, _++_}
 use mathlib.Core.Bool.{Bool, true, false, cond, _&&_}
 use lib.ListN.{getD, drop}
 use lib.Dec.{eqb, ltb}
 use Rattle.text.specs.Refusals.{eof, invalidEscape}
-use Rattle.text.specs.Classes.{within}
+unfoldable pub use Rattle.hexes.specs.Hex.{hexOf}
 use Rattle.text.specs.Utf8.{charLen, codeOf, scalar}
 use Rattle.escapes.specs.declared.answers.Mode.{Mode}
 use Rattle.escapes.specs.declared.answers.Mode.the-variants.{Str, Char, Bytes}
@@ -14,13 +14,6 @@ use Rattle.escapes.specs.declared.answers.EscapeAnswer.{EscapeAnswer}
 use Rattle.escapes.specs.declared.answers.EscapeAnswer.the-variants.{Ascii, Utf8, Refused}
 
 -- ---- hex digits: a character is taken, then judged
-
--- The value of a hex digit; 16 where it is none.
-unfoldable pub hexOf : ℕ → ℕ
-hexOf b =
-    cond (within 0x30 0x39 b) (b - 0x30)
-    (cond (within 0x61 0x66 b) (b - 0x57)
-    (cond (within 0x41 0x46 b) (b - 0x37) 16))
 
 -- The second of two digits, where the first comes to h.
 unfoldable pub secondDigit : ℕ → ℕ → List ℕ → EscapeAnswer

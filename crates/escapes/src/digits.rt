@@ -2,23 +2,12 @@
 use crate::EscapeAnswer;
 use crate::answers::ended;
 use crate::answers::invalid;
+use hexes::decode_hex;
 use text::utf8;
 ghost use mathlib.Core.Path.{_≡_};
 ghost use Prim.Native.Nat.{_+_, _<_, _^_};
 ghost use lib.ListN.{length};
-ghost use Rattle.escapes.specs.Escapes.{hexOf, secondDigit, twoDigits};
-
-// The value of a hex digit, or 16.
-pub fn decode_hex(b: u8) -> u8
-    ensures { λ r. ⌜ r ≡ hexOf b ⌝ }
-{
-    match b {
-        0x30..=0x39 => b - 0x30,
-        0x61..=0x66 => b - 0x57,
-        0x41..=0x46 => b - 0x37,
-        _ => 16,
-    }
-}
+ghost use Rattle.escapes.specs.Escapes.{secondDigit, twoDigits};
 
 // The second of two digits, at the front of t; h is the first.
 fn second_digit(t: &[u8], at: usize, h: u8) -> EscapeAnswer

@@ -1,4 +1,9 @@
-// Escapes (document 01, module 3), over the part of the text from behind the `\`.
+// Escapes (document 01, module 3), over the part of the text from behind the `\`: `\x` with two digits, `\u` with one to six in braces, and the letters;
+// refusal 13 at its places.
+//
+// `parse_escape` takes the mode (char, string, byte string) and answers the value with its length. Proved beyond the contracts: an accepted escape lies
+// within the part and so does the place of a refused one (Bounded), nothing behind it changes the answer (Closed), and its value is one scalar value or
+// one byte (Decoded).
 pub mod answers;
 pub mod digits;
 pub mod hex;

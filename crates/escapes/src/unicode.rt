@@ -2,7 +2,7 @@
 use crate::EscapeAnswer;
 use crate::answers::ended;
 use crate::answers::invalid;
-use crate::digits::decode_hex;
+use hexes::decode_hex;
 use text::utf8;
 ghost use mathlib.Core.Path.{_≡_};
 ghost use Prim.Native.Nat.{_+_, _<_, _^_};

@@ -2,6 +2,7 @@
 use text::bytes::peek;
 use text::classes::is_float_char;
 ghost use mathlib.Core.Path.{_≡_};
+ghost use lib.ListN.{getD};
 ghost use Rattle.floats.specs.Classes.{sign, scale, floatGoes, floatRun};
 
 pub fn is_sign(c: u8) -> bool
@@ -30,6 +31,13 @@ fn float_goes(a: u8, b: u8) -> bool
         return b != b'.';
     }
     is_float_char(a)
+}
+
+// A float goes on at the front of the part.
+pub fn goes_on(t: &[u8]) -> bool
+    ensures { λ r. ⌜ r ≡ floatGoes (getD (now (t .entry)) 0 0) (getD (now (t .entry)) 1 0) ⌝ }
+{
+    float_goes(peek(t, 0), peek(t, 1))
 }
 
 // How many float characters the part begins with, up to two points in a row.

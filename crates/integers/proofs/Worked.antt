@@ -5,7 +5,7 @@ use mathlib.Core.Path.{_≡_, refl}
 use Rattle.text.specs.Classes.{within, blankWidth, blank1, blank2, blank3, foreign, digit, letter, hexDigit, intChar, identNext}
 use Rattle.text.specs.Runs.{run}
 use Rattle.text.specs.Refusals.{refusal}
-use Rattle.digits.specs.Digits.{digitOf, turnOf, digitsFrom, runOf}
+use Rattle.digits.specs.Digits.{hexOf, turnOf, digitsFrom, runOf}
 use Rattle.integers.specs.Words.{startsWith, identOf, firstOf, foreignAhead}
 use Rattle.integers.specs.Width.{limitAt, firstFit, widthAt, suffixWord, suffixOf}
 use Rattle.integers.specs.Front.{signOf, prefixOf, frontOf}
@@ -134,5 +134,5 @@ pub worked : answers ≡
     ∷ integer.Refused (refusal 7 2)
     ∷ integer.Read (record { minus = false; magnitude = 12 }) 2
     ∷ []
-unfolding within blankWidth blank1 blank2 blank3 foreign digit letter hexDigit intChar identNext run digitOf turnOf digitsFrom runOf startsWith identOf firstOf foreignAhead limitAt firstFit widthAt suffixWord suffixOf signOf prefixOf frontOf numeralOf typedOf
+unfolding within blankWidth blank1 blank2 blank3 foreign digit letter hexDigit intChar identNext run hexOf turnOf digitsFrom runOf startsWith identOf firstOf foreignAhead limitAt firstFit widthAt suffixWord suffixOf signOf prefixOf frontOf numeralOf typedOf
 worked = refl

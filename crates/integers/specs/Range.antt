@@ -8,7 +8,7 @@ use mathlib.Core.Logic.{_⊎_}
 use lib.ListN.{length, getD, take}
 use lib.IntN.{ℤ, pos, negℤ}
 use lib.Signed.{_≤ℤ_}
-use Rattle.digits.specs.Digits.{digitOf}
+use Rattle.digits.specs.Digits.{hexOf}
 use Rattle.digits.specs.Value.{valueOf, Fit, ReadsFrom}
 
 -- The number with a magnitude and a sign.
@@ -52,10 +52,10 @@ pub record Before (limit base : ℕ) (run : List ℕ) (i : ℕ) : Type 0 where
 pub record NotBelow (limit base : ℕ) (run : List ℕ) (i : ℕ) : Type 0 where
   pub before : Before limit base run i
   pub product : valueOf base (take i run) * base ≤ limit
-  pub above : base ≤ digitOf (getD run i 0)
+  pub above : base ≤ hexOf (getD run i 0)
 
 -- 10 because of the character `i`: the product passes the limit, or the digit is below the base and the sum does.
 pub record Passes (limit base : ℕ) (run : List ℕ) (i : ℕ) : Type 0 where
   pub before : Before limit base run i
   pub passes : (limit < valueOf base (take i run) * base)
-      ⊎ ((digitOf (getD run i 0) < base) × (limit < valueOf base (take i run) * base + digitOf (getD run i 0)))
+      ⊎ ((hexOf (getD run i 0) < base) × (limit < valueOf base (take i run) * base + hexOf (getD run i 0)))

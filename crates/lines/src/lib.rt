@@ -1,4 +1,4 @@
-// Lines in and out of a program, over buffers that it lends.
+// Lines in and out of a program, over buffers that it lends: parts, searches, standard input to its end, numbers as text. No module of document 01.
 pub mod input;
 pub mod out;
 

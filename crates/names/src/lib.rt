@@ -1,4 +1,7 @@
-// Names (document 01, modules 1 and 9), after the crate's `identifier` and `skip_identifier`.
+// Names (document 01, modules 1 and 9), after the crate's `identifier` and `skip_identifier`: names, raw names, and `inf` and `NaN` with their suffixes as
+// floats; refusal 3 for a letter outside ASCII.
+//
+// All goes by characters, code point and width, so that a table of letters can come behind "first" and "next" later.
 use text::Refusal;
 
 pub mod characters;

@@ -4,7 +4,7 @@ use mathlib.Core.Path.{_≡_, refl}
 use Rattle.text.specs.Classes.{within, blankWidth, blank1, blank2, blank3, foreign, digit, letter, hexDigit, intChar, floatChar, identNext}
 use Rattle.text.specs.Runs.{run, run2}
 use Rattle.text.specs.Refusals.{refusal}
-use Rattle.digits.specs.Digits.{digitOf, turnOf, digitsFrom, runOf}
+use Rattle.digits.specs.Digits.{hexOf, turnOf, digitsFrom, runOf}
 use Rattle.integers.specs.Words.{startsWith, identOf, firstOf, foreignAhead}
 use Rattle.integers.specs.Width.{limitAt, firstFit, widthAt, suffixWord, suffixOf}
 use Rattle.integers.specs.Front.{signOf, prefixOf, frontOf}
@@ -198,5 +198,5 @@ pub worked : answers ≡
     ∷ Int U8 3
     ∷ Float (record { len = 4; suffix = 0 })
     ∷ []
-unfolding within blankWidth blank1 blank2 blank3 foreign digit letter hexDigit intChar floatChar identNext run run2 digitOf turnOf digitsFrom runOf startsWith identOf firstOf foreignAhead limitAt firstFit widthAt suffixWord suffixOf signOf prefixOf frontOf numeralOf anyOf floatGoes stepOf accepts wellTo stripped judgedOf runAt floatOf floatAhead numberOf
+unfolding within blankWidth blank1 blank2 blank3 foreign digit letter hexDigit intChar floatChar identNext run run2 hexOf turnOf digitsFrom runOf startsWith identOf firstOf foreignAhead limitAt firstFit widthAt suffixWord suffixOf signOf prefixOf frontOf numeralOf anyOf floatGoes stepOf accepts wellTo stripped judgedOf runAt floatOf floatAhead numberOf
 worked = refl

@@ -1,6 +1,8 @@
-// Numbers (document 01, module 6), over the part of the text that begins at the token's place: an integer or a float, and which of the two.
+// Numbers (document 01, module 6), over the part of the text that begins at the token's place: an integer or a float, and which of the two. Behind a sign
+// the longer of the two runs decides; an integer that cannot be read may still be a float.
 use digits::digit::run_len;
 use floats::class::float_run;
+use floats::class::goes_on;
 use floats::float::AnyFloat;
 use floats::float::FloatSpan;
 use floats::float::float;
@@ -20,14 +22,18 @@ pub enum Number {
     Refused(Refusal),
 }
 
-// Behind one sign the float run is longer than the integer run.
+// Behind one sign the float run is longer than the integer run; it is not counted where no float goes on behind the integer run.
 pub fn next_bytes_is_float(s: &[u8]) -> bool
     ensures { λ r. ⌜ r ≡ floatAhead (now (s .entry)) ⌝ }
 {
     let sign = sign_of(s);
     let front = sign.end;
-    let valid_float_len = float_run(&s[front..]);
     let valid_int_len = run_len(&s[front..]);
+    let behind = front + valid_int_len;
+    if !goes_on(&s[behind..]) {
+        return false;
+    }
+    let valid_float_len = float_run(&s[front..]);
     valid_int_len < valid_float_len
 }
 

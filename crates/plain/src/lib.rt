@@ -1,4 +1,5 @@
-// Plain forms: blanks and tokens that their bytes tell at once, so that the loop of read takes them itself; the general token reader takes the rest and says what is right.
+// Plain forms: runs of ASCII blanks, the eight marks, plain names, strings and numbers, which the read loop takes by itself. One law, `plain-token` of
+// proofs/PlainLaws: the general token reader (document 01, module 9) answers the same.
 pub mod blanks;
 pub mod forms;
 mod marks;

@@ -13,13 +13,13 @@ use Rattle.text.proofs.RunLaws.{run-le}
 use Rattle.text.specs.Classes.{digit}
 use Rattle.text.specs.Runs.{run}
 use Rattle.digits.proofs.Exact.{value-grows}
-use Rattle.digits.specs.Digits.{digitOf}
+use Rattle.digits.specs.Digits.{hexOf}
 use Rattle.digits.specs.Value.{stepOf, valueFrom, valueOf}
 use Rattle.plain_numbers.proofs.Runs.{digit-in, run-holds}
 
 module _ (c : ℕ) (e : digit c ≡ true) where
-  pub digit-value : digitOf c ≡ c - 0x30
-  unfolding digitOf digit
+  pub digit-value : hexOf c ≡ c - 0x30
+  unfolding hexOf digit
   digit-value = rw e
 
   pub step-digit : (acc : ℕ) → stepOf 10 acc c ≡ acc * 10 + (c - 0x30)

@@ -3,7 +3,7 @@ use mathlib.Core.List.{List, [], _∷_}
 use mathlib.Core.Path.{_≡_, refl}
 use Rattle.text.specs.Classes.{digit, within}
 use Rattle.text.specs.Runs.{run}
-use Rattle.digits.specs.Digits.{digitOf}
+use Rattle.digits.specs.Digits.{hexOf}
 use Rattle.digits.specs.Value.{valueFrom}
 use Rattle.integers.specs.Front.{signOf}
 use Rattle.integers.specs.Width.{firstFit}
@@ -38,7 +38,7 @@ pub worked : plain ≡
     ∷ plainFloat 7
     ∷ plainFloat 8
     ∷ []
-unfolding plainNumber fractionOf fitOf signOf run digit within quietByte valueFrom digitOf firstFit
+unfolding plainNumber fractionOf fitOf signOf run digit within quietByte valueFrom hexOf firstFit
 worked = refl
 
 -- `1000000000,`, `1_048u16,`, `0x6109,`, `1e5,`, `7.,`, `.5,`, `1..2,`, `7`, `7//`, `-,`, `Lock(`.
@@ -58,5 +58,5 @@ other =
     ∷ []
 
 pub worked-other : other ≡ notPlain ∷ notPlain ∷ notPlain ∷ notPlain ∷ notPlain ∷ notPlain ∷ notPlain ∷ notPlain ∷ notPlain ∷ notPlain ∷ notPlain ∷ []
-unfolding plainNumber fractionOf fitOf signOf run digit within quietByte valueFrom digitOf firstFit
+unfolding plainNumber fractionOf fitOf signOf run digit within quietByte valueFrom hexOf firstFit
 worked-other = refl

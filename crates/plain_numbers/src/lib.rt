@@ -1,4 +1,5 @@
-// Plain numbers: what a read takes without the general reader, which says the same of them.
+// Plain numbers: at most nine decimal digits, or a float of digits, a point and digits, with a quiet byte behind. The read loop takes them without the
+// general token reader (document 01, modules 5 and 6), which stays their definition: proofs/PlainNumbers shows that it reads them as the same entry.
 use crate::parts::digits_end;
 use crate::parts::fraction_len;
 use crate::parts::quiet_at;

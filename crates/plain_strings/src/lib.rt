@@ -1,2 +1,3 @@
-// Plain strings: quoted, and nothing in them escaped. The read loop takes them without the general token reader.
+// Plain strings: quoted, with nothing escaped. The read loop takes them without the general token reader (document 01, module 9), which stays their
+// definition: proofs/PlainStrings shows that it reads them as the same entry.
 pub mod plain;

@@ -16,7 +16,7 @@ use Rattle.text.specs.Refusals.{Told, accepted, refused, unfit}
 use Rattle.text.specs.Runs.{run}
 use Rattle.text.specs.declared.judge.Judged.{Judged}
 use Rattle.text.specs.declared.judge.Judged.the-variants.{Fit, Refused as NotFit}
-use Rattle.digits.specs.Digits.{digitOf}
+use Rattle.digits.specs.Digits.{hexOf}
 use Rattle.digits.specs.Value.{Fit as DigitFit}
 use Rattle.integers.specs.Front.{frontOf, prefixOf, signOf}
 use Rattle.integers.specs.Integer.{typedOf, valueOf}
@@ -55,7 +55,7 @@ placed-read place (integer.Refused r) t h = let z : _≡_ {A = ℕ} 0 1 = cc in 
 
 -- no number is written where a byte literal stands: `b` is no digit of base 10
 no-digit : DigitFit 10 0x62 → ⊥
-unfolding digitOf within
+unfolding hexOf within
 no-digit (inl e) = omega arith
 no-digit (inr l) = omega arith
 

@@ -20,17 +20,11 @@ use Rattle.reading.specs.Owed.{quietByte}
 use Rattle.reading.specs.Readings.{complete}
 use Rattle.tokens.proofs.RonLaws.{kinds, laws}
 use Rattle.tokens.specs.Ron.{ronToken}
-use Rattle.read.proofs.ReadLaws.{fit-short, read-refused}
+use Rattle.text.proofs.JudgeLaws.{fit-short}
+use Rattle.rows.proofs.OrderLaws.{in-order-higher}
+use Rattle.read.proofs.ReadLaws.{read-refused}
 use Rattle.read.specs.Read.{readAnswer, readTape}
 use Rattle.mending.proofs.Again.{after-read}
-
--- entries that end within a limit end within a higher one
-in-order-higher : (es : List Entry) (at limit more : ℕ) → limit ≤ more → inOrderFrom es at limit ≡ true → inOrderFrom es at more ≡ true
-unfolding inOrderFrom
-in-order-higher [] at limit more h e = le-leb at more (omega (arith, leb-true at limit e))
-in-order-higher (x ∷ es) at limit more h e =
-    let p = and-true (orderly at x) (inOrderFrom es (x .end) limit) e in
-    simp (p .0, in-order-higher es (x .end) limit more h (p .1))
 
 -- an accepted read is of a text of at most 65,536 bytes
 accepted-short : (text : List ℕ) (numbers n : ℕ) (j : Judged) → judgedOf text ≡ j → readAnswer text numbers ≡ accepted n → length text ≤ 65536

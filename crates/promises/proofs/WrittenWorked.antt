@@ -5,7 +5,7 @@ use mathlib.Core.Path.{_≡_, refl}
 use lib.IntN.{pos, negℤ}
 use Rattle.text.specs.Classes.{digit, hexDigit, identNext, intChar, letter, within}
 use Rattle.text.specs.Runs.{run}
-use Rattle.digits.specs.Digits.{digitOf}
+use Rattle.digits.specs.Digits.{hexOf}
 use Rattle.digits.specs.Value.{valueFrom}
 use Rattle.integers.specs.Front.{frontOf, prefixOf, signOf}
 use Rattle.integers.specs.Width.{suffixOf, suffixWord}
@@ -25,13 +25,13 @@ decimal : List ℕ
 decimal = 0x2b ∷ 0x31 ∷ 0x5f ∷ 0x30 ∷ 0x30 ∷ 0x30 ∷ []
 
 hex-worked : (written hex ≡ negℤ (pos 16)) × (writtenLen hex ≡ 9)
-unfolding hex within digit letter hexDigit identNext intChar run digitOf valueFrom signOf prefixOf frontOf startsWith identOf firstOf suffixWord suffixOf
+unfolding hex within digit letter hexDigit identNext intChar run hexOf valueFrom signOf prefixOf frontOf startsWith identOf firstOf suffixWord suffixOf
 hex-worked = (refl, refl)
 
 binary-worked : (written binary ≡ pos 5) × (writtenLen binary ≡ 5)
-unfolding binary within digit letter hexDigit identNext intChar run digitOf valueFrom signOf prefixOf frontOf startsWith identOf firstOf suffixWord suffixOf
+unfolding binary within digit letter hexDigit identNext intChar run hexOf valueFrom signOf prefixOf frontOf startsWith identOf firstOf suffixWord suffixOf
 binary-worked = (refl, refl)
 
 decimal-worked : (written decimal ≡ pos 1000) × (writtenLen decimal ≡ 6)
-unfolding decimal within digit letter hexDigit identNext intChar run digitOf valueFrom signOf prefixOf frontOf startsWith identOf firstOf suffixWord suffixOf
+unfolding decimal within digit letter hexDigit identNext intChar run hexOf valueFrom signOf prefixOf frontOf startsWith identOf firstOf suffixWord suffixOf
 decimal-worked = (refl, refl)

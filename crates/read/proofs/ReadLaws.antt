@@ -33,14 +33,6 @@ all-laid r n tape e = ap (λ (es : List Entry). laid es tape) (take-all n (entri
 
 -- ---- the call, by the judgement of its text
 
--- a text that is judged fit has at most 65,536 bytes
-pub fit-short : (text : List ℕ) → judgedOf text ≡ Fit → length text ≤ 65536
-unfolding judgedOf
-fit-short text e =
-    either (lt-or-le 65536 (length text))
-    (λ h. let z : NotFit tooLong ≡ Fit = sym (simp (lt-ltb 65536 (length text) h)) ∙ e in let y : _≡_ {A = ℕ} 0 1 = cc in absurd (omega arith))
-    (λ h. h)
-
 module _ (text : List ℕ) where
   pub read-refused : (numbers : ℕ) (r : Refusal) → judgedOf text ≡ NotFit r → readAnswer text numbers ≡ refused r
   unfolding readAnswer

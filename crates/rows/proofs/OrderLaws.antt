@@ -4,15 +4,15 @@ use native.Mathlib.Nat.{le-of-suc-le-suc, not-suc-le-zero}
 use native.Mathlib.Omega.{arith}
 use mathlib.Core.Bool.{Bool, _&&_, false, true}
 use mathlib.Core.List.{List, [], _∷_}
-use mathlib.Core.Path.{_∙_, _≡_, ap, sym}
+use mathlib.Core.Path.{_∙_, _≡_, ap, refl, subst, sym}
 use lib.Dec.{leb, ltb}
 use lib.ListN.{drop, getD, length}
-use borrow.Author.Tests.{leb-true, ltb-true}
+use borrow.Author.Tests.{le-leb, leb-true, ltb-true}
 use Rattle.rows.proofs.RowLaws.{entries-next}
-use Rattle.rows.specs.Order.{inOrder, inOrderFrom, orderly}
+use Rattle.rows.specs.Order.{fourOrderly, inOrder, inOrderFrom, orderly}
 use Rattle.rows.specs.Rows.{entriesOf, entryAt, width}
 use Rattle.rows.specs.declared.Entry.{Entry}
-use Rattle.text.proofs.Choices.{and-true}
+use Rattle.text.proofs.Choices.{and-true, bool-cases, either}
 use Rattle.text.proofs.ClassLaws.{within-true}
 use Rattle.text.specs.Classes.{within}
 
@@ -84,21 +84,16 @@ in-order-rise (e ∷ es) at limit h zero (suc k) d jk l =
 in-order-rise (e ∷ es) at limit h (suc j) (suc k) d jk l =
     in-order-rise es (e .end) limit (in-order-first e es at limit h .1) j k d (le-of-suc-le-suc jk) (le-of-suc-le-suc l)
 
--- ---- the loop over rows
+-- ---- the loops over rows
 
-module _ (t : List ℕ) (count limit : ℕ) where
+module _ (t : List ℕ) (count limit : ℕ) (whole : Bool) where
   -- what is left from row i on gives the whole
   abbrev pub Left : ℕ → ℕ → Type 0
-  Left i at = inOrderFrom (entriesOf (count - i) (drop (width * i) t)) at limit ≡ inOrder (entriesOf count t) limit
-
-  pub order-starts : Left 0 0
-  unfolding inOrder
-  order-starts = let z : count - 0 ≡ count = omega arith in ap (λ (n : ℕ). inOrderFrom (entriesOf n t) 0 limit) z
+  Left i at = inOrderFrom (entriesOf (count - i) (drop (width * i) t)) at limit ≡ whole
 
   module _ (i at : ℕ) (inv : Left i at) where
     -- row i decides together with those behind it
-    row-first : (e : Entry) → i < count → e ≡ entryAt t i
-        → orderly at e && inOrderFrom (entriesOf (count - (i + 1)) (drop (width * (i + 1)) t)) (e .end) limit ≡ inOrder (entriesOf count t) limit
+    row-first : (e : Entry) → i < count → e ≡ entryAt t i → orderly at e && inOrderFrom (entriesOf (count - (i + 1)) (drop (width * (i + 1)) t)) (e .end) limit ≡ whole
     unfolding inOrderFrom
     row-first e h is =
         let z : count - i ≡ suc (count - (i + 1)) = omega arith in
@@ -107,12 +102,79 @@ module _ (t : List ℕ) (count limit : ℕ) where
         ∙ sym (ap (λ (l : List Entry). inOrderFrom l at limit) (ap (λ (n : ℕ). entriesOf n (drop (width * i) t)) z ∙ entries-next (count - (i + 1)) i t))
         ∙ inv
 
-    pub order-bad : (e : Entry) → i < count → e ≡ entryAt t i → orderly at e ≡ false → false ≡ inOrder (entriesOf count t) limit
+    pub order-bad : (e : Entry) → i < count → e ≡ entryAt t i → orderly at e ≡ false → false ≡ whole
     order-bad e h is off = sym (ap (λ (b : Bool). b && inOrderFrom (entriesOf (count - (i + 1)) (drop (width * (i + 1)) t)) (e .end) limit) off) ∙ row-first e h is
 
     pub order-on : (e : Entry) → i < count → e ≡ entryAt t i → orderly at e ≡ true → Left (i + 1) (e .end)
     order-on e h is holds = sym (ap (λ (b : Bool). b && inOrderFrom (entriesOf (count - (i + 1)) (drop (width * (i + 1)) t)) (e .end) limit) holds) ∙ row-first e h is
 
-    pub order-done : count ≤ i → leb at limit ≡ inOrder (entriesOf count t) limit
+    pub order-done : count ≤ i → leb at limit ≡ whole
     unfolding inOrderFrom entriesOf
     order-done h = let z : count - i ≡ 0 = omega arith in sym (ap (λ (n : ℕ). inOrderFrom (entriesOf n (drop (width * i) t)) at limit) z) ∙ inv
+
+  -- the rows from i on, and the four of them in front
+  module _ (i at : ℕ) (inv : Left i at) (h : i + 4 ≤ count) where
+    abbrev a : Entry
+    a = entryAt t i
+
+    abbrev b : Entry
+    b = entryAt t (i + 1)
+
+    abbrev c : Entry
+    c = entryAt t (i + 2)
+
+    abbrev d : Entry
+    d = entryAt t (i + 3)
+
+    next : (k n : ℕ) (e : Entry) → k + 1 ≡ n → Left (k + 1) (e .end) → Left n (e .end)
+    next k n e z l = subst (λ (x : ℕ). Left x (e .end)) z l
+
+    on-a : orderly at a ≡ true → Left (i + 1) (a .end)
+    on-a = order-on i at inv a (omega arith) refl
+
+    on-b : Left (i + 1) (a .end) → orderly (a .end) b ≡ true → Left (i + 2) (b .end)
+    on-b l o = next (i + 1) (i + 2) b (omega arith) (order-on (i + 1) (a .end) l b (omega arith) refl o)
+
+    on-c : Left (i + 2) (b .end) → orderly (b .end) c ≡ true → Left (i + 3) (c .end)
+    on-c l o = next (i + 2) (i + 3) c (omega arith) (order-on (i + 2) (b .end) l c (omega arith) refl o)
+
+    on-d : Left (i + 3) (c .end) → orderly (c .end) d ≡ true → Left (i + 4) (d .end)
+    on-d l o = next (i + 3) (i + 4) d (omega arith) (order-on (i + 3) (c .end) l d (omega arith) refl o)
+
+    pub four-on : fourOrderly at (entryAt t i) (entryAt t (i + 1)) (entryAt t (i + 2)) (entryAt t (i + 3)) ≡ true → Left (i + 4) (entryAt t (i + 3) .end)
+    unfolding fourOrderly
+    four-on o =
+        let p = and-true (orderly at a) (orderly (a .end) b && (orderly (b .end) c && orderly (c .end) d)) o in
+        let q = and-true (orderly (a .end) b) (orderly (b .end) c && orderly (c .end) d) (p .1) in
+        let r = and-true (orderly (b .end) c) (orderly (c .end) d) (q .1) in
+        on-d (on-c (on-b (on-a (p .0)) (q .0)) (r .0)) (r .1)
+
+    pub four-bad : fourOrderly at (entryAt t i) (entryAt t (i + 1)) (entryAt t (i + 2)) (entryAt t (i + 3)) ≡ false → false ≡ whole
+    unfolding fourOrderly
+    four-bad o =
+        either (bool-cases (orderly at a))
+        (λ oa. either (bool-cases (orderly (a .end) b))
+        (λ ob. either (bool-cases (orderly (b .end) c))
+        (λ oc. order-bad (i + 3) (c .end) (on-c (on-b (on-a oa) ob) oc) d (omega arith) refl (last oa ob oc))
+        (λ oc. order-bad (i + 2) (b .end) (on-b (on-a oa) ob) c (omega arith) refl oc))
+        (λ ob. order-bad (i + 1) (a .end) (on-a oa) b (omega arith) refl ob))
+        (λ oa. order-bad i at inv a (omega arith) refl oa)
+      where
+        last : orderly at a ≡ true → orderly (a .end) b ≡ true → orderly (b .end) c ≡ true → orderly (c .end) d ≡ false
+        last oa ob oc =
+            sym (ap (λ (x : Bool). x && (orderly (a .end) b && (orderly (b .end) c && orderly (c .end) d))) oa
+            ∙ ap (λ (x : Bool). x && (orderly (b .end) c && orderly (c .end) d)) ob
+            ∙ ap (λ (x : Bool). x && orderly (c .end) d) oc) ∙ o
+
+-- the whole tape from its first row on
+pub order-starts : (t : List ℕ) (count limit : ℕ) → Left t count limit (inOrder (entriesOf count t) limit) 0 0
+unfolding inOrder
+order-starts t count limit = let z : count - 0 ≡ count = omega arith in ap (λ (n : ℕ). inOrderFrom (entriesOf n t) 0 limit) z
+
+-- entries that end within a limit end within a higher one
+pub in-order-higher : (es : List Entry) (at limit more : ℕ) → limit ≤ more → inOrderFrom es at limit ≡ true → inOrderFrom es at more ≡ true
+unfolding inOrderFrom
+in-order-higher [] at limit more h e = le-leb at more (omega (arith, leb-true at limit e))
+in-order-higher (x ∷ es) at limit more h e =
+    let p = and-true (orderly at x) (inOrderFrom es (x .end) limit) e in
+    simp (p .0, in-order-higher es (x .end) limit more h (p .1))

@@ -11,6 +11,10 @@ use Rattle.rows.specs.declared.Entry.{Entry}
 unfoldable pub orderly : ℕ → Entry → Bool
 orderly at e = within 1 16 (e .kind) && (leb at (e .start) && ltb (e .start) (e .end))
 
+-- Four entries, one behind the other, may: what is asked at once of four rows.
+unfoldable pub fourOrderly : ℕ → Entry → Entry → Entry → Entry → Bool
+fourOrderly at a b c d = orderly at a && (orderly (a .end) b && (orderly (b .end) c && orderly (c .end) d))
+
 -- The entries behind the place `at` are in order, and the last ends within the limit.
 unfoldable pub inOrderFrom : List Entry → ℕ → ℕ → Bool
 inOrderFrom [] at limit = leb at limit

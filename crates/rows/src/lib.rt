@@ -1,4 +1,7 @@
-// Entries on a tape (document 01): the only code that knows how an entry lies there.
+// Entries on a tape (document 01, module 9): the only code that knows how an entry lies there, four numbers side by side.
+//
+// `row` reads and writes one entry, `order` tells whether a tape is in order (refusal 23). Every other crate speaks of lists of entries, through `laid`
+// and `entriesOf` of specs/Rows.
 pub mod order;
 pub mod row;
 

@@ -2,11 +2,11 @@
 use crate::Entry;
 use crate::row;
 ghost use mathlib.Core.Path.{_≡_};
-ghost use Prim.Native.Nat.{_≤_};
+ghost use Prim.Native.Nat.{_≤_, _+_, _-_, _*_};
 ghost use lib.Dec.{leb};
-ghost use lib.ListN.{length};
-ghost use Rattle.rows.specs.Rows.{roomOf, entriesOf};
-ghost use Rattle.rows.specs.Order.{orderly, inOrder};
+ghost use lib.ListN.{length, drop};
+ghost use Rattle.rows.specs.Rows.{width, roomOf, entryAt, entriesOf};
+ghost use Rattle.rows.specs.Order.{orderly, fourOrderly, inOrderFrom, inOrder};
 
 // Whether an entry may stand behind a place.
 fn is_orderly(at: u32, e: Entry) -> bool
@@ -30,13 +30,34 @@ fn ends_within(at: u32, limit: usize) -> bool
     at as usize <= limit
 }
 
-// Whether the first `count` entries are in order, and the last ends within the limit.
-pub fn in_order(tape: &[u32], count: usize, limit: usize) -> bool
-    requires { ⌜ count ≤ roomOf (length (now tape)) ⌝ }
-    ensures { λ r. ⌜ r ≡ inOrder (entriesOf count (now (tape .entry))) limit ⌝ }
+// Whether the four entries from row i on may stand behind a place, one behind the other: asked together, since a loop's turn for each row costs more.
+fn four_orderly(tape: &[u32], i: usize, at: u32) -> bool
+    requires { ⌜ i + 4 ≤ roomOf (length (now tape)) ⌝ }
+    ensures { λ r. ⌜ r ≡ fourOrderly at (entryAt (now (tape .entry)) i) (entryAt (now (tape .entry)) (i + 1)) (entryAt (now (tape .entry)) (i + 2)) (entryAt (now (tape .entry)) (i + 3)) ⌝ }
 {
-    let mut at: u32 = 0;
-    let mut i = 0;
+    let a = row::entry(tape, i);
+    if !is_orderly(at, a) {
+        return false;
+    }
+    let b = row::entry(tape, i + 1);
+    if !is_orderly(a.end, b) {
+        return false;
+    }
+    let c = row::entry(tape, i + 2);
+    if !is_orderly(b.end, c) {
+        return false;
+    }
+    let d = row::entry(tape, i + 3);
+    is_orderly(c.end, d)
+}
+
+// Whether the entries from row `from` on are in order behind a place, and the last ends within the limit.
+fn rest_in_order(tape: &[u32], count: usize, limit: usize, from: usize, behind: u32) -> bool
+    requires { ⌜ (count ≤ roomOf (length (now tape))) × (from ≤ count) ⌝ }
+    ensures { λ r. ⌜ r ≡ inOrderFrom (entriesOf (count - from) (drop (width * from) (now (tape .entry)))) behind limit ⌝ }
+{
+    let mut at = behind;
+    let mut i = from;
     while i < count {
         let e = row::entry(tape, i);
         if !is_orderly(at, e) {
@@ -46,4 +67,22 @@ pub fn in_order(tape: &[u32], count: usize, limit: usize) -> bool
         i += 1;
     }
     ends_within(at, limit)
+}
+
+// Whether the first `count` entries are in order, and the last ends within the limit: four at a time, since walk and repair ask it of every row.
+pub fn in_order(tape: &[u32], count: usize, limit: usize) -> bool
+    requires { ⌜ count ≤ roomOf (length (now tape)) ⌝ }
+    ensures { λ r. ⌜ r ≡ inOrder (entriesOf count (now (tape .entry))) limit ⌝ }
+{
+    let mut at: u32 = 0;
+    let mut i = 0;
+    while 4 <= count - i {
+        if !four_orderly(tape, i, at) {
+            return false;
+        }
+        let last = row::entry(tape, i + 3);
+        at = last.end;
+        i += 4;
+    }
+    rest_in_order(tape, count, limit, i, at)
 }

@@ -25,7 +25,7 @@ use Rattle.entries.specs.declared.named.Named.the-variants.{At, Unnamed}
 use Rattle.entries.specs.Named.{namedOf, literalOf, literalDecoded}
 use Rattle.entries.specs.Contents.{Span, byNamed, contentsIn, decodedIn}
 use Rattle.entries.proofs.NamedLaws.{named-fits}
-use Rattle.entries.proofs.Cuts.{part-encoded}
+use Rattle.text.proofs.Cuts.{part-encoded}
 use Rattle.sarridok.specs.Contents.{contentsOf, partOf, namedBytes, decodedAnswer}
 
 literal-count : (bytes : Bool) (s : List ℕ) (l : Literal) → literalOf bytes s ≡ Read l → length (literalDecoded bytes s) ≡ l .decoded

@@ -1,4 +1,7 @@
-// The calls that a host may make. None has a `requires`, and each promise determines the answer and every lent number afterwards.
+// The calls that a host may make (document 01, "What the calls do"): read, walk, repair, integer, contents, decoded, struct_kind, skip.
+//
+// None has a `requires`, and each promise is one definition of the whole answer and of every lent number afterwards. proofs/*Determined show that two
+// answers which meet a promise are equal. One page with all promises is proofs/Promises.antt of crate promises; docs/PROMISES.md has them in words.
 mod contents_call;
 mod decoded_call;
 mod integer_call;

@@ -1,5 +1,8 @@
-// The calls for hosts in C or Rust: numbers and slices in, one number out, the answer. A refused call's answer has the top bit set, and such a call writes
-// nothing. None has a `requires`, and each promise is that of the call it stands for, packed.
+// The calls for hosts in C and Rust (`rt staticlib sarridok_c`, header bindings/c/sarridok.h): document 01's calls over numbers and slices, the answer
+// packed into one number.
+//
+// Each promise is the call's own definition, packed (specs/Packed): the top bit for a refusal, its number and its place. A refused call writes nothing
+// through any pointer.
 mod contents_c;
 mod decoded_c;
 mod integer_c;

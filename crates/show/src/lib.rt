@@ -1,5 +1,5 @@
-// Answers as text, at a place of an output buffer; each function answers the next place.
-// What `lines::out` writes no contract can say: these functions are proved safe and ending.
+// Answers as text, at a place of an output buffer; each function answers the next place. What `lines::out` writes no contract can say: these functions are
+// proved safe and ending.
 pub mod contents;
 pub mod hex;
 pub mod integer;

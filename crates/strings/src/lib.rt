@@ -1,4 +1,9 @@
-// Strings, byte strings, chars and byte literals (document 01, module 4), each over the part of the text that begins with it.
+// Strings, byte strings, chars and byte literals (document 01, module 4), each over the part of the text that begins with it; refusals 14 to 18, and 13
+// from within.
+//
+// `quoted` and `raw` measure, `decode` writes what was measured, piece by piece as specs/Pieces cuts the contents. Proved beyond the contracts: a string
+// lies within the text and is read the same whatever stands behind its closing mark (Bounds, Closes), decoded contents are UTF-8 where the text is
+// (Encodes), and what is decoded has the length that was measured (Wholes).
 pub mod chars;
 pub mod decode;
 pub mod literal;

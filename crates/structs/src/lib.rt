@@ -1,4 +1,5 @@
-// Struct kinds (document 01, module 8), after the crate's `check_struct_type`, over the part of the text that begins at the place.
+// Struct kinds (document 01, module 8), after the crate's `check_struct_type`, over the part of the text that begins at the place: unit, newtype, tuple or
+// named, and the two modes of the crate's enums.
 mod kinds;
 mod passes;
 mod scan;

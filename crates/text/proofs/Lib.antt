@@ -8,3 +8,4 @@ pub mod Utf8Laws
 pub mod Utf8Agree
 pub mod BlankLaws
 pub mod JudgeLaws
+pub mod Cuts

@@ -1,7 +1,7 @@
 // Classes of characters, after the crate's functions of the same names.
 ghost use mathlib.Core.Path.{_≡_};
 ghost use Prim.Native.Nat.{_≤_};
-ghost use Rattle.text.specs.Classes.{within, blankWidth, foreign, digit, letter, intChar, floatChar, identFirst, identNext, identRaw, continuationBlank};
+ghost use Rattle.text.specs.Classes.{within, blankWidth, foreign, digit, letter, floatChar, identFirst, identNext, identRaw, continuationBlank};
 
 // One of lo to hi.
 pub fn is_within(lo: u8, hi: u8, b: u8) -> bool
@@ -72,21 +72,6 @@ pub fn is_digit(b: u8) -> bool
     ensures { λ r. ⌜ r ≡ digit b ⌝ }
 {
     is_within(b'0', b'9', b)
-}
-
-pub fn is_int_char(b: u8) -> bool
-    ensures { λ r. ⌜ r ≡ intChar b ⌝ }
-{
-    if is_digit(b) {
-        return true;
-    }
-    if is_within(b'A', b'F', b) {
-        return true;
-    }
-    if is_within(b'a', b'f', b) {
-        return true;
-    }
-    b == b'_'
 }
 
 pub fn is_float_char(b: u8) -> bool

@@ -1,4 +1,4 @@
-// The words of a line: the parts between single spaces.
+// The words of a line of the case format: the parts between single spaces; hex, decimal numbers and lists of them.
 pub mod hex;
 pub mod list;
 pub mod number;

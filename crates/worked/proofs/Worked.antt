@@ -24,7 +24,7 @@ use Rattle.names.specs.Identifiers.{nameLen, plainOf, rawOf as rawOf·names, sk
 use Rattle.strings.specs.Raw.{rawOf as rawOf·strings, rawEnd, rawContents}
 use Rattle.names.specs.Starts.{startsWith as startsWith·names, beginsString, beginsRaw}
 use Rattle.integers.specs.Words.{startsWith as startsWith·integers, identOf, firstOf, foreignAhead}
-use Rattle.digits.specs.Digits.{digitOf, turnOf, digitsFrom, runOf}
+use Rattle.digits.specs.Digits.{turnOf, digitsFrom, runOf}
 use Rattle.digits.specs.Value.{valueFrom as valueFrom·digits}
 use Rattle.attributes.specs.Attributes.{valueFrom as valueFrom·attributes, enableFrom, keywordFrom, openedOf, attributeOf}
 use Rattle.integers.specs.Front.{signOf, prefixOf, frontOf}
@@ -59,5 +59,5 @@ use Rattle.worked.specs.Texts.{AllHold, texts}
 
 -- document 01, "Worked texts"
 pub worked : AllHold texts
-unfolding within blank blank1 blank2 blank3 blankWidth foreign digit letter hexDigit intChar floatChar identFirst identNext identRaw continuationBlank judgedOf·text judgedOf·floats placeFits behindFront run run2 asciiFor encode secondByte behindThree behindFour widthOf charLen utf8From utf8Of codeOf4 codeOf scalar encodedLen encodeAnswer encodedInto markOf blockFrom blockEnd behindSlash commentOf itemOf·comments itemOf·attributes gapFrom gapOf lineFrom lineEnd·comments lineEnd·strings hexOf secondDigit twoDigits closeOf digitsOf unicodeEscape nextByte moreBytes hexEscape simpleOf escapeOf orderly inOrderFrom inOrder entryAt entriesOf written flat laid anyQuiet countOf keptBefore lastQuiet isMoved areMoved allBehind areKept largest keptBehind quietByte place entries counted endOf tokensFrom charIf charsFrom chars foreignFront beginsFloat suffixed named missing wordOf·names wordOf·attributes nameLen plainOf rawOf·names rawOf·strings skipIdentifierOf strictOf identifierOf startsWith·names startsWith·integers beginsString beginsRaw digitOf turnOf digitsFrom runOf valueFrom·digits valueFrom·attributes signOf prefixOf frontOf numeralOf typedOf anyOf widthAt limitAt firstFit suffixWord suffixOf identOf firstOf foreignAhead floatGoes runAt floatOf stepOf·floats stepOf·structs accepts wellTo stripped floatAhead numberOf charEnds charOf byteEnds byteOf unquoted plain behindBackslash pieceOf decodedLen bodyFrom bodyOf decodedOf measured quotedOf rawEnd rawContents stringOf byteStringOf stringDecoded byteStringDecoded enableFrom keywordFrom openedOf attributeOf noEnd listEnd closeList stringEnd stringFrom isWord firstNamed extensionOf addedTo otherChar itemEnd behindName listFrom listOf skipFrom consumeFrom signAt signFrom byWord keywordAt ronToken markKind startsNumber behindB behindR shapeOf tokenOf readAnswer readTape cutFits repairFits leading joins scanOf·repair scanOf·structs repairAnswerOf cleared repairTapeOf repairOf repairedTape laidAt byKind insideOf namedOf pastGap pastChar pastString pastByteString markedBy pastSpurious afterComma scanFrom decided afterName contentsOf·structs contentsOf·sarridok unlessEmpty parenthesized insideNewtype structTypeOf decodedAnswer decodedOut skipOf structKindOf integerAt integerOf behindWalkFront walkOf linksAfter
+unfolding within blank blank1 blank2 blank3 blankWidth foreign digit letter hexDigit intChar floatChar identFirst identNext identRaw continuationBlank judgedOf·text judgedOf·floats placeFits behindFront run run2 asciiFor encode secondByte behindThree behindFour widthOf charLen utf8From utf8Of codeOf4 codeOf scalar encodedLen encodeAnswer encodedInto markOf blockFrom blockEnd behindSlash commentOf itemOf·comments itemOf·attributes gapFrom gapOf lineFrom lineEnd·comments lineEnd·strings hexOf secondDigit twoDigits closeOf digitsOf unicodeEscape nextByte moreBytes hexEscape simpleOf escapeOf orderly inOrderFrom inOrder entryAt entriesOf written flat laid anyQuiet countOf keptBefore lastQuiet isMoved areMoved allBehind areKept largest keptBehind quietByte place entries counted endOf tokensFrom charIf charsFrom chars foreignFront beginsFloat suffixed named missing wordOf·names wordOf·attributes nameLen plainOf rawOf·names rawOf·strings skipIdentifierOf strictOf identifierOf startsWith·names startsWith·integers beginsString beginsRaw turnOf digitsFrom runOf valueFrom·digits valueFrom·attributes signOf prefixOf frontOf numeralOf typedOf anyOf widthAt limitAt firstFit suffixWord suffixOf identOf firstOf foreignAhead floatGoes runAt floatOf stepOf·floats stepOf·structs accepts wellTo stripped floatAhead numberOf charEnds charOf byteEnds byteOf unquoted plain behindBackslash pieceOf decodedLen bodyFrom bodyOf decodedOf measured quotedOf rawEnd rawContents stringOf byteStringOf stringDecoded byteStringDecoded enableFrom keywordFrom openedOf attributeOf noEnd listEnd closeList stringEnd stringFrom isWord firstNamed extensionOf addedTo otherChar itemEnd behindName listFrom listOf skipFrom consumeFrom signAt signFrom byWord keywordAt ronToken markKind startsNumber behindB behindR shapeOf tokenOf readAnswer readTape cutFits repairFits leading joins scanOf·repair scanOf·structs repairAnswerOf cleared repairTapeOf repairOf repairedTape laidAt byKind insideOf namedOf pastGap pastChar pastString pastByteString markedBy pastSpurious afterComma scanFrom decided afterName contentsOf·structs contentsOf·sarridok unlessEmpty parenthesized insideNewtype structTypeOf decodedAnswer decodedOut skipOf structKindOf integerAt integerOf behindWalkFront walkOf linksAfter
 worked = ((refl, refl), ((refl, refl), ((refl, refl), ((refl, refl), ((refl, refl), (refl, (refl, (refl, (refl, (refl, ((refl, refl), (refl, ((refl, refl), tt)))))))))))))

@@ -1,9 +1,10 @@
-use Prim.Native.Nat.{_-_, _≤_, ℕ}
+use Prim.Native.Nat.{_/_, _-_, _≤_, ℕ}
 use native.Mathlib.Omega.{arith}
 use mathlib.Core.Path.{_∙_, _≡_, ap, refl, sym}
 use lib.Ieee.{low}
-use lib.IntN.{natAbs, pos, negℤ}
+use lib.IntN.{natAbs, pos, negℤ, ℤ}
 use lib.ListN.{drop, getD, length}
+use lib.Signed.{natAbs-le}
 use borrow.Author.Needs.{needs}
 use Rattle.digits.proofs.Laws.{from-end, from-next, from-not, from-over}
 use Rattle.digits.proofs.Neg.{down-next, down-not, down-over, natAbs-neg, self}
@@ -12,22 +13,41 @@ use Rattle.digits.specs.Digits.{digitsFrom, digitsOf, turnOf}
 use Rattle.digits.specs.Down.{downOf}
 use Rattle.digits.specs.declared.Run.the-variants.{Value}
 use Rattle.text.specs.Runs.{run}
+use Rattle.digits.proofs.Neg as neg
 use mir.Syntax.{w64}
 use mir.Val.{toZ, ofZ}
 use mir.ValLaws.{toZ-ofZ}
 use Rattle.digits.proofs.down.digits_down.Tie as tie
 
 abbrev Inv-loop : tie.InvT-loop
-Inv-loop run base low acc₀ i₀ acc i =
+Inv-loop run base low b least acc₀ i₀ acc i =
     (i ≤ length run) × ((m : ℕ) × ((toZ w64 acc ≡ negℤ (pos m)) ×
     (digitsOf (natAbs (toZ w64 low)) base run ≡ digitsFrom (natAbs (toZ w64 low)) base m i (drop i run))))
 
 abbrev μ-loop : tie.MeasureT-loop
-μ-loop run base low acc₀ i₀ acc i = length run - i
+μ-loop run base low b least acc₀ i₀ acc i = length run - i
 
 -- the limit as the loop holds it, by its bits, is the parameter
 low-is : (c : tie.Start Inv-loop μ-loop) → toZ w64 (ofZ w64 (c .args .low)) ≡ c .args .low
 low-is c = toZ-ofZ w64 (c .args .low) (c .fits .low)
+
+-- the limit as a number that is not above 0
+bounds : (c : tie.Start Inv-loop μ-loop) → neg.Negative (c .args .low) (c .args .low) (c .args .base)
+bounds c = record {
+  acc-fits = c .fits .low;
+  low-fits = c .fits .low;
+  acc-neg = c .pre .2;
+  low-neg = c .pre .2;
+  acc-le = natAbs-le (c .args .low) (c .fits .low .sfits);
+  low-le = natAbs-le (c .args .low) (c .fits .low .sfits);
+  base-le = c .pre .1;
+}
+
+cast-b : tie.Need-cast-b Inv-loop μ-loop
+cast-b c = search needs
+
+div-least : tie.Need-div-least Inv-loop μ-loop
+div-least c = (c .before .pre .0, neg.quot-fits (bounds (c .before)))
 
 loop-holds : tie.Need-loop-holds Inv-loop μ-loop
 loop-holds c = (search needs, (0, (refl, refl)))
@@ -38,8 +58,9 @@ shared-slice-read-turn-down c = search needs
 turn-down-requires : tie.Need-turn-down-requires Inv-loop μ-loop
 turn-down-requires c κs =
     let l = c .before .before .loop in
-    let p = c .before .before .before .before .pre in
-    (p .0, p .1, self _ (l .inv .1 .0) (l .inv .1 .1 .0), self _ (natAbs (c .before .before .before .before .args .low)) (low-is (c .before .before .before .before) ∙ p .2))
+    let s = c .before .before .before .before in
+    let p = s .pre in
+    (p .0, p .1, self _ (l .inv .1 .0) (l .inv .1 .1 .0), self _ (natAbs (s .args .low)) (low-is s ∙ p .2), neg.quot-held (bounds s) ∙ ap (λ (z : ℤ). negℤ (pos (natAbs z / s .args .base))) (sym (low-is s)))
 
 enum-known-t : tie.Need-enum-known-t Inv-loop μ-loop
 enum-known-t c = search needs
@@ -109,6 +130,8 @@ digits-down-spec =
     (tie.spec
     Inv-loop
     μ-loop
+    cast-b
+    div-least
     loop-holds
     shared-slice-read-turn-down
     turn-down-requires

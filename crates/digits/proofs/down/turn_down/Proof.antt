@@ -7,7 +7,7 @@ use lib.Signed.{natAbs-le}
 use borrow.Author.Needs.{needs}
 use borrow.Author.Tests.{eq-eqb, le-leb, le-ltb, lt-leb, lt-ltb, ltb-false, ltb-true, ne-eqb}
 use Rattle.digits.proofs.down.turn_down.Statement.{statement}
-use Rattle.digits.specs.Digits.{digitOf, turnOf}
+use Rattle.digits.specs.Digits.{hexOf, turnOf}
 use Rattle.digits.specs.declared.down.Down.the-variants.{Next}
 use Rattle.digits.proofs.Neg as neg
 use Rattle.digits.proofs.down.turn_down.Tie as tie
@@ -31,18 +31,15 @@ returns c = simp (eq-eqb _ _ (c .if1 .taken)) (ap Next (neg.acc-is (negative (c 
 cast-b : tie.Need-cast-b
 cast-b c = search needs
 
-div-if2 : tie.Need-div-if2
-div-if2 c = (c .before .pre .0, neg.quot-fits (negative (c .before)))
-
 returns-2 : tie.Need-returns-2
 unfolding turnOf
 returns-2 c =
-    let q = ltb-true _ _ (sym (neg.test-is (negative (c .before .before))) ∙ c .if2 .taken) in
+    let q = ltb-true _ _ (sym (neg.test-is (negative (c .before .before)) (c .before .before .fits .least) (c .before .before .pre .4)) ∙ c .if2 .taken) in
     simp (ne-eqb _ _ (c .before .if1 .left), lt-ltb _ _ (div-lt-iff-lt-mul (c .before .before .pre .0) .0 q))
 
 -- the product is within the limit
 product : (c : tie.Else2) → natAbs (c .before .before .args .acc) * c .before .before .args .base ≤ natAbs (c .before .before .args .low)
-product c = le-div-iff-mul-le (c .before .before .pre .0) .0 (ltb-false _ _ (sym (neg.test-is (negative (c .before .before))) ∙ c .if2 .left))
+product c = le-div-iff-mul-le (c .before .before .pre .0) .0 (ltb-false _ _ (sym (neg.test-is (negative (c .before .before)) (c .before .before .fits .least) (c .before .before .pre .4)) ∙ c .if2 .left))
 
 mul-product : tie.Need-mul-product
 mul-product c = neg.product-fits (negative (c .before .before)) (product c)
@@ -50,11 +47,14 @@ mul-product c = neg.product-fits (negative (c .before .before)) (product c)
 decode-hex-requires : tie.Need-decode-hex-requires
 decode-hex-requires c κs = search needs
 
+cast-d : tie.Need-cast-d
+cast-d c = search needs
+
 returns-3 : tie.Need-returns-3
 unfolding turnOf
 returns-3 c =
     let a = c .before .before .before .before .args in
-    simp (ne-eqb _ _ (c .before .before .before .if1 .left), le-ltb _ _ (product (c .before .before)), le-leb (a .base) (digitOf (a .c)) (omega arith))
+    simp (ne-eqb _ _ (c .before .before .before .if1 .left), le-ltb _ _ (product (c .before .before)), le-leb (a .base) (hexOf (a .c)) (omega arith))
 
 cast-e : tie.Need-cast-e
 cast-e c = search needs
@@ -67,17 +67,17 @@ unfolding turnOf
 returns-4 c =
     let a = c .before .before .before .before .before .args in
     let q : natAbs (a .low) < natAbs (a .acc) * a .base + c .before .before .decode-hex .result = ltb-true _ _ (sym (neg.over-is (negative (c .before .before .before .before .before)) (product (c .before .before .before)) (c .before .before .decode-hex .result) (omega arith)) ∙ c .if4 .taken) in
-    simp (ne-eqb _ _ (c .before .before .before .before .if1 .left), le-ltb _ _ (product (c .before .before .before)), lt-leb (a .base) (digitOf (a .c)) (omega arith), lt-ltb (natAbs (a .low)) (natAbs (a .acc) * a .base + digitOf (a .c)) (omega arith))
+    simp (ne-eqb _ _ (c .before .before .before .before .if1 .left), le-ltb _ _ (product (c .before .before .before)), lt-leb (a .base) (hexOf (a .c)) (omega arith), lt-ltb (natAbs (a .low)) (natAbs (a .acc) * a .base + hexOf (a .c)) (omega arith))
 
-sub-t10 : tie.Need-sub-t10
-sub-t10 c = neg.next-fits (negative (c .before .before .before .before .before)) (product (c .before .before .before)) (c .before .before .decode-hex .result) (omega arith) (ltb-false _ _ (sym (neg.over-is (negative (c .before .before .before .before .before)) (product (c .before .before .before)) (c .before .before .decode-hex .result) (omega arith)) ∙ c .if4 .left))
+sub-next : tie.Need-sub-next
+sub-next c = neg.next-fits (negative (c .before .before .before .before .before)) (product (c .before .before .before)) (c .before .before .decode-hex .result) (omega arith) (ltb-false _ _ (sym (neg.over-is (negative (c .before .before .before .before .before)) (product (c .before .before .before)) (c .before .before .decode-hex .result) (omega arith)) ∙ c .if4 .left))
 
 returns-5 : tie.Need-returns-5
 unfolding turnOf
 returns-5 c =
     let a = c .before .before .before .before .before .args in
     let q : natAbs (a .acc) * a .base + c .before .before .decode-hex .result ≤ natAbs (a .low) = ltb-false _ _ (sym (neg.over-is (negative (c .before .before .before .before .before)) (product (c .before .before .before)) (c .before .before .decode-hex .result) (omega arith)) ∙ c .if4 .left) in
-    simp (ne-eqb _ _ (c .before .before .before .before .if1 .left), le-ltb _ _ (product (c .before .before .before)), lt-leb (a .base) (digitOf (a .c)) (omega arith), le-ltb (natAbs (a .low)) (natAbs (a .acc) * a .base + digitOf (a .c)) (omega arith))
+    simp (ne-eqb _ _ (c .before .before .before .before .if1 .left), le-ltb _ _ (product (c .before .before .before)), lt-leb (a .base) (hexOf (a .c)) (omega arith), le-ltb (natAbs (a .low)) (natAbs (a .acc) * a .base + hexOf (a .c)) (omega arith))
     (ap Next (neg.next-held (negative (c .before .before .before .before .before)) (product (c .before .before .before)) (c .before .before .decode-hex .result) (omega arith) q ∙ ap (λ (d : ℕ). negℤ (pos (natAbs (a .acc) * a .base + d))) (c .before .before .decode-hex .ensures)))
 
 pub turn-down-spec : {M : Type 1} → statement M
@@ -86,13 +86,13 @@ turn-down-spec =
     (tie.spec
     returns
     cast-b
-    div-if2
     returns-2
     mul-product
     decode-hex-requires
+    cast-d
     returns-3
     cast-e
     add-if4
     returns-4
-    sub-t10
+    sub-next
     returns-5)

@@ -15,8 +15,8 @@ Inv-loop run base limit most acc₀ i₀ acc i = (i ≤ length run) × (digitsOf
 abbrev μ-loop : tie.MeasureT-loop
 μ-loop run base limit most acc₀ i₀ acc i = length run - i
 
-div-most : tie.Need-div-most Inv-loop μ-loop
-div-most c = search needs
+most-of-requires : tie.Need-most-of-requires Inv-loop μ-loop
+most-of-requires c κs = search needs
 
 loop-holds : tie.Need-loop-holds Inv-loop μ-loop
 loop-holds c = (search needs, refl)
@@ -25,7 +25,7 @@ shared-slice-read-turn : tie.Need-shared-slice-read-turn Inv-loop μ-loop
 shared-slice-read-turn c = search needs
 
 turn-requires : tie.Need-turn-requires Inv-loop μ-loop
-turn-requires c κs = (c .before .before .before .before .pre, refl)
+turn-requires c κs = (c .before .before .before .before .before .pre, c .before .before .before .most-of .ensures)
 
 enum-known-t : tie.Need-enum-known-t Inv-loop μ-loop
 enum-known-t c = search needs
@@ -35,7 +35,7 @@ enum-told c = search needs
 
 returns : tie.Need-returns Inv-loop μ-loop
 returns c =
-    let a = c .before .before .before .before .before .before .before .args in
+    let a = c .before .before .before .before .before .before .before .before .args in
     let l = c .before .before .before .before .before .loop in
     sym (l .inv .1 ∙ from-over (a .limit) (a .base) (l .acc) (a .run .now) (l .i) (omega arith) (sym (c .before .before .turn .ensures) ∙ c .enum-told .given .1))
 
@@ -44,7 +44,7 @@ enum-told-2 c = search needs
 
 returns-2 : tie.Need-returns-2 Inv-loop μ-loop
 returns-2 c =
-    let a = c .before .before .before .before .before .before .before .args in
+    let a = c .before .before .before .before .before .before .before .before .args in
     let l = c .before .before .before .before .before .loop in
     sym (l .inv .1 ∙ from-not (a .limit) (a .base) (l .acc) (a .run .now) (l .i) (omega arith) (sym (c .before .before .turn .ensures) ∙ c .enum-told2 .given .1))
 
@@ -56,13 +56,13 @@ loop-less c = search needs
 
 loop-again : tie.Need-loop-again Inv-loop μ-loop
 loop-again c =
-    let a = c .before .before .before .before .before .before .before .before .args in
+    let a = c .before .before .before .before .before .before .before .before .before .args in
     let l = c .before .before .before .before .before .before .loop in
     (omega arith, l .inv .1 ∙ from-next (a .limit) (a .base) (l .acc) (a .run .now) (l .i) _ (omega arith) (sym (c .before .before .before .turn .ensures) ∙ c .before .t .given .1))
 
 returns-3 : tie.Need-returns-3 Inv-loop μ-loop
 returns-3 c =
-    let a = c .before .before .before .args in
+    let a = c .before .before .before .before .args in
     let l = c .before .loop in
     sym (l .inv .1 ∙ from-end (a .limit) (a .base) (l .acc) (a .run .now) (l .i) (omega arith))
 
@@ -72,7 +72,7 @@ digits-spec =
     (tie.spec
     Inv-loop
     μ-loop
-    div-most
+    most-of-requires
     loop-holds
     shared-slice-read-turn
     turn-requires

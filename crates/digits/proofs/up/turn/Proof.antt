@@ -4,7 +4,7 @@ use native.Mathlib.Omega.{arith}
 use borrow.Author.Needs.{needs}
 use borrow.Author.Tests.{eq-eqb, le-leb, le-ltb, lt-leb, lt-ltb, ne-eqb}
 use Rattle.digits.proofs.up.turn.Statement.{statement}
-use Rattle.digits.specs.Digits.{digitOf, turnOf}
+use Rattle.digits.specs.Digits.{hexOf, turnOf}
 use Rattle.digits.proofs.up.turn.Tie as tie
 
 returns : tie.Need-returns
@@ -21,12 +21,15 @@ mul-product c = omega (arith, le-div-iff-mul-le (c .before .before .pre .0) .0 (
 decode-hex-requires : tie.Need-decode-hex-requires
 decode-hex-requires c κs = search needs
 
+cast-d : tie.Need-cast-d
+cast-d c = search needs
+
 returns-3 : tie.Need-returns-3
 unfolding turnOf
 returns-3 c =
     let a = c .before .before .before .before .args in
     let h : a .acc * a .base ≤ a .limit = le-div-iff-mul-le (c .before .before .before .before .pre .0) .0 (rw (c .before .before .before .before .pre .1) at (c .before .before .if2 .left)) in
-    simp (ne-eqb _ _ (c .before .before .before .if1 .left), le-ltb _ _ h, le-leb (a .base) (digitOf (a .c)) (omega arith))
+    simp (ne-eqb _ _ (c .before .before .before .if1 .left), le-ltb _ _ h, le-leb (a .base) (hexOf (a .c)) (omega arith))
 
 sub-if4 : tie.Need-sub-if4
 sub-if4 c = le-div-iff-mul-le (c .before .before .before .before .pre .0) .0 (rw (c .before .before .before .before .pre .1) at (c .before .before .if2 .left))
@@ -36,10 +39,10 @@ unfolding turnOf
 returns-4 c =
     let a = c .before .before .before .before .before .args in
     let h : a .acc * a .base ≤ a .limit = le-div-iff-mul-le (c .before .before .before .before .before .pre .0) .0 (rw (c .before .before .before .before .before .pre .1) at (c .before .before .before .if2 .left)) in
-    simp (ne-eqb _ _ (c .before .before .before .before .if1 .left), le-ltb _ _ h, lt-leb (a .base) (digitOf (a .c)) (omega arith), lt-ltb (a .limit) (a .acc * a .base + digitOf (a .c)) (omega arith))
+    simp (ne-eqb _ _ (c .before .before .before .before .if1 .left), le-ltb _ _ h, lt-leb (a .base) (hexOf (a .c)) (omega arith), lt-ltb (a .limit) (a .acc * a .base + hexOf (a .c)) (omega arith))
 
-add-t9 : tie.Need-add-t9
-add-t9 c =
+add-next : tie.Need-add-next
+add-next c =
     let a = c .before .before .before .before .before .args in
     let h : a .acc * a .base ≤ a .limit = le-div-iff-mul-le (c .before .before .before .before .before .pre .0) .0 (rw (c .before .before .before .before .before .pre .1) at (c .before .before .before .if2 .left)) in
     omega arith
@@ -49,7 +52,7 @@ unfolding turnOf
 returns-5 c =
     let a = c .before .before .before .before .before .args in
     let h : a .acc * a .base ≤ a .limit = le-div-iff-mul-le (c .before .before .before .before .before .pre .0) .0 (rw (c .before .before .before .before .before .pre .1) at (c .before .before .before .if2 .left)) in
-    simp (ne-eqb _ _ (c .before .before .before .before .if1 .left), le-ltb _ _ h, lt-leb (a .base) (digitOf (a .c)) (omega arith), le-ltb (a .limit) (a .acc * a .base + digitOf (a .c)) (omega arith), c .before .before .decode-hex .ensures)
+    simp (ne-eqb _ _ (c .before .before .before .before .if1 .left), le-ltb _ _ h, lt-leb (a .base) (hexOf (a .c)) (omega arith), le-ltb (a .limit) (a .acc * a .base + hexOf (a .c)) (omega arith), c .before .before .decode-hex .ensures)
 
 pub turn-spec : {M : Type 1} → statement M
 turn-spec =
@@ -59,8 +62,9 @@ turn-spec =
     returns-2
     mul-product
     decode-hex-requires
+    cast-d
     returns-3
     sub-if4
     returns-4
-    add-t9
+    add-next
     returns-5)

@@ -4,7 +4,8 @@ use mathlib.Core.Path.{_∙_, ap, sym}
 use lib.ListN.{drop, getD, length-drop}
 use borrow.Author.Needs.{needs}
 use borrow.Author.Tests.{eq-eqb, ne-eqb}
-use Rattle.escapes.proofs.EscapeLaws.{hex-le, two-at, two-end}
+use Rattle.escapes.proofs.EscapeLaws.{two-at, two-end}
+use Rattle.hexes.proofs.HexLaws.{hex-le}
 use Rattle.escapes.proofs.digits.decode_ascii_escape.Statement.{statement}
 use Rattle.escapes.specs.Escapes.{hexOf, secondDigit}
 use Rattle.escapes.specs.declared.answers.EscapeAnswer.the-variants.{Refused}

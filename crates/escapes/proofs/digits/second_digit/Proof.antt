@@ -4,7 +4,8 @@ use mathlib.Core.Path.{_∙_, ap, sym}
 use lib.ListN.{getD}
 use borrow.Author.Needs.{needs}
 use borrow.Author.Tests.{eq-eqb, ne-eqb}
-use Rattle.escapes.proofs.EscapeLaws.{hex-le, second-at, second-end}
+use Rattle.escapes.proofs.EscapeLaws.{second-at, second-end}
+use Rattle.hexes.proofs.HexLaws.{hex-le}
 use Rattle.escapes.proofs.digits.second_digit.Statement.{statement}
 use Rattle.escapes.specs.Escapes.{hexOf}
 use Rattle.escapes.specs.declared.answers.EscapeAnswer.the-variants.{Ascii, Refused}

@@ -3,7 +3,8 @@ use native.Mathlib.Omega.{arith}
 use mathlib.Core.Path.{_∙_, _≡_, ap, sym}
 use lib.ListN.{drop, getD, length, length-drop}
 use borrow.Author.Needs.{needs}
-use Rattle.escapes.proofs.EscapeLaws.{digits-bad, digits-brace, digits-done, digits-end, digits-more, hex-le, room, room-fits, room-more, room-start, unicode-end, unicode-open, unicode-other}
+use Rattle.escapes.proofs.EscapeLaws.{digits-bad, digits-brace, digits-done, digits-end, digits-more, room, room-fits, room-more, room-start, unicode-end, unicode-open, unicode-other}
+use Rattle.hexes.proofs.HexLaws.{hex-le}
 use Rattle.escapes.proofs.unicode.unicode_escape.Statement.{statement}
 use Rattle.escapes.specs.Escapes.{digitsOf, unicodeEscape}
 use Rattle.escapes.specs.declared.answers.EscapeAnswer.the-variants.{Refused}

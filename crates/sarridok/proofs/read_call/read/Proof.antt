@@ -1,7 +1,8 @@
 use mathlib.Core.Path.{_∙_, sym}
 use lib.ListN.{length}
 use borrow.Author.Needs.{needs}
-use Rattle.read.proofs.ReadLaws.{fit-short, read-fit, read-refused, tape-by}
+use Rattle.text.proofs.JudgeLaws.{fit-short}
+use Rattle.read.proofs.ReadLaws.{read-fit, read-refused, tape-by}
 use Rattle.sarridok.proofs.read_call.read.Statement.{statement}
 use Rattle.sarridok.proofs.read_call.read.Tie as tie
 

@@ -1,6 +1,6 @@
 use mathlib.Core.Path.{_∙_, sym}
 use borrow.Author.Needs.{needs}
-use Rattle.read.proofs.ReadLaws.{fit-short}
+use Rattle.text.proofs.JudgeLaws.{fit-short}
 use Rattle.repair.proofs.Judging.{call-fit, call-refused}
 use Rattle.sarridok.proofs.repair_call.repair.Statement.{statement}
 use Rattle.sarridok.proofs.repair_call.repair.Tie as tie
