@@ -33,6 +33,7 @@ use Rattle.text.proofs.Choices.{and-true, cond-cases}
 use Rattle.text.proofs.Lists.{tail-part}
 use Rattle.text.specs.Classes.{identNext}
 use Rattle.text.specs.Refusals.{expectedAttribute, expectedAttributeEnd, expectedString, foreignChar}
+use Rattle.integers.proofs.Words.{first-le}
 
 -- ---- whitespace
 
@@ -145,13 +146,6 @@ ident-le w t =
     cond-cases (λ (n : ℕ). n ≤ length t) (startsWith w t) (cond (identNext (getD t (length w) 0)) 0 (length w)) 0
     (λ e. cond-cases (λ (n : ℕ). n ≤ length t) (identNext (getD t (length w) 0)) 0 (length w) (λ f. omega arith) (λ f. starts-le w t e))
     (λ e. omega arith)
-
-first-le : (ws : List Word) (t : List ℕ) → firstOf ws t .end ≤ length t
-unfolding firstOf
-first-le [] t = omega arith
-first-le (w ∷ ws) t =
-    cond-cases (λ (f : Found). f .end ≤ length t) (eqb (identOf (w .letters) t) 0) (firstOf ws t) (record { code = w .says; end = identOf (w .letters) t })
-    (λ e. first-le ws t) (λ e. ident-le (w .letters) t)
 
 pub word-le : (t : List ℕ) → wordOf t .end ≤ length t
 unfolding wordOf

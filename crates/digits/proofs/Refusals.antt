@@ -20,7 +20,7 @@ use Rattle.text.specs.Runs.{run}
 use Rattle.text.specs.Utf8.Encoded.{next}
 use Rattle.digits.specs.declared.up.Turned.the-variants as turned
 
-clash : {X : Type 0} → _≡_ {A = ℕ} 0 1 → X
+pub clash : {X : Type 0} → _≡_ {A = ℕ} 0 1 → X
 clash e = absurd (omega arith)
 
 -- what a refused character is

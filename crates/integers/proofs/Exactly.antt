@@ -13,7 +13,7 @@ use lib.Pow.{pow-pos}
 use lib.Signed.{_≤ℤ_}
 use borrow.Author.Tests.{eq-eqb, eqb-false, eqb-true}
 use Rattle.digits.proofs.Exact.{digits-exact}
-use Rattle.digits.proofs.Refusals.{never-empty, never-underscore, nine-exact, ten-exact, not-turn, over-turn, turn-not, turn-over}
+use Rattle.digits.proofs.Refusals.{never-empty, never-underscore, nine-exact, ten-exact, not-turn, over-turn, turn-not, turn-over, clash}
 use Rattle.digits.specs.Digits.{digitsOf, runOf}
 use Rattle.digits.specs.Value.{valueOf}
 use Rattle.digits.specs.declared.Run.{Run}
@@ -61,9 +61,6 @@ limit-in true bits false m h = (least-pos (2 ^ (bits - 1)) m (pow-pos (bits - 1)
 limit-in true bits true m h = (least-of (2 ^ (bits - 1)) m h, minus-pos m _)
 
 -- ---- a run whose first character is no underscore answers as its digits do
-
-clash : {X : Type 0} → _≡_ {A = ℕ} 0 1 → X
-clash e = absurd (omega arith)
 
 module _ (limit base : ℕ) (positive : 0 < base) where
   -- what a run answers that is neither 7 nor 8

@@ -23,7 +23,7 @@ use Rattle.integers.specs.declared.integer.Integer.{Integer}
 use Rattle.integers.specs.declared.width.Width.{Width}
 use Rattle.text.proofs.Choices.{bool-cases, either, or-left, or-right, and-true}
 use Rattle.text.proofs.ClassLaws.{inside, within-true}
-use Rattle.text.proofs.Stops.{Stopped, Reach, on, on₂, on₃, bind, part, behind, sum, run-reach}
+use Rattle.text.proofs.Stops.{Stopped, Reach, on, on₂, on₃, bind, part, behind, sum, run-reach, empty-stopped}
 use Rattle.text.specs.Classes.{digit, hexDigit, identNext, identRaw, intChar, letter, within, oneOf}
 use Rattle.text.specs.Refusals.{eof, foreignChar}
 use Rattle.text.specs.Runs.{run}
@@ -179,23 +179,16 @@ module _ (c : ℕ) (o : Outside c) where
 
   -- ---- the whole
 
-  some : (u v : List ℕ) → eqb (length (u ++ c ∷ v)) 0 ≡ false
-  some [] v = ne-eqb (length (c ∷ v)) 0 (λ e. absurd (omega arith))
-  some (x ∷ u) v = ne-eqb (length (x ∷ (u ++ c ∷ v))) 0 (λ e. absurd (omega arith))
-
-  empty-stopped : Stopped c (λ s. eqb (length s) 0)
-  empty-stopped = record { same = λ u v v′. some u v ∙ sym (some u v′) }
-
   pub typed-stopped : (width : Width) → Stopped c (typedOf width)
   unfolding typedOf
   typed-stopped width =
-      on₂ (λ (e : Bool) (r : Integer). cond e (integer.Refused (eof 0)) r) empty-stopped
+      on₂ (λ (e : Bool) (r : Integer). cond e (integer.Refused (eof 0)) r) (empty-stopped c)
       (bind (λ (g : Front) (s : List ℕ). typedBehind (codeOf width) g (drop (frontOf s .end) s)) front-stopped
       (λ g. behind front-reach (on (typedAs (codeOf width) (g .minus) (g .end)) (numeral-stopped (codeOf width) (g .minus) (g .base)))))
 
   pub integer-stopped : Stopped c anyOf
   unfolding anyOf
   integer-stopped =
-      on₂ (λ (e : Bool) (r : AnyInteger). cond e (any.Refused (eof 0)) r) empty-stopped
+      on₂ (λ (e : Bool) (r : AnyInteger). cond e (any.Refused (eof 0)) r) (empty-stopped c)
       (bind (λ (g : Front) (s : List ℕ). anyBehind g (drop (frontOf s .end) s)) front-stopped
       (λ g. behind front-reach (on (anyAs (g .minus) (g .end)) (numeral-stopped (widest (g .minus)) (g .minus) (g .base)))))

@@ -10,19 +10,9 @@ use lib.Seq.{drop-cons, take-all, take-nil, getD-drop}
 use borrow.Author.Tests.{eq-eqb, ne-eqb}
 use Rattle.lines.specs.Find.{findOf}
 use Rattle.lines.specs.Over.{over}
+use Rattle.text.proofs.Lists.{front}
 
 -- ---- a part
-
-pub front : (s : List ℕ) (i : ℕ) → i < length s → drop i s ≡ getD s i 0 ∷ drop (i + 1) s
-front s i h = rw (add-one i) (drop-cons s i 0 h)
-
-pub front2 : (s : List ℕ) (i : ℕ) → i + 1 < length s → drop i s ≡ getD s i 0 ∷ getD s (i + 1) 0 ∷ drop (i + 2) s
-front2 s i h =
-    let two : i + 1 + 1 ≡ i + 2 = omega arith in
-    front s i (omega arith) ∙ ap (λ (r : List ℕ). getD s i 0 ∷ r) (front s (i + 1) h ∙ ap (λ (k : ℕ). getD s (i + 1) 0 ∷ drop k s) two)
-
-pub tail-part : (s : List ℕ) (i : ℕ) → take (length s - i) (drop i s) ≡ drop i s
-tail-part s i = take-all (length s - i) (drop i s) (simp length-drop (omega arith))
 
 -- what stands from a place on says what stands there, and how long the list is
 module _ (s : List ℕ) (i : ℕ) where

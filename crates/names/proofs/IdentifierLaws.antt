@@ -27,9 +27,6 @@ name-le s =
 
 -- ---- a test on the part from a place
 
-pub on-part : {A : Type 0} (f : List ℕ → A) (s : List ℕ) (i : ℕ) (a b : A) → a ≡ f (take (length s - i) (drop i s)) → a ≡ b → f (drop i s) ≡ b
-on-part f s i a b e h = ap f (sym (tail-part s i)) ∙ sym e ∙ h
-
 -- ---- a part that begins with `r#` has two bytes
 
 pub raw-long : (s : List ℕ) → beginsRaw s ≡ true → 2 ≤ length s

@@ -18,7 +18,7 @@ use Rattle.names.specs.declared.Identifier.the-variants.{Missing, Name, 
 use Rattle.names.specs.declared.Word.{Word}
 use Rattle.names.specs.declared.Word.the-variants.{Float, Plain, Raw, Refused as NotName}
 use Rattle.text.proofs.Choices.{and-false, and-true, either, lt-or-le, or-left, or-right, cond-cases}
-use Rattle.text.proofs.Stops.{behind, Stopped, always, on₂, Reach, bind, on, on₃, sum}
+use Rattle.text.proofs.Stops.{behind, Stopped, always, on₂, Reach, bind, on, on₃, sum, empty-stopped}
 use Rattle.text.specs.Classes.{digit, identFirst, identNext, identRaw, letter, oneOf, within}
 use Rattle.text.specs.Refusals.{eof, expectedString, foreignChar, unexpectedChar}
 
@@ -177,16 +177,10 @@ module _ (c : ℕ) (is : nameStop c ≡ true) where
   unfolding skipIdentifierOf
   skip-stopped = raw-or-stopped plain-stopped
 
-  empty-not : (u v : List ℕ) → eqb (length (u ++ c ∷ v)) 0 ≡ false
-  empty-not u v = let l = length-append u (c ∷ v) in ne-eqb (length (u ++ c ∷ v)) 0 (λ e. omega arith)
-
-  empty-stopped : Stopped c (λ s. eqb (length s) 0)
-  empty-stopped = record { same = λ u v v′. empty-not u v ∙ sym (empty-not u v′) }
-
   pub identifier-stopped : Stopped c identifierOf
   unfolding identifierOf
   identifier-stopped =
-      on₂ (λ (t : Bool) (i : Identifier). cond t (Refused (eof 0)) i) empty-stopped (raw-or-stopped strict-stopped)
+      on₂ (λ (t : Bool) (i : Identifier). cond t (Refused (eof 0)) i) (empty-stopped c) (raw-or-stopped strict-stopped)
 
   -- ---- `inf` and `NaN`
   float-stopped : Stopped c beginsFloat

@@ -19,13 +19,6 @@ use Rattle.text.specs.Runs.{run}
 pub unequal : (p : ℕ → Bool) (a w : ℕ) → p a ≡ true → p w ≡ false → eqb a w ≡ false
 unequal p a w is isn = ne-eqb a w (λ e. (let z : _≡_ {A = Bool} true false = sym is ∙ ap p e ∙ isn in let y : _≡_ {A = ℕ} 0 1 = cc in omega arith))
 
--- each byte of a run is of its class
-pub run-in : (p : ℕ → Bool) (s : List ℕ) (k : ℕ) → k < run p s → p (getD s k 0) ≡ true
-unfolding run
-run-in p [] k h = absurd (not-suc-le-zero h)
-run-in p (a ∷ s) zero h = either (bool-cases (p a)) (λ e. e) (λ e. absurd (not-suc-le-zero (rw e at h)))
-run-in p (a ∷ s) (suc k) h = either (bool-cases (p a)) (λ e. run-in p s k (le-of-suc-le-suc (rw e at h))) (λ e. absurd (not-suc-le-zero (rw e at h)))
-
 -- ---- the characters of a name are ASCII
 
 next-wide : (a : ℕ) → 0x80 ≤ a → identNext a ≡ false

@@ -9,10 +9,10 @@ use lib.Dec.{eqb, ltb}
 use lib.ListN.{getD, length, drop}
 use lib.Seq.{getD-drop}
 use borrow.Author.Tests.{ltb-true, lt-ltb, le-ltb, lt-leb, ne-eqb, not-true}
-use Rattle.text.proofs.Choices.{and-false, and-true, either, lt-or-le}
+use Rattle.text.proofs.Choices.{and-false, and-true, either, lt-or-le, chosen}
 use Rattle.text.proofs.ClassLaws.{above, below, blank-ascii}
 use Rattle.text.proofs.Lists.{head-at}
-use Rattle.text.proofs.RunLaws.{run-le, run-more}
+use Rattle.text.proofs.RunLaws.{run-le, run-more, run-holds}
 use Rattle.text.specs.Classes.{blank1, blankWidth, digit, foreign, identFirst, identNext, letter, within}
 use Rattle.text.specs.Runs.{run}
 use Rattle.comments.proofs.GapFronts.{clear-front, clearByte}
@@ -39,7 +39,7 @@ use Rattle.tokens.specs.Token.{byShape, ofWord, tokenOf}
 use Rattle.tokens.specs.declared.shape.Shape.{Shape}
 use Rattle.tokens.specs.declared.shape.Shape.the-variants.{ByteStr, Word}
 use Rattle.plain_names.specs.PlainNames.{plainName}
-use Rattle.plain_names.proofs.NameRuns.{chars-run, first-next, next-ascii, run-in, unequal}
+use Rattle.plain_names.proofs.NameRuns.{chars-run, first-next, next-ascii, unequal}
 
 -- ---- the first byte of a name begins no gap, no mark and no number
 
@@ -103,10 +103,6 @@ pub record Found (s : List ℕ) : Type 0 where
   pub quiet : quietByte (getD s (run identNext s) 0) ≡ true
   pub no-float : beginsFloat s ≡ false
 
-chosen : (t : Bool) (n : ℕ) → 0 < cond t n 0 → (t ≡ true) × (cond t n 0 ≡ n)
-chosen true n h = (refl, refl)
-chosen false n h = absurd (not-suc-le-zero h)
-
 pub found : (s : List ℕ) → 0 < plainName s → Found s
 unfolding plainName
 found s h =
@@ -132,7 +128,7 @@ module _ (s : List ℕ) (f : Found s) where
   apart : (w k : ℕ) → identNext w ≡ false → quietByte w ≡ false → k ≤ len → eqb (getD s k 0) w ≡ false
   apart w k i q h =
       either (lt-or-le k len)
-      (λ l. unequal identNext (getD s k 0) w (run-in identNext s k l) i)
+      (λ l. unequal identNext (getD s k 0) w (run-holds identNext s k l) i)
       (λ l. let e : k ≡ len = omega arith in unequal quietByte (getD s k 0) w (ap (λ (j : ℕ). quietByte (getD s j 0)) e ∙ f .quiet) q)
 
   no-tick : eqb (getD s 1 0) 0x27 ≡ false

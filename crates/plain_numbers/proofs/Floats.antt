@@ -31,8 +31,9 @@ use Rattle.numbers.specs.Numbers.{floatAhead, numberOf, ofFloat}
 use Rattle.numbers.specs.declared.Number.the-variants.{Float}
 use Rattle.reading.specs.Owed.{quietByte}
 use Rattle.plain_numbers.proofs.Begins.{sign-cases}
-use Rattle.plain_numbers.proofs.Runs.{digit-goes, digit-in, digit-int, quiet-float, quiet-not, run-holds, run-wider, run2-none, run2-passed}
+use Rattle.plain_numbers.proofs.Runs.{digit-goes, digit-in, digit-int, quiet-float, quiet-not, run-wider, run2-none, run2-passed}
 use Rattle.plain_numbers.specs.PlainNumbers.{fractionOf}
+use Rattle.text.proofs.RunLaws.{run-holds}
 
 -- ---- a run without underscores
 

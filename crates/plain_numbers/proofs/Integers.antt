@@ -12,7 +12,7 @@ use lib.Seq.{length-take-le}
 use borrow.Author.Tests.{le-ltb, ne-eqb}
 use Rattle.text.proofs.Choices.{bool-cases, either, lt-or-le}
 use Rattle.text.proofs.Lists.{head-at}
-use Rattle.text.proofs.RunLaws.{run-le}
+use Rattle.text.proofs.RunLaws.{run-le, run-holds}
 use Rattle.text.specs.Classes.{digit, intChar, within}
 use Rattle.text.specs.Runs.{run}
 use Rattle.digits.proofs.Exact.{digits-exact}
@@ -32,7 +32,7 @@ use Rattle.integers.specs.declared.integer.Numeral.the-variants as numeral
 use Rattle.numbers.specs.Numbers.{floatAhead, numberOf}
 use Rattle.numbers.specs.declared.Number.the-variants.{Int}
 use Rattle.reading.specs.Owed.{quietByte}
-use Rattle.plain_numbers.proofs.Runs.{digit-goes, digit-in, digit-int, quiet-float, quiet-int, quiet-not, run-holds, run-wider, run2-none, run2-passed}
+use Rattle.plain_numbers.proofs.Runs.{digit-goes, digit-in, digit-int, quiet-float, quiet-int, quiet-not, run-wider, run2-none, run2-passed}
 use Rattle.plain_numbers.proofs.Values.{digit-value, run-only, value-nine}
 
 -- ---- digits and a quiet byte

@@ -9,7 +9,7 @@ use lib.Dec.{ltb, leb}
 use lib.ListN.{length, drop, getD, length-drop}
 use borrow.Author.Tests.{leb-true, ltb-true}
 use Rattle.text.proofs.Choices.{and-true, cond-cases}
-use Rattle.text.proofs.RunLaws.{run-le}
+use Rattle.text.proofs.RunLaws.{run-le, run-holds}
 use Rattle.text.specs.Classes.{digit}
 use Rattle.text.specs.Runs.{run}
 use Rattle.integers.specs.Front.{signOf}
@@ -24,7 +24,6 @@ use Rattle.tokens.specs.declared.lexeme.Lexeme.{Lexeme}
 use Rattle.plain_numbers.proofs.Begins.{begins, begins-clear, begins-shape}
 use Rattle.plain_numbers.proofs.Floats.{float-is}
 use Rattle.plain_numbers.proofs.Integers.{integer-is}
-use Rattle.plain_numbers.proofs.Runs.{run-holds}
 use Rattle.plain_numbers.specs.PlainNumbers.{fitOf, fractionOf, notPlain, plainFloat, plainInteger, plainNumber}
 
 -- the general reader's token at the front of s is that lexeme

@@ -17,14 +17,6 @@ use Rattle.reading.specs.Owed.{quietByte}
 
 -- ---- runs
 
--- each byte of a run is of its class
-pub run-holds : (p : ℕ → Bool) (s : List ℕ) (k : ℕ) → k < run p s → p (getD s k 0) ≡ true
-unfolding run
-run-holds p [] k h = absurd (omega arith)
-run-holds p (a ∷ s) zero h = either (bool-cases (p a)) (λ e. e) (λ e. absurd (omega (arith, rw e at h)))
-run-holds p (a ∷ s) (suc k) h =
-    either (bool-cases (p a)) (λ e. run-holds p s k (omega (arith, rw e at h))) (λ e. absurd (omega (arith, rw e at h)))
-
 -- a wider class that stops at the same byte
 pub run-wider : (p q : ℕ → Bool) → ((c : ℕ) → p c ≡ true → q c ≡ true) → (s : List ℕ) → q (getD s (run p s) 0) ≡ false → run q s ≡ run p s
 unfolding run

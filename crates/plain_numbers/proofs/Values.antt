@@ -9,13 +9,13 @@ use lib.ListN.{length, take, drop, getD}
 use lib.Seq.{getD-drop, getD-take, length-take-le}
 use borrow.Author.Tests.{ne-eqb}
 use Rattle.text.proofs.Lists.{front}
-use Rattle.text.proofs.RunLaws.{run-le}
+use Rattle.text.proofs.RunLaws.{run-le, run-holds}
 use Rattle.text.specs.Classes.{digit}
 use Rattle.text.specs.Runs.{run}
 use Rattle.digits.proofs.Exact.{value-grows}
 use Rattle.digits.specs.Digits.{hexOf}
 use Rattle.digits.specs.Value.{stepOf, valueFrom, valueOf}
-use Rattle.plain_numbers.proofs.Runs.{digit-in, run-holds}
+use Rattle.plain_numbers.proofs.Runs.{digit-in}
 
 module _ (c : ℕ) (e : digit c ≡ true) where
   pub digit-value : hexOf c ≡ c - 0x30

@@ -8,7 +8,7 @@ use lib.Dec.{eqb}
 use lib.ListN.{getD, length, drop}
 use lib.Seq.{getD-drop}
 use borrow.Author.Tests.{eq-eqb, eqb-true}
-use Rattle.text.proofs.Choices.{and-true}
+use Rattle.text.proofs.Choices.{and-true, chosen}
 use Rattle.text.specs.Runs.{run}
 use Rattle.comments.proofs.GapFronts.{clear-front, clearByte}
 use Rattle.comments.specs.Gaps.{gapOf}
@@ -38,10 +38,6 @@ pub record Found (s : List ℕ) : Type 0 where
   pub len-is : plainString s ≡ run plain (drop 1 s) + 2
   pub opens : getD s 0 0 ≡ 0x22
   pub closes : getD s (run plain (drop 1 s) + 1) 0 ≡ 0x22
-
-chosen : (t : Bool) (n : ℕ) → 0 < cond t n 0 → (t ≡ true) × (cond t n 0 ≡ n)
-chosen true n h = (refl, refl)
-chosen false n h = absurd (omega arith)
 
 pub found : (s : List ℕ) → 0 < plainString s → Found s
 unfolding plainString

@@ -32,21 +32,6 @@ use Rattle.repair.specs.declared.join.Scan.{Scan}
 
 -- ---- readings
 
--- a reading is its entries and how it ends
-pub split-reading : (r : Reading) → (d : Reading) × (r ≡ entries r ▸ d)
-unfolding entries
-split-reading complete = (complete, refl)
-split-reading (broken d) = (broken d, refl)
-split-reading (entry x r) = let s = split-reading r in (s .0, ap (entry x) (s .1))
-
--- there are no more entries than bytes
-pub few-entries : (text : List ℕ) (at : ℕ) → length (entries (readFrom ronToken text at)) ≤ length text
-few-entries text at =
-    let r : Reading = readFrom ronToken text at in
-    let s = split-reading r in
-    let o = read-in-order ronToken quietByte laws kinds (entries r) at (drop at text) (s .0) (s .1) in
-    omega (arith, in-order-short (entries r) at (at + length (drop at text)) o, length-drop at text)
-
 -- ---- the place to go on from
 
 resume-le : (q x : ℕ) (l : List Entry) (at : ℕ) → at ≤ x → q ≤ x → endOf at (take (leading (endsBefore q) l) l) ≤ x

@@ -24,10 +24,6 @@ use Rattle.structs.specs.Passes.{Fits, FitsLiteral, behindChar, behindGa
 use Rattle.structs.specs.declared.passes.Passed.{Passed}
 use Rattle.structs.specs.declared.passes.Passed.the-variants.{To, Refused}
 
--- ---- an answer on the part from a place
-pub on-part : {A : Type 0} (f : List ℕ → A) (s : List ℕ) (i : ℕ) (a b : A) → a ≡ f (take (length s - i) (drop i s)) → a ≡ b → f (drop i s) ≡ b
-on-part f s i a b e h = ap f (sym (tail-part s i)) ∙ sym e ∙ h
-
 -- ---- from a place that was reached
 
 module _ (s : List ℕ) (from : Passed) (at : ℕ) (e : from ≡ To at) where

@@ -1,5 +1,6 @@
 -- Choices by a test: `cond`, `&&` and `||`. Assumes nothing.
 use Prim.Native.Nat.{ℕ, _≤_, _<_}
+use native.Mathlib.Nat.{not-suc-le-zero}
 use mathlib.Core.Path.{_≡_, refl}
 use mathlib.Core.Logic.{_⊎_, inl, inr}
 use mathlib.Core.Bool.{Bool, true, false, cond, _&&_, _||_}
@@ -45,3 +46,8 @@ or-left false t e = refl
 pub or-right : (s t : Bool) → (s || t) ≡ false → t ≡ false
 or-right true t e = cc
 or-right false t e = e
+
+-- a number that is chosen or 0, and is not 0, is chosen
+pub chosen : (t : Bool) (n : ℕ) → 0 < cond t n 0 → (t ≡ true) × (cond t n 0 ≡ n)
+chosen true n h = (refl, refl)
+chosen false n h = absurd (not-suc-le-zero h)

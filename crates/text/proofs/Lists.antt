@@ -3,7 +3,7 @@ use Prim.Native.Nat.{ℕ, _+_, _-_, _<_}
 use native.Mathlib.Nat.{le-refl, add-zero}
 use native.Mathlib.Numerals.{add-one}
 use native.Mathlib.Omega.{arith}
-use mathlib.Core.Path.{_≡_, ap, _∙_}
+use mathlib.Core.Path.{_≡_, ap, sym, _∙_}
 use mathlib.Core.List.{List, _∷_}
 use lib.ListN.{length, getD, take, drop, length-drop}
 use lib.Seq.{drop-cons, take-all, getD-drop}
@@ -28,3 +28,7 @@ tail-part s i = take-all (length s - i) (drop i s) (rw (length-drop i s) (le-ref
 -- the first byte of the part from i, 0 at the end
 pub head-at : (s : List ℕ) (i : ℕ) → getD (drop i s) 0 0 ≡ getD s i 0
 head-at s i = getD-drop i s 0 0 ∙ ap (λ (n : ℕ). getD s n 0) (add-zero i)
+
+-- what is said of a part up to the end is said of what stands there
+pub on-part : {A : Type 0} (f : List ℕ → A) (s : List ℕ) (i : ℕ) (a b : A) → a ≡ f (take (length s - i) (drop i s)) → a ≡ b → f (drop i s) ≡ b
+on-part f s i a b e h = ap f (sym (tail-part s i)) ∙ sym e ∙ h

@@ -63,3 +63,11 @@ run-many p (suc n) s i h all =
     ∙ ap (λ (m : ℕ). 1 + m) (run-many p n s (i + 1) (omega arith) next)
     ∙ ap (λ (m : ℕ). 1 + (n + run p (drop m s))) j
     ∙ omega arith
+
+-- each byte of a run is of its class
+pub run-holds : (p : ℕ → Bool) (s : List ℕ) (k : ℕ) → k < run p s → p (getD s k 0) ≡ true
+unfolding run
+run-holds p [] k h = absurd (omega arith)
+run-holds p (a ∷ s) zero h = either (bool-cases (p a)) (λ e. e) (λ e. absurd (omega (arith, rw e at h)))
+run-holds p (a ∷ s) (suc k) h =
+    either (bool-cases (p a)) (λ e. run-holds p s k (omega (arith, rw e at h))) (λ e. absurd (omega (arith, rw e at h)))

@@ -4,8 +4,10 @@ use mathlib.Core.Bool.{Bool, false, cond}
 use mathlib.Core.List.{List, [], _∷_, _++_}
 use Prim.Native.Nat.{ℕ, suc, _+_, _≤_}
 use native.Mathlib.Omega.{arith}
-use lib.ListN.{length, drop, take, getD, length-drop}
+use lib.Dec.{eqb}
+use lib.ListN.{length, drop, take, getD, length-append, length-drop}
 use lib.Seq.{drop-append-le, take-append-le}
+use borrow.Author.Tests.{ne-eqb}
 use Rattle.text.specs.Runs.{run, run2}
 use Rattle.text.proofs.Choices.{bool-cases, either}
 
@@ -106,3 +108,10 @@ module _ {c : ℕ} where
 
   pub run2-reach : (p : ℕ → ℕ → Bool) → ((b : ℕ) → p c b ≡ false) → Reach c (run2 p)
   run2-reach p e = record { stopped = record { same = run2-same p e }; short = run2-short p e }
+
+-- a text that holds a byte is not empty, whatever stands behind it
+pub empty-stopped : (c : ℕ) → Stopped c (λ s. eqb (length s) 0)
+empty-stopped c = record { same = λ u v v′. some u v ∙ sym (some u v′) }
+  where
+    some : (u v : List ℕ) → eqb (length (u ++ c ∷ v)) 0 ≡ false
+    some u v = let l = length-append u (c ∷ v) in ne-eqb (length (u ++ c ∷ v)) 0 (λ e. omega arith)

@@ -12,8 +12,8 @@ use Rattle.words.specs.Digit.{isDigit}
 use Rattle.words.specs.Number.{allDigits, valueFrom, decimalFrom, decimalOf}
 use Rattle.words.specs.declared.number.Decimal.{Decimal}
 use Rattle.words.specs.declared.number.Decimal.the-variants.{Value, Bad}
-use Rattle.lines.proofs.Laws.{front}
-use Rattle.words.proofs.Digits.{and-false}
+use Rattle.text.proofs.Choices.{and-false}
+use Rattle.text.proofs.Lists.{front}
 
 -- no digit makes a number smaller
 value-grows : (s : List ℕ) (n : ℕ) → n ≤ valueFrom s n

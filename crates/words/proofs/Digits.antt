@@ -5,10 +5,7 @@ use mathlib.Core.Bool.{Bool, true, false, cond, _&&_}
 use lib.Dec.{leb}
 use borrow.Author.Tests.{le-leb, lt-leb}
 use Rattle.words.specs.Digit.{within}
-
-pub and-false : (t : Bool) → (t && false) ≡ false
-and-false true = refl
-and-false false = refl
+use Rattle.text.proofs.Choices.{and-false}
 
 module _ (lo hi x : ℕ) where
   pub inside : lo ≤ x → x ≤ hi → within lo hi x ≡ true

@@ -11,7 +11,6 @@ use lib.Seq.{take-all}
 use lib.Dec.{leb, ltb, eqb}
 use borrow.Author.Tests.{le-leb, lt-leb, eq-eqb, ne-eqb, ltb-true, ltb-false}
 use Rattle.lines.specs.Find.{findOf}
-use Rattle.lines.proofs.Laws.{tail-part}
 use Rattle.words.specs.Dash.{isDash}
 use Rattle.words.specs.Digit.{within}
 use Rattle.words.specs.Number.{allDigits, valueFrom, decimalFrom, decimalOf}
@@ -21,7 +20,8 @@ use Rattle.words.specs.declared.small.Small.{Small}
 use Rattle.words.specs.declared.small.Small.the-variants as small
 use Rattle.words.specs.declared.list.Count.the-variants.{Stored, Bad}
 use Rattle.words.proofs.Dashes.{dash-is}
-use Rattle.words.proofs.Digits.{and-false}
+use Rattle.text.proofs.Lists.{tail-part}
+use Rattle.text.proofs.Choices.{and-false}
 
 -- ---- items
 

@@ -9,11 +9,12 @@ use lib.ListN.{length, getD, drop, length-drop}
 use lib.Dec.{ltb, leb, eqb}
 use borrow.Author.Tests.{lt-ltb, le-ltb, le-leb, lt-leb, eq-eqb, ne-eqb}
 use Rattle.lines.specs.Over.{over}
-use Rattle.lines.proofs.Laws.{front2, drop-some, drop-none}
-use Rattle.words.proofs.Digits.{and-false}
+use Rattle.lines.proofs.Laws.{drop-some, drop-none}
 use Rattle.words.specs.Digit.{nibbleOf}
 use Rattle.words.specs.Hex.{pairOf, pairs, pairsIn}
 use Rattle.words.specs.declared.hex.Hex.the-variants.{Bytes, Bad}
+use Rattle.text.proofs.Lists.{front2}
+use Rattle.text.proofs.Choices.{and-false}
 
 -- ---- one pair
 

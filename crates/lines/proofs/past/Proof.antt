@@ -5,8 +5,8 @@ use mathlib.Core.Path.{_≡_, sym, ap, _∙_}
 use lib.ListN.{length, drop, drop-of-length-le}
 use borrow.Author.Needs.{needs}
 use Rattle.lines.specs.Find.{findOf}
-use Rattle.lines.proofs.Laws.{tail-part}
 use Rattle.lines.proofs.past.Statement.{statement}
+use Rattle.text.proofs.Lists.{tail-part}
 use Rattle.lines.proofs.past.Tie as tie
 
 find-requires : tie.Need-find-requires

@@ -9,8 +9,7 @@ use Rattle.attributes.proofs.words.keyword_at.Statement.{statement}
 use Rattle.attributes.specs.Words.{byWord}
 use Rattle.attributes.specs.declared.words.Keyword.the-variants.{Asked}
 use Rattle.integers.specs.Words.{askedBehind}
-use Rattle.names.proofs.IdentifierLaws.{on-part}
-use Rattle.text.proofs.Lists.{tail-part}
+use Rattle.text.proofs.Lists.{tail-part, on-part}
 use Rattle.attributes.proofs.words.keyword_at.Tie as tie
 
 returns : tie.Need-returns

@@ -6,11 +6,11 @@ use lib.ListN.{drop, length, length-drop, take}
 use borrow.Author.Needs.{needs}
 use borrow.Author.Tests.{eq-eqb, ne-eqb}
 use Rattle.names.proofs.CharLaws.{char-le, chars-le}
-use Rattle.names.proofs.IdentifierLaws.{on-part}
 use Rattle.names.proofs.identifiers.name_len.Statement.{statement}
 use Rattle.names.specs.Characters.{chars}
 use Rattle.names.specs.Identifiers.{nameLen}
 use Rattle.text.specs.Classes.{identFirst, identNext}
+use Rattle.text.proofs.Lists.{on-part}
 use Rattle.names.proofs.identifiers.name_len.Tie as tie
 
 more : (s : List ℕ) (i n : ℕ) → n ≡ chars identNext (take (length s - i) (drop i s)) → n ≤ length s - i

@@ -2,10 +2,11 @@ use native.Mathlib.Omega.{arith}
 use mathlib.Core.Path.{sym}
 use borrow.Author.Needs.{needs}
 use borrow.Author.Tests.{eq-eqb, ne-eqb}
-use Rattle.names.proofs.IdentifierLaws.{name-le, on-part}
+use Rattle.names.proofs.IdentifierLaws.{name-le}
 use Rattle.names.proofs.identifiers.plain.Statement.{statement}
 use Rattle.names.specs.Characters.{foreignFront}
 use Rattle.names.specs.Identifiers.{plainOf}
+use Rattle.text.proofs.Lists.{on-part}
 use Rattle.names.proofs.identifiers.plain.Tie as tie
 
 name-len-requires : tie.Need-name-len-requires

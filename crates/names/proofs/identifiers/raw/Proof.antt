@@ -5,11 +5,11 @@ use lib.ListN.{drop, length-drop}
 use borrow.Author.Needs.{needs}
 use borrow.Author.Tests.{eq-eqb, ne-eqb}
 use Rattle.names.proofs.CharLaws.{chars-le}
-use Rattle.names.proofs.IdentifierLaws.{on-part}
 use Rattle.names.proofs.identifiers.raw.Statement.{statement}
 use Rattle.names.specs.Characters.{chars, foreignFront}
 use Rattle.names.specs.Identifiers.{rawOf}
 use Rattle.text.specs.Classes.{identRaw}
+use Rattle.text.proofs.Lists.{on-part}
 use Rattle.names.proofs.identifiers.raw.Tie as tie
 
 sub-next-chars-while-len : tie.Need-sub-next-chars-while-len

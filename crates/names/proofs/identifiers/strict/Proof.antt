@@ -3,11 +3,12 @@ use mathlib.Core.Path.{sym}
 use borrow.Author.Needs.{needs}
 use borrow.Author.Tests.{eq-eqb, le-ltb, lt-ltb, ne-eqb}
 use Rattle.names.proofs.CharLaws.{chars-le}
-use Rattle.names.proofs.IdentifierLaws.{name-le, on-part}
+use Rattle.names.proofs.IdentifierLaws.{name-le}
 use Rattle.names.proofs.identifiers.strict.Statement.{statement}
 use Rattle.names.specs.Characters.{foreignFront}
 use Rattle.names.specs.Identifiers.{strictOf}
 use Rattle.text.specs.Classes.{identRaw}
+use Rattle.text.proofs.Lists.{on-part}
 use Rattle.names.proofs.identifiers.strict.Tie as tie
 
 name-len-requires : tie.Need-name-len-requires

@@ -4,10 +4,11 @@ use lib.ListN.{length}
 use borrow.Author.Needs.{needs}
 use borrow.Author.Tests.{not-false, not-true}
 use Rattle.repair.proofs.Checks.{fits-true}
-use Rattle.repair.proofs.Finding.{behind-movable, cut-inside, few-entries, few-new, found-is, from-is, join-behind, join-le, kept-early, kept-is, kept-le, resume-inside}
+use Rattle.repair.proofs.Finding.{behind-movable, cut-inside, few-new, found-is, from-is, join-behind, join-le, kept-early, kept-is, kept-le, resume-inside}
 use Rattle.repair.proofs.Finishing.{out-done, out-refused, out-unfit}
 use Rattle.repair.proofs.repairer.repair_text.Statement.{statement}
 use Rattle.text.specs.Refusals.Told.{refused}
+use Rattle.read.proofs.PassLaws.{few-entries}
 use Rattle.repair.proofs.repairer.repair_text.Tie as tie
 
 -- src/repairer.rt:45:9

@@ -6,9 +6,10 @@ use lib.ListN.{drop, length}
 use borrow.Author.Needs.{needs}
 use Rattle.strings.specs.Chars.{charOf}
 use Rattle.strings.specs.declared.chars.CharAnswer.{CharAnswer}
-use Rattle.structs.proofs.PassLaws.{char-at, on-part, past-char, place-le}
+use Rattle.structs.proofs.PassLaws.{char-at, past-char, place-le}
 use Rattle.structs.proofs.passes.skip_char.Statement.{statement}
 use Rattle.structs.specs.Passes.{Fits, behindChar, pastChar}
+use Rattle.text.proofs.Lists.{on-part}
 use Rattle.strings.specs.declared.chars.CharAnswer.the-variants as char
 use Rattle.structs.proofs.passes.skip_char.Tie as tie
 

@@ -6,10 +6,11 @@ use lib.ListN.{drop, length}
 use borrow.Author.Needs.{needs}
 use Rattle.comments.specs.Gaps.{gapOf}
 use Rattle.comments.specs.declared.gap.Gap.{Gap}
-use Rattle.structs.proofs.PassLaws.{gap-at, on-part, past-gap, place-le}
+use Rattle.structs.proofs.PassLaws.{gap-at, past-gap, place-le}
 use Rattle.structs.proofs.passes.skip_ws.Statement.{statement}
 use Rattle.structs.specs.Passes.{Fits, behindGap, pastGap}
 use Rattle.structs.specs.declared.passes.Passed.the-variants.{Refused}
+use Rattle.text.proofs.Lists.{on-part}
 use Rattle.comments.specs.declared.gap.Gap.the-variants as gap
 use Rattle.structs.proofs.passes.skip_ws.Tie as tie
 

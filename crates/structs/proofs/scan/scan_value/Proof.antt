@@ -5,7 +5,6 @@ use mathlib.Core.Path.{_∙_, _≡_, ap, refl, sym}
 use lib.ListN.{drop, length, length-drop}
 use borrow.Author.Needs.{needs}
 use borrow.Author.Tests.{eq-eqb, ne-eqb}
-use Rattle.structs.proofs.PassLaws.{on-part}
 use Rattle.structs.proofs.ScanLaws.{comma-fits, scan-at}
 use Rattle.structs.proofs.StepLaws.{Sized, step-sized}
 use Rattle.structs.proofs.scan.scan_value.Statement.{statement}
@@ -13,7 +12,7 @@ use Rattle.structs.specs.Kinds.{placedAt}
 use Rattle.structs.specs.Scan.{afterComma, byStep, scanFrom, scanOf, stepOf}
 use Rattle.structs.specs.declared.steps.Step.{Step}
 use Rattle.structs.specs.declared.steps.Step.the-variants.{Closing, Comma, Opening, Plain, Refused}
-use Rattle.text.proofs.Lists.{tail-part}
+use Rattle.text.proofs.Lists.{tail-part, on-part}
 use Rattle.structs.specs.declared.kinds.StructAnswer.the-variants as answer
 use Rattle.structs.proofs.scan.scan_value.Tie as tie
 

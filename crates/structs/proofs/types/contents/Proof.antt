@@ -6,11 +6,11 @@ use lib.ListN.{drop, length}
 use borrow.Author.Needs.{needs}
 use Rattle.names.specs.Identifiers.{skipIdentifierOf}
 use Rattle.names.specs.declared.Identifier.{Identifier}
-use Rattle.structs.proofs.PassLaws.{on-part}
 use Rattle.structs.proofs.TypeLaws.{NameFits, name-at}
 use Rattle.structs.proofs.types.contents.Statement.{statement}
 use Rattle.structs.specs.Structs.{contentsOf}
 use Rattle.structs.specs.declared.kinds.StructAnswer.the-variants.{Refused}
+use Rattle.text.proofs.Lists.{on-part}
 use Rattle.names.specs.declared.Identifier.the-variants as name
 use Rattle.structs.proofs.types.contents.Tie as tie
 

@@ -10,10 +10,11 @@ use Rattle.words.specs.Small.{smallOf}
 use Rattle.words.specs.declared.small.Small.the-variants.{Bad, Value}
 use Rattle.lines.specs.Find.{findOf}
 use Rattle.lines.specs.Over.{over}
-use Rattle.lines.proofs.Laws.{tail-part, drop-some, drop-none, over-more, over-all, over-full}
+use Rattle.lines.proofs.Laws.{drop-some, drop-none, over-more, over-all, over-full}
 use Rattle.words.proofs.Items.{read-at, numbers-bad, numbers-some, numbers-last, numbers-more, count-more, count-full, count-whole}
 use borrow.Author.Needs.{needs}
 use Rattle.words.proofs.list.items.Statement.{statement}
+use Rattle.text.proofs.Lists.{tail-part}
 use Rattle.words.proofs.list.items.Tie as tie
 use Rattle.words.proofs.list.items.Reads as reads
 use Rattle.words.proofs.list.items.Lts as lts
