@@ -1,60 +1,9 @@
 //! The product's calls through its C interface. An answer with the top bit set is a refusal.
 
-mod c {
-    extern "C" {
-        pub fn sarridok_read(text: *const u8, text_len: usize, tape: *mut u32, tape_len: usize) -> u64;
-        pub fn sarridok_walk(
-            tape: *const u32,
-            tape_len: usize,
-            count: usize,
-            limit: usize,
-            links: *mut u32,
-            links_len: usize,
-        ) -> u64;
-        pub fn sarridok_repair(
-            tape: *mut u32,
-            tape_len: usize,
-            count: usize,
-            old_len: usize,
-            a: usize,
-            b: usize,
-            text: *const u8,
-            text_len: usize,
-            before: *mut u64,
-            behind: *mut u64,
-        ) -> u64;
-        pub fn sarridok_integer(text: *const u8, text_len: usize, place: usize, width: u32, magnitude: *mut u64)
-            -> u64;
-        pub fn sarridok_contents(
-            text: *const u8,
-            text_len: usize,
-            tape: *const u32,
-            tape_len: usize,
-            count: usize,
-            entry: usize,
-        ) -> u64;
-        pub fn sarridok_decoded(
-            text: *const u8,
-            text_len: usize,
-            tape: *const u32,
-            tape_len: usize,
-            count: usize,
-            entry: usize,
-            out: *mut u8,
-            out_len: usize,
-        ) -> u64;
-        pub fn sarridok_struct_kind(text: *const u8, text_len: usize, place: usize, newtype: u32, tuple: u32) -> u64;
-        pub fn sarridok_skip(
-            text: *const u8,
-            text_len: usize,
-            cursor: usize,
-            pre_ws: usize,
-            last_ws: usize,
-            new_pre_ws: *mut u64,
-            new_last_ws: *mut u64,
-        ) -> u64;
-    }
-}
+// The declarations are the Rust binding's own.
+#[rustfmt::skip]
+#[path = "../../../bindings/rust/src/raw.rs"]
+mod raw;
 
 /// Set in a refusal.
 const REFUSED: u64 = 1 << 63;
@@ -70,11 +19,11 @@ pub fn refusal(answer: u64) -> Option<u32> {
 
 /// The number of entries.
 pub fn read(text: &[u8], tape: &mut [u32]) -> u64 {
-    unsafe { c::sarridok_read(text.as_ptr(), text.len(), tape.as_mut_ptr(), tape.len()) }
+    unsafe { raw::sarridok_read(text.as_ptr(), text.len(), tape.as_mut_ptr(), tape.len()) }
 }
 
 pub fn walk(tape: &[u32], count: usize, links: &mut [u32]) -> u64 {
-    unsafe { c::sarridok_walk(tape.as_ptr(), tape.len(), count, 128, links.as_mut_ptr(), links.len()) }
+    unsafe { raw::sarridok_walk(tape.as_ptr(), tape.len(), count, 128, links.as_mut_ptr(), links.len()) }
 }
 
 /// A run of bytes from `a` to `b` of a text of `old_len` bytes was replaced.
@@ -92,7 +41,7 @@ pub fn repair(tape: &mut [u32], count: usize, cut: Cut, text: &[u8]) -> (u64, [u
     let (tape_len, text_len) = (tape.len(), text.len());
     let Cut { old_len, a, b } = cut;
     let answer = unsafe {
-        c::sarridok_repair(tape.as_mut_ptr(), tape_len, count, old_len, a, b, text.as_ptr(), text_len, before, behind)
+        raw::sarridok_repair(tape.as_mut_ptr(), tape_len, count, old_len, a, b, text.as_ptr(), text_len, before, behind)
     };
     (answer, kept)
 }
@@ -100,26 +49,26 @@ pub fn repair(tape: &mut [u32], count: usize, cut: Cut, text: &[u8]) -> (u64, [u
 /// Sign and end, and the magnitude.
 pub fn integer(text: &[u8], place: usize, width: u32) -> (u64, u64) {
     let mut magnitude = 0;
-    let answer = unsafe { c::sarridok_integer(text.as_ptr(), text.len(), place, width, &mut magnitude) };
+    let answer = unsafe { raw::sarridok_integer(text.as_ptr(), text.len(), place, width, &mut magnitude) };
     (answer, magnitude)
 }
 
 pub fn contents(text: &[u8], tape: &[u32], count: usize, entry: usize) -> u64 {
-    unsafe { c::sarridok_contents(text.as_ptr(), text.len(), tape.as_ptr(), tape.len(), count, entry) }
+    unsafe { raw::sarridok_contents(text.as_ptr(), text.len(), tape.as_ptr(), tape.len(), count, entry) }
 }
 
 pub fn decoded(text: &[u8], tape: &[u32], count: usize, entry: usize, out: &mut [u8]) -> u64 {
     let (text_len, tape_len, out_len) = (text.len(), tape.len(), out.len());
     unsafe {
-        c::sarridok_decoded(text.as_ptr(), text_len, tape.as_ptr(), tape_len, count, entry, out.as_mut_ptr(), out_len)
+        raw::sarridok_decoded(text.as_ptr(), text_len, tape.as_ptr(), tape_len, count, entry, out.as_mut_ptr(), out_len)
     }
 }
 
 pub fn struct_kind(text: &[u8], place: usize, newtype: u32, tuple: u32) -> u64 {
-    unsafe { c::sarridok_struct_kind(text.as_ptr(), text.len(), place, newtype, tuple) }
+    unsafe { raw::sarridok_struct_kind(text.as_ptr(), text.len(), place, newtype, tuple) }
 }
 
 pub fn skip(text: &[u8]) -> u64 {
     let [mut pre, mut last] = [0; 2];
-    unsafe { c::sarridok_skip(text.as_ptr(), text.len(), 0, 0, 0, &mut pre, &mut last) }
+    unsafe { raw::sarridok_skip(text.as_ptr(), text.len(), 0, 0, 0, &mut pre, &mut last) }
 }
