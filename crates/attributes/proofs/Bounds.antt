@@ -35,7 +35,7 @@ use Rattle.comments.specs.Gaps.{gapOf}
 use Rattle.comments.specs.declared.gap.Gap.{Gap}
 use Rattle.comments.specs.declared.gap.Gap.the-variants.{Clear, InLine, Refused as NoGap}
 use Rattle.integers.proofs.WordStops.{fit}
-use Rattle.integers.specs.Words.{askedBehind, foreignAhead}
+use Rattle.integers.specs.Words.{askedBehind}
 use Rattle.names.proofs.IdentifierLaws.{Within, identifier-within}
 use Rattle.names.specs.Identifiers.{identifierOf}
 use Rattle.names.specs.declared.Identifier.{Identifier}
@@ -46,7 +46,7 @@ use Rattle.strings.specs.Strings.{stringOf}
 use Rattle.strings.specs.declared.literal.LiteralAnswer.{LiteralAnswer}
 use Rattle.strings.specs.declared.literal.LiteralAnswer.the-variants.{Read as ReadString, Refused as NoString}
 use Rattle.text.proofs.Choices.{cond-cases}
-use Rattle.text.specs.Classes.{identNext}
+use Rattle.text.specs.Classes.{identNext, foreignAhead}
 use Rattle.text.specs.Refusals.{expectedAttribute, expectedAttributeEnd, foreignChar}
 use Rattle.text.specs.declared.refusal.Refusal.{Refusal}
 

@@ -43,7 +43,7 @@ use Rattle.comments.specs.declared.gap.Gap.{Gap}
 use Rattle.comments.specs.declared.gap.Gap.the-variants.{Clear, InLine, Refused as NoGap}
 use Rattle.comments.specs.declared.gap.Item.{Item as GapItem}
 use Rattle.comments.specs.declared.gap.Item.the-variants.{Blank, BlockOpen, Ended as TextEnds, LineOpen, Other, Unexpected}
-use Rattle.integers.specs.Words.{askedBehind, foreignAhead}
+use Rattle.integers.specs.Words.{askedBehind}
 use Rattle.names.proofs.IdentifierLaws.{Within, identifier-within}
 use Rattle.names.specs.Identifiers.{identifierOf}
 use Rattle.names.specs.declared.Identifier.{Identifier}
@@ -55,7 +55,7 @@ use Rattle.strings.specs.declared.literal.LiteralAnswer.the-variants.{Read as R
 use Rattle.text.proofs.Choices.{cond-cases}
 use Rattle.text.proofs.Lists.{head-at}
 use Rattle.text.proofs.Stops.{Stopped}
-use Rattle.text.specs.Classes.{identNext}
+use Rattle.text.specs.Classes.{identNext, foreignAhead}
 use Rattle.text.specs.Refusals.{expectedAttributeEnd, foreignChar}
 use Rattle.text.specs.Utf8.Text.{none}
 

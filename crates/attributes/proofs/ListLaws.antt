@@ -19,11 +19,10 @@ use Rattle.attributes.specs.declared.list.OtherChar.{OtherChar}
 use Rattle.attributes.specs.declared.list.OtherChar.the-variants.{Ends}
 use Rattle.attributes.specs.declared.steps.All.{All}
 use Rattle.names.proofs.IdentifierLaws.{Within, identifier-within}
-use Rattle.integers.specs.Words.{foreignAhead}
 use Rattle.names.specs.Identifiers.{identifierOf}
 use Rattle.names.specs.declared.Identifier.{Identifier}
 use Rattle.text.proofs.Lists.{front, tail-part}
-use Rattle.text.specs.Classes.{digit, foreign, identNext, letter, within}
+use Rattle.text.specs.Classes.{digit, foreign, identNext, letter, within, foreignAhead}
 use Rattle.text.specs.Refusals.{eof}
 
 -- ---- whether a name goes on

@@ -3,7 +3,7 @@ use Prim.Native.Nat.{_%_, _+_, _-_, _/_, _<_, _≤_, ℕ}
 use native.Mathlib.Nat.{add-zero}
 use native.Mathlib.Omega.{arith}
 use mathlib.Core.Bool.{Bool, cond, false, true}
-use mathlib.Core.List.{List, [], _∷_}
+use mathlib.Core.List.{List}
 use mathlib.Core.Path.{_∙_, _≡_, ap, subst, sym}
 use lib.Dec.{eqb}
 use lib.ListN.{drop, drop-of-length-le, getD, length, length-drop, take}
@@ -23,16 +23,16 @@ use Rattle.attributes.specs.declared.words.Keyword.the-variants.{Asked, 
 use Rattle.comments.proofs.GapLaws.{EndsBy, gap-bounded}
 use Rattle.comments.specs.Gaps.{gapFrom, gapOf}
 use Rattle.comments.specs.declared.gap.Gap.{Gap}
-use Rattle.integers.specs.Words.{Word, askedBehind, firstOf, identOf, startsWith}
+use Rattle.integers.specs.Words.{askedBehind, firstOf, identOf}
 use Rattle.integers.specs.declared.ident.Found.{Found}
 use Rattle.strings.proofs.Bounds.{Bounded-string, string-bounded}
 use Rattle.strings.proofs.Wholes.{none-here}
 use Rattle.strings.specs.Strings.{stringOf}
 use Rattle.strings.specs.declared.literal.LiteralAnswer.{LiteralAnswer}
-use Rattle.text.proofs.Choices.{and-true, cond-cases}
+use Rattle.text.proofs.Choices.{cond-cases}
 use Rattle.text.proofs.Lists.{tail-part}
-use Rattle.text.specs.Classes.{identNext}
 use Rattle.text.specs.Refusals.{expectedAttribute, expectedAttributeEnd, expectedString, foreignChar}
+use Rattle.text.specs.Words.{startsWith}
 use Rattle.integers.proofs.Words.{first-le}
 
 -- ---- whitespace
@@ -134,19 +134,6 @@ word-by t at f none asked first p q r =
     ∙ ap (λ (x : Bool). cond none NoKeyword (cond asked (Asked (foreignChar (at + f .end))) (cond x (Enable (at + f .end)) (Text (at + f .end))))) r
 
 -- a word lies within its part
-starts-le : (w t : List ℕ) → startsWith w t ≡ true → length w ≤ length t
-unfolding startsWith
-starts-le [] t e = omega arith
-starts-le (a ∷ w) [] e = let z : _≡_ {A = ℕ} 0 1 = cc in absurd (omega arith)
-starts-le (a ∷ w) (b ∷ t) e = omega (arith, starts-le w t (and-true (eqb b a) (startsWith w t) e .1))
-
-ident-le : (w t : List ℕ) → identOf w t ≤ length t
-unfolding identOf
-ident-le w t =
-    cond-cases (λ (n : ℕ). n ≤ length t) (startsWith w t) (cond (identNext (getD t (length w) 0)) 0 (length w)) 0
-    (λ e. cond-cases (λ (n : ℕ). n ≤ length t) (identNext (getD t (length w) 0)) 0 (length w) (λ f. omega arith) (λ f. starts-le w t e))
-    (λ e. omega arith)
-
 pub word-le : (t : List ℕ) → wordOf t .end ≤ length t
 unfolding wordOf
 word-le t = first-le keywords t

@@ -1,12 +1,12 @@
 -- What a `]` stops: the words and names of an attribute that stand before its `]` don't depend on what stands behind it. Assumes nothing.
-use Prim.Native.Nat.{_+_, _<_, _≤_, ℕ}
+use Prim.Native.Nat.{_+_, _<_, ℕ}
 use native.Mathlib.Omega.{arith}
-use mathlib.Core.Bool.{Bool, _&&_, cond, false, not, true}
-use mathlib.Core.List.{List, [], _++_, _∷_}
+use mathlib.Core.Bool.{Bool, cond, false, not, true}
+use mathlib.Core.List.{List, [], _∷_}
 use mathlib.Core.Path.{_∙_, _≡_, ap, refl, sym}
 use lib.Dec.{eqb, ltb}
 use lib.ListN.{drop, getD, length}
-use borrow.Author.Tests.{eqb-true, ne-eqb, not-true}
+use borrow.Author.Tests.{eqb-true, ne-eqb}
 use Rattle.attributes.specs.Extensions.{extensionOf, extensions, firstNamed, isWord, nameOf}
 use Rattle.attributes.specs.Words.{byWord, keywords, wordOf}
 use Rattle.attributes.specs.declared.extensions.Extension.{Extension}
@@ -14,38 +14,33 @@ use Rattle.attributes.specs.declared.extensions.Extension.the-variants.{
 use Rattle.attributes.specs.declared.extensions.Named.{Named}
 use Rattle.attributes.specs.declared.extensions.Named.the-variants.{Known, Unknown}
 use Rattle.attributes.specs.declared.words.Keyword.the-variants.{Asked, Enable, NoKeyword, Text}
-use Rattle.integers.proofs.WordStops.{asked-stopped, first-stopped, fit, foreign-stopped}
-use Rattle.integers.specs.Words.{Word, firstOf, foreignAhead, identOf, startsWith}
+use Rattle.integers.proofs.WordStops.{asked-stopped, first-stopped, fit}
+use Rattle.integers.specs.Words.{Word, firstOf, identOf}
 use Rattle.integers.specs.declared.ident.Found.{Found}
 use Rattle.names.proofs.NameStops.{identifier-stopped, nameStop}
-use Rattle.names.specs.Characters.{chars, foreignFront}
+use Rattle.names.specs.Characters.{chars}
 use Rattle.names.specs.Identifiers.{identifierOf, nameLen, rawOf, strictOf}
-use Rattle.names.specs.Starts.{beginsRaw, beginsString, startsWith as namesStart}
+use Rattle.names.specs.Starts.{beginsRaw, beginsString}
 use Rattle.names.specs.declared.Identifier.{Identifier}
 use Rattle.names.specs.declared.Identifier.the-variants.{Missing, Name, RawName, Refused as NoIdentifier}
 use Rattle.strings.specs.Strings.{stringOf}
 use Rattle.strings.specs.declared.literal.LiteralAnswer.{LiteralAnswer}
 use Rattle.strings.specs.declared.literal.LiteralAnswer.the-variants.{Read as ReadString, Refused as NoString}
-use Rattle.text.proofs.Choices.{and-true, bool-cases, cond-cases, either, lt-or-le}
-use Rattle.text.proofs.ClassLaws.{above}
-use Rattle.text.proofs.Stops.{Stopped, always, on₂}
-use Rattle.text.specs.Classes.{digit, identNext, identRaw, letter, within}
+use Rattle.text.proofs.Choices.{bool-cases, cond-cases, either, lt-or-le}
+use Rattle.text.proofs.ClassLaws.{allOf, next-wide}
+use Rattle.text.proofs.Stops.{Stopped, always, on, on₂}
+use Rattle.text.proofs.WordLaws.{foreign-stopped, starts-head, starts-stopped}
+use Rattle.text.specs.Classes.{digit, identNext, identRaw, letter, within, foreignAhead}
 use Rattle.text.specs.Refusals.{foreignChar}
+use Rattle.text.specs.Words.{startsWith}
 
 -- ---- words
 
--- no byte of a word is `]`
-abbrev noBracket : List ℕ → Bool
-noBracket [] = true
-noBracket (a ∷ w) = not (eqb 0x5d a) && noBracket w
+-- the bytes that aren't `]`
+abbrev noBracket : ℕ → Bool
+noBracket a = not (eqb 0x5d a)
 
-starts-same : (w : List ℕ) → noBracket w ≡ true → (t x x′ : List ℕ) → startsWith w (t ++ 0x5d ∷ x) ≡ startsWith w (t ++ 0x5d ∷ x′)
-unfolding startsWith
-starts-same [] h t x x′ = refl
-starts-same (a ∷ w) h [] x x′ = rw (not-true (eqb 0x5d a) (and-true (not (eqb 0x5d a)) (noBracket w) h .0))
-starts-same (a ∷ w) h (b ∷ t) x x′ = ap (λ (r : Bool). eqb b a && r) (starts-same w (and-true (not (eqb 0x5d a)) (noBracket w) h .1) t x x′)
-
-name-free : (e : Extension) → noBracket (nameOf e) ≡ true
+name-free : (e : Extension) → allOf noBracket (nameOf e) ≡ true
 name-free UnwrapNewtypes = refl
 name-free ImplicitSome = refl
 name-free UnwrapVariantNewtypes = refl
@@ -53,7 +48,7 @@ name-free ExplicitStructNames = refl
 
 is-stopped : (e : Extension) (n : ℕ) → Stopped 0x5d (λ t. isWord (nameOf e) t n)
 unfolding isWord
-is-stopped e n = record { same = λ u v v′. ap (λ (b : Bool). cond (eqb n (length (nameOf e))) b false) (starts-same (nameOf e) (name-free e) u v v′) }
+is-stopped e n = on (λ (b : Bool). cond (eqb n (length (nameOf e))) b false) (starts-stopped noBracket 0x5d refl (nameOf e) (name-free e))
 
 named-stopped : (es : List Extension) (n : ℕ) → Stopped 0x5d (λ t. firstNamed es t n)
 unfolding firstNamed
@@ -98,11 +93,6 @@ Good b = (b < 0x80) × (eqb b 0x2f ≡ false)
 pub good-by : (a b : ℕ) → a ≡ b → b < 0x80 → eqb b 0x2f ≡ false → Good a
 good-by a b e h i = (omega arith, ap (λ (x : ℕ). eqb x 0x2f) e ∙ i)
 
-starts-head : (a : ℕ) (w t : List ℕ) → startsWith (a ∷ w) t ≡ true → getD t 0 0 ≡ a
-unfolding startsWith
-starts-head a w [] e = let z : _≡_ {A = ℕ} 0 1 = cc in absurd (omega arith)
-starts-head a w (b ∷ t) e = eqb-true b a (and-true (eqb b a) (startsWith w t) e .0)
-
 -- a word that begins with a good byte
 abbrev Begins : List ℕ → Type 0
 Begins [] = ⊥
@@ -145,8 +135,8 @@ GoodRaw t (RawName n) = Good (getD t 0 0)
 GoodRaw t (NoIdentifier r) = Unit {0}
 
 raw-good : (t : List ℕ) → beginsRaw t ≡ true → Good (getD t 0 0)
-unfolding beginsRaw namesStart
-raw-good t e = good-by (getD t 0 0) 0x72 (eqb-true (getD t 0 0) 0x72 (and-true (eqb (getD t 0 0) 0x72) (eqb (getD t 1 0) 0x23) e .0)) (omega arith) refl
+unfolding beginsRaw
+raw-good t e = good-by (getD t 0 0) 0x72 (starts-head 0x72 (0x23 ∷ []) t e) (omega arith) refl
 
 any-good : (t : List ℕ) (i : Identifier) → Good (getD t 0 0) → GoodRaw t i
 any-good t Missing g = tt
@@ -157,8 +147,8 @@ any-good t (NoIdentifier r) g = tt
 strict-good : (t : List ℕ) → GoodRaw t (strictOf t)
 unfolding strictOf
 strict-good t =
-    cond-cases (GoodRaw t) (foreignFront (drop (nameLen t) t)) _ _ (λ e. tt)
-    (λ e. cond-cases (GoodRaw t) (foreignFront (drop (chars identRaw t) t)) _ _ (λ f. tt)
+    cond-cases (GoodRaw t) (foreignAhead (drop (nameLen t) t)) _ _ (λ e. tt)
+    (λ e. cond-cases (GoodRaw t) (foreignAhead (drop (chars identRaw t) t)) _ _ (λ f. tt)
     (λ f. cond-cases (GoodRaw t) (eqb (nameLen t) 0) _ _ (λ g. tt) (λ g. cond-cases (GoodRaw t) (ltb (nameLen t) (chars identRaw t)) _ _ (λ h. tt) (λ h. tt))))
 
 pub identifier-good : (t : List ℕ) → GoodRaw t (identifierOf t)
@@ -211,12 +201,8 @@ no-slash : identNext 0x2f ≡ false
 unfolding identNext letter digit within
 no-slash = refl
 
-wide-out : (b : ℕ) → 0x80 ≤ b → identNext b ≡ false
-unfolding identNext letter digit
-wide-out b l = rw (above 0x41 0x5a b (omega arith), above 0x61 0x7a b (omega arith), above 0x30 0x39 b (omega arith)) (ne-eqb b 0x5f (λ e. omega arith))
-
 not-both : (b : ℕ) → identNext b ≡ true → identNext b ≡ false → ⊥
 not-both b h i = let z : true ≡ false = sym h ∙ i in let k : _≡_ {A = ℕ} 0 1 = cc in omega arith
 
 pub next-good : (b : ℕ) → identNext b ≡ true → Good b
-next-good b h = either (lt-or-le b 0x80) (λ l. (l, ne-eqb b 0x2f (λ e. not-both b h (ap identNext e ∙ no-slash)))) (λ l. absurd (not-both b h (wide-out b l)))
+next-good b h = either (lt-or-le b 0x80) (λ l. (l, ne-eqb b 0x2f (λ e. not-both b h (ap identNext e ∙ no-slash)))) (λ l. absurd (not-both b h (next-wide b l)))

@@ -4,11 +4,11 @@ use mathlib.Core.Bool.{Bool, false, cond}
 use mathlib.Core.List.{List, [], _∷_}
 use lib.ListN.{length}
 use lib.Dec.{eqb}
-use Rattle.integers.specs.Words.{startsWith}
 use Rattle.attributes.specs.declared.extensions.Extension.{Extension}
 use Rattle.attributes.specs.declared.extensions.Extension.the-variants.{UnwrapNewtypes, ImplicitSome, UnwrapVariantNewtypes, ExplicitStructNames}
 use Rattle.attributes.specs.declared.extensions.Named.{Named}
 use Rattle.attributes.specs.declared.extensions.Named.the-variants.{Known, Unknown}
+use Rattle.text.specs.Words.{startsWith}
 
 -- An extension's name.
 abbrev pub nameOf : Extension → List ℕ

@@ -3,9 +3,8 @@ use Prim.Native.Nat.{ℕ, zero, suc, pred, _+_, _-_}
 use mathlib.Core.Bool.{Bool, true, cond}
 use mathlib.Core.List.{List, [], _∷_}
 use lib.ListN.{getD, drop}
-use Rattle.text.specs.Classes.{identNext}
+use Rattle.text.specs.Classes.{identNext, foreignAhead}
 use Rattle.text.specs.Refusals.{placedBehind, foreignChar, eof, noSuchExtension, expectedAttributeEnd}
-use Rattle.integers.specs.Words.{foreignAhead}
 use Rattle.names.specs.Identifiers.{identifierOf}
 use Rattle.names.specs.declared.Identifier.{Identifier}
 use Rattle.names.specs.declared.Identifier.the-variants.{Missing, Name, RawName, Refused as NoIdentifier}

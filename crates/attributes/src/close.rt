@@ -6,6 +6,7 @@ use crate::steps::Step;
 use strings::LiteralAnswer;
 use text::Refusal;
 use text::bytes::peek;
+use text::refusal::placed_behind;
 ghost use mathlib.Core.Path.{_≡_};
 ghost use Rattle.attributes.specs.Close.{noEnd, listEnd, closeList, stringEnd, stringFrom};
 
@@ -69,6 +70,6 @@ pub fn string_value(s: &[u8], at: usize) -> AttributeAnswer
             let end = at + l.len;
             string_end(s, end)
         }
-        LiteralAnswer::Refused(r) => AttributeAnswer::Refused(r.placed_behind(at)),
+        LiteralAnswer::Refused(r) => AttributeAnswer::Refused(placed_behind(r, at)),
     }
 }

@@ -5,12 +5,13 @@ use crate::extensions::Named;
 use crate::steps;
 use crate::steps::All;
 use crate::steps::Step;
-use integers::ident::is_foreign_ahead;
 use names::Identifier;
 use names::identifiers::identifier;
 use text::Refusal;
 use text::bytes::peek;
+use text::classes::is_foreign_ahead;
 use text::classes::is_ident_next_char;
+use text::refusal::placed_behind;
 ghost use mathlib.Core.Path.{_≡_};
 ghost use Prim.Native.Nat.{_≤_};
 ghost use lib.ListN.{length};
@@ -135,7 +136,7 @@ pub fn extension_list(s: &[u8], start: usize) -> Listed
                 return Listed::Unlisted(Refusal::expected_attribute_end(0));
             }
             Item::Spoilt(r) => {
-                return Listed::Unlisted(r.placed_behind(at));
+                return Listed::Unlisted(placed_behind(r, at));
             }
         }
     }

@@ -3,6 +3,7 @@ use comments::Gap;
 use comments::skip_gap;
 use text::Refusal;
 use text::bytes::peek;
+use text::refusal::placed_behind;
 ghost use mathlib.Core.Path.{_≡_};
 ghost use Prim.Native.Nat.{_<_};
 ghost use mathlib.Core.Bool.{true};
@@ -37,7 +38,7 @@ pub fn skip_ws(s: &[u8], at: usize) -> Step
             let end = at + n;
             Step::On(end)
         }
-        Gap::Refused(r) => Step::Bad(r.placed_behind(at)),
+        Gap::Refused(r) => Step::Bad(placed_behind(r, at)),
     }
 }
 

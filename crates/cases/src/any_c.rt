@@ -1,4 +1,7 @@
 // `C ENTRY COUNT BUFFER HEX N,N,..`: contents over any tape, and a buffer of so many bytes.
+ghost use mathlib.Core.Path.{_≡_};
+ghost use Rattle.lines.specs.Out.{put};
+ghost use Rattle.cases.specs.Contents.{frontOf, anyLine};
 use crate::contents;
 use crate::contents::Asked;
 use words::hex;
@@ -14,7 +17,9 @@ enum Said {
 }
 
 // What the first three words say.
-fn front(words: &[u8]) -> Said {
+fn front(words: &[u8]) -> Said
+    ensures { λ r. ⌜ r ≡ frontOf (now (words .entry)) ⌝ }
+{
     let first = number::decimal_of(words::word(words));
     let Decimal::Value(entry) = first else {
         return Said::Bad;
@@ -42,7 +47,9 @@ pub fn answer(
     spare: &mut [u8],
     o: &mut [u8],
     at: usize,
-) -> usize {
+) -> usize
+    ensures { λ r. ⌜ ((now (o .exit), r) ≡ put (now (o .entry), at) (anyLine (now (words .entry)) (now (text .entry)) (now (tape .entry)) (now (spare .entry)) .0)) × (now (text .exit) ≡ anyLine (now (words .entry)) (now (text .entry)) (now (tape .entry)) (now (spare .entry)) .1) × (now (tape .exit) ≡ anyLine (now (words .entry)) (now (text .entry)) (now (tape .entry)) (now (spare .entry)) .2) × (now (spare .exit) ≡ anyLine (now (words .entry)) (now (text .entry)) (now (tape .entry)) (now (spare .entry)) .3) ⌝ }
+{
     let asked = front(words);
     let Said::Asks(q) = asked else {
         return show::bad(o, at);

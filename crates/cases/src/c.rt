@@ -1,4 +1,7 @@
 // `c KIND START HEX`: contents of the one entry of a tape, with room enough.
+ghost use mathlib.Core.Path.{_≡_};
+ghost use Rattle.lines.specs.Out.{put};
+ghost use Rattle.cases.specs.Contents.{contentsLine};
 use crate::contents;
 use crate::contents::Asked;
 use words::hex;
@@ -6,7 +9,9 @@ use words::hex::Hex;
 use words::small;
 use words::small::Small;
 
-pub fn answer(words: &[u8], text: &mut [u8], spare: &mut [u8], o: &mut [u8], at: usize) -> usize {
+pub fn answer(words: &[u8], text: &mut [u8], spare: &mut [u8], o: &mut [u8], at: usize) -> usize
+    ensures { λ r. ⌜ ((now (o .exit), r) ≡ put (now (o .entry), at) (contentsLine (now (words .entry)) (now (text .entry)) (now (spare .entry)) .0)) × (now (text .exit) ≡ contentsLine (now (words .entry)) (now (text .entry)) (now (spare .entry)) .1) × (now (spare .exit) ≡ contentsLine (now (words .entry)) (now (text .entry)) (now (spare .entry)) .2) ⌝ }
+{
     let first = small::small_of(words::word(words));
     let Small::Value(kind) = first else {
         return show::bad(o, at);

@@ -1,4 +1,7 @@
 // `i WIDTH PLACE HEX`: a typed integer.
+ghost use mathlib.Core.Path.{_≡_};
+ghost use Rattle.lines.specs.Out.{put};
+ghost use Rattle.cases.specs.Integers.{widthOf, frontOf, integerLine};
 use sarridok::Width;
 use words::hex;
 use words::hex::Hex;
@@ -16,7 +19,9 @@ enum Chosen {
 }
 
 // The widths are numbered as on a tape.
-fn width_of(n: u64) -> Chosen {
+fn width_of(n: u64) -> Chosen
+    ensures { λ r. ⌜ r ≡ widthOf n ⌝ }
+{
     match n {
         1 => Chosen::Of(Width::I8),
         2 => Chosen::Of(Width::I16),
@@ -31,7 +36,9 @@ fn width_of(n: u64) -> Chosen {
 }
 
 // The width and the place that the first two words say.
-fn front(words: &[u8]) -> Asked {
+fn front(words: &[u8]) -> Asked
+    ensures { λ r. ⌜ r ≡ frontOf (now (words .entry)) ⌝ }
+{
     let first = number::decimal_of(words::word(words));
     let second = number::decimal_of(words::word(words::behind(words)));
     let Decimal::Value(n) = first else {
@@ -47,7 +54,9 @@ fn front(words: &[u8]) -> Asked {
     Asked::At(w, place as usize)
 }
 
-pub fn answer(words: &[u8], text: &mut [u8], o: &mut [u8], at: usize) -> usize {
+pub fn answer(words: &[u8], text: &mut [u8], o: &mut [u8], at: usize) -> usize
+    ensures { λ r. ⌜ ((now (o .exit), r) ≡ put (now (o .entry), at) (integerLine (now (words .entry)) (now (text .entry)) .0)) × (now (text .exit) ≡ integerLine (now (words .entry)) (now (text .entry)) .1) ⌝ }
+{
     let read = front(words);
     let Asked::At(width, place) = read else {
         return show::bad(o, at);

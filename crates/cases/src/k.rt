@@ -1,4 +1,7 @@
 // `k NEWTYPE TUPLE PLACE HEX`: a struct kind.
+ghost use mathlib.Core.Path.{_≡_};
+ghost use Rattle.lines.specs.Out.{put};
+ghost use Rattle.cases.specs.Kinds.{modesOf, frontOf, kindLine};
 use sarridok::NewtypeMode;
 use sarridok::TupleMode;
 use words::hex;
@@ -12,7 +15,9 @@ enum Asked {
 }
 
 // The modes that two numbers say, in the order of the crate's enums.
-fn modes_of(newtype: u64, tuple: u64, place: usize) -> Asked {
+fn modes_of(newtype: u64, tuple: u64, place: usize) -> Asked
+    ensures { λ r. ⌜ r ≡ modesOf newtype tuple place ⌝ }
+{
     if 1 < newtype {
         return Asked::Bad;
     }
@@ -48,7 +53,9 @@ fn modes_of(newtype: u64, tuple: u64, place: usize) -> Asked {
 }
 
 // The modes and the place that the first three words say.
-fn front(words: &[u8]) -> Asked {
+fn front(words: &[u8]) -> Asked
+    ensures { λ r. ⌜ r ≡ frontOf (now (words .entry)) ⌝ }
+{
     let first = number::decimal_of(words::word(words));
     let Decimal::Value(newtype) = first else {
         return Asked::Bad;
@@ -65,7 +72,9 @@ fn front(words: &[u8]) -> Asked {
     modes_of(newtype, tuple, place as usize)
 }
 
-pub fn answer(words: &[u8], text: &mut [u8], o: &mut [u8], at: usize) -> usize {
+pub fn answer(words: &[u8], text: &mut [u8], o: &mut [u8], at: usize) -> usize
+    ensures { λ r. ⌜ ((now (o .exit), r) ≡ put (now (o .entry), at) (kindLine (now (words .entry)) (now (text .entry)) .0)) × (now (text .exit) ≡ kindLine (now (words .entry)) (now (text .entry)) .1) ⌝ }
+{
     let read = front(words);
     let Asked::At(newtype, tuple, place) = read else {
         return show::bad(o, at);

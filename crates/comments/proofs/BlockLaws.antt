@@ -103,7 +103,7 @@ block-short s i (suc k) h p = short (drop i s) k i (rw (length-drop i s) h)
 
 -- ---- where a comment ends
 
-mark-cases : (P : CommentEnd → Type 0) (m : Mark) (o c n : CommentEnd) → P o → P c → P n → P (byMark m o c n)
+pub mark-cases : (P : CommentEnd → Type 0) (m : Mark) (o c n : CommentEnd) → P o → P c → P n → P (byMark m o c n)
 mark-cases P Opens o c n x y z = x
 mark-cases P Closes o c n x y z = y
 mark-cases P Neither o c n x y z = z

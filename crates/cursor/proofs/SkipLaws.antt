@@ -1,10 +1,9 @@
 -- Laws of the cursor's whitespace. Assumes nothing.
 use Prim.Native.Nat.{_+_, _<_, _≤_, ℕ}
-use native.Mathlib.Nat.{le-refl}
 use mathlib.Core.Bool.{_&&_, not, true}
 use mathlib.Core.List.{List}
 use mathlib.Core.Path.{_≡_}
-use lib.Dec.{eqb, ltb, leb}
+use lib.Dec.{leb}
 use lib.ListN.{drop, drop-of-length-le, length, getD}
 use borrow.Author.Tests.{eq-eqb, le-ltb, leb-true, lt-ltb, ne-eqb}
 use Rattle.comments.specs.Gaps.{gapOf}
@@ -12,7 +11,7 @@ use Rattle.cursor.specs.Cursor.{cursor, unclosedLine}
 use Rattle.cursor.specs.Skip.{behindGap, behindPart, cursorFits, preOf, skipWsOf, lengthFits}
 use Rattle.cursor.specs.declared.ParserCursor.{ParserCursor}
 use Rattle.cursor.specs.declared.skip.Step.the-variants.{Moved}
-use Rattle.text.proofs.Choices.{and-true, cond-cases}
+use Rattle.text.proofs.Choices.{and-true}
 use Rattle.text.proofs.Lists.{front}
 use Rattle.text.specs.Classes.{within}
 use Rattle.text.specs.Judged.{placeFits}
@@ -31,10 +30,6 @@ module _ (c : ParserCursor) where
   pub pre-apart : (c .«last_ws_len» ≡ unclosedLine → ⊥) → c .«pre_ws_cursor» + c .«last_ws_len» < c .cursor → preOf c ≡ c .cursor
   unfolding preOf
   pre-apart e h = simp (ne-eqb _ _ e, lt-ltb _ _ h)
-
-  pub pre-le : c .«pre_ws_cursor» ≤ c .cursor → preOf c ≤ c .cursor
-  unfolding preOf
-  pre-le h = cond-cases (λ (n : ℕ). n ≤ c .cursor) (not (eqb (c .«last_ws_len») unclosedLine) && ltb (c .«pre_ws_cursor» + c .«last_ws_len») (c .cursor)) _ _ (λ e. le-refl (c .cursor)) (λ e. h)
 
 -- ---- the whole
 

@@ -40,6 +40,6 @@ unfoldable pub behindPart : ParserCursor → List ℕ → Step
 behindPart c [] = Moved (cursor (c .cursor) (preOf c) (c .«last_ws_len»))
 behindPart c (a ∷ s) = behindGap (c .cursor) (preOf c) (gapOf (a ∷ s))
 
--- What `skip_ws` does over a text and a cursor that fit.
+-- What `skip_ws` does over any text and cursor; past the end is as at it.
 unfoldable pub skipWsOf : List ℕ → ParserCursor → Step
 skipWsOf text c = behindPart c (drop (c .cursor) text)

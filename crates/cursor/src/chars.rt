@@ -5,8 +5,6 @@ use text::Refusal;
 use text::utf8::char_len;
 use text::utf8::code_point;
 ghost use mathlib.Core.Path.{_≡_};
-ghost use Prim.Native.Nat.{_≤_};
-ghost use lib.ListN.{length};
 ghost use Rattle.cursor.specs.Chars.{nextOf, consumedOf, expectedOf};
 
 // The character at the cursor and the cursor behind it.
@@ -24,7 +22,6 @@ pub struct Consumed {
 impl ParserCursor {
     // The next character, by its code point; 6 at the end of the text.
     pub fn next_char(self, text: &[u8]) -> Next
-        requires { ⌜ self .cursor ≤ length (now text) ⌝ }
         ensures { λ r. ⌜ r ≡ nextOf (now (text .entry)) self ⌝ }
     {
         let at = self.cursor;
@@ -38,7 +35,6 @@ impl ParserCursor {
 
     // An ASCII character, taken where it stands.
     pub fn consume_char(self, text: &[u8], c: u8) -> Consumed
-        requires { ⌜ self .cursor ≤ length (now text) ⌝ }
         ensures { λ r. ⌜ r ≡ consumedOf (now (text .entry)) self c ⌝ }
     {
         let at = self.cursor;
@@ -62,7 +58,6 @@ impl ParserCursor {
 
     // The same, refused where it does not stand.
     pub fn expect_char(self, text: &[u8], c: u8, refusal: Refusal) -> Step
-        requires { ⌜ self .cursor ≤ length (now text) ⌝ }
         ensures { λ r. ⌜ r ≡ expectedOf (now (text .entry)) self c refusal ⌝ }
     {
         let got = self.consume_char(text, c);

@@ -3,9 +3,8 @@ use crate::ParserCursor;
 use escapes::EscapeAnswer;
 use escapes::Mode;
 use text::Refusal;
+use text::refusal::placed_behind;
 ghost use mathlib.Core.Path.{_≡_};
-ghost use Prim.Native.Nat.{_≤_};
-ghost use lib.ListN.{length};
 ghost use Rattle.cursor.specs.Escape.{escapedOf};
 
 // A byte or a scalar value, and the cursor behind the escape; or the refusal.
@@ -17,15 +16,17 @@ pub enum Escaped {
 
 impl ParserCursor {
     pub fn parse_escape(self, text: &[u8], mode: Mode) -> Escaped
-        requires { ⌜ self .cursor ≤ length (now text) ⌝ }
         ensures { λ r. ⌜ r ≡ escapedOf (now (text .entry)) self mode ⌝ }
     {
         let at = self.cursor;
+        if text.len() <= at {
+            return Escaped::Refused(Refusal::eof(at));
+        }
         let answer = escapes::parse_escape(mode, &text[at..]);
         match answer {
             EscapeAnswer::Ascii(b, n) => Escaped::Byte(b, self.advance_bytes(n)),
             EscapeAnswer::Utf8(c, n) => Escaped::Point(c, self.advance_bytes(n)),
-            EscapeAnswer::Refused(r) => Escaped::Refused(r.placed_behind(at)),
+            EscapeAnswer::Refused(r) => Escaped::Refused(placed_behind(r, at)),
         }
     }
 }

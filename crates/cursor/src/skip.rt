@@ -3,15 +3,22 @@ use crate::ParserCursor;
 use comments::Gap;
 use text::Refusal;
 use text::judge::place_fits;
+use text::refusal::placed_behind;
 ghost use mathlib.Core.Path.{_≡_};
-ghost use Prim.Native.Nat.{_≤_};
-ghost use lib.ListN.{length};
+ghost use Prim.Native.Nat.{_-_};
 ghost use Rattle.cursor.specs.Skip.{cursorFits, preOf, skipWsOf};
 
 // The moved cursor, or the refusal.
 pub enum Step {
     Moved(ParserCursor),
     Refused(Refusal),
+}
+
+// How far a lies behind b; 0 where it does not, which a host's own cursor can bring about.
+fn less(a: usize, b: usize) -> usize
+    ensures { λ r. ⌜ r ≡ a - b ⌝ }
+{
+    if a < b { 0 } else { a - b }
 }
 
 impl ParserCursor {
@@ -54,7 +61,6 @@ impl ParserCursor {
 
     // Behind the whitespace and comments at the cursor.
     pub fn skip_ws(self, text: &[u8]) -> Step
-        requires { ⌜ (self .cursor ≤ length (now text)) × (self .«pre_ws_cursor» ≤ self .cursor) ⌝ }
         ensures { λ r. ⌜ r ≡ skipWsOf (now (text .entry)) self ⌝ }
     {
         let at = self.cursor;
@@ -70,7 +76,7 @@ impl ParserCursor {
         match run {
             Gap::Clear(n) => {
                 let end = at + n;
-                let len = end - pre;
+                let len = less(end, pre);
                 Step::Moved(ParserCursor {
                     cursor: end,
                     pre_ws_cursor: pre,
@@ -85,7 +91,7 @@ impl ParserCursor {
                     last_ws_len: Self::WS_CURSOR_UNCLOSED_LINE,
                 })
             }
-            Gap::Refused(r) => Step::Refused(r.placed_behind(at)),
+            Gap::Refused(r) => Step::Refused(placed_behind(r, at)),
         }
     }
 }

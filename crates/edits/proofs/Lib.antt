@@ -1,1 +1,5 @@
 pub mod MoveLaws
+pub mod LineLaws
+pub mod AnyLaws
+pub mod TextLaws
+pub mod CutLaws

@@ -1,4 +1,9 @@
 // `P COUNT OLDLEN A B HEX N,N,..`: a repair of any tape. Accepted, every number of the slice is shown.
+ghost use mathlib.Core.Path.{_≡_};
+ghost use lib.ListN.{take, drop};
+ghost use Rattle.lent.specs.Copies.{copied};
+ghost use Rattle.lines.specs.Out.{put};
+ghost use Rattle.edits.specs.Repairs.{toldOf, tapeAfter, anyText, repairIn, frontOf, anyLine};
 use crate::cuts::Cut;
 use lent::copies;
 use sarridok::RepairAnswer;
@@ -15,7 +20,9 @@ enum Said {
 }
 
 // What the first four words say.
-fn front(words: &[u8]) -> Said {
+fn front(words: &[u8]) -> Said
+    ensures { λ r. ⌜ r ≡ frontOf (now (words .entry)) ⌝ }
+{
     let first = number::decimal_of(words::word(words));
     let Decimal::Value(count) = first else {
         return Said::Bad;
@@ -50,7 +57,9 @@ fn repaired(
     aside: &mut [u32],
     o: &mut [u8],
     at: usize,
-) -> usize {
+) -> usize
+    ensures { λ r. ⌜ ((now (o .exit), r) ≡ put (now (o .entry), at) (anyText (toldOf (now (tape .entry)) q (now (text .entry))) (tapeAfter (now (tape .entry)) q (now (text .entry))) (copied (now (tape .entry)) (now (aside .entry))))) × (now (tape .exit) ≡ tapeAfter (now (tape .entry)) q (now (text .entry))) × (now (aside .exit) ≡ copied (now (tape .entry)) (now (aside .entry))) ⌝ }
+{
     copies::copy(&tape[..], aside);
     let r = sarridok::repair(tape, q.count, q.old, q.a, q.b, text);
     match r {
@@ -74,7 +83,9 @@ fn lent(
     aside: &mut [u32],
     o: &mut [u8],
     at: usize,
-) -> usize {
+) -> usize
+    ensures { λ r. ⌜ ((now (o .exit), r) ≡ put (now (o .entry), at) (repairIn (now (text .entry)) q (take k (now (tape .entry))) (drop k (now (tape .entry))) (now (aside .entry)) .0)) × (now (tape .exit) ≡ repairIn (now (text .entry)) q (take k (now (tape .entry))) (drop k (now (tape .entry))) (now (aside .entry)) .1) × (now (aside .exit) ≡ repairIn (now (text .entry)) q (take k (now (tape .entry))) (drop k (now (tape .entry))) (now (aside .entry)) .2) ⌝ }
+{
     if k < tape.len() {
         return repaired(text, q, &mut tape[0..k], aside, o, at);
     }
@@ -88,7 +99,9 @@ pub fn answer(
     aside: &mut [u32],
     o: &mut [u8],
     at: usize,
-) -> usize {
+) -> usize
+    ensures { λ r. ⌜ ((now (o .exit), r) ≡ put (now (o .entry), at) (anyLine (now (words .entry)) (now (text .entry)) (now (tape .entry)) (now (aside .entry)) .0)) × (now (text .exit) ≡ anyLine (now (words .entry)) (now (text .entry)) (now (tape .entry)) (now (aside .entry)) .1) × (now (tape .exit) ≡ anyLine (now (words .entry)) (now (text .entry)) (now (tape .entry)) (now (aside .entry)) .2) × (now (aside .exit) ≡ anyLine (now (words .entry)) (now (text .entry)) (now (tape .entry)) (now (aside .entry)) .3) ⌝ }
+{
     let asked = front(words);
     let Said::Asks(q) = asked else {
         return show::bad(o, at);

@@ -1,4 +1,12 @@
 // `p A B NEWHEX HEX`: the last text read, its bytes from A to B replaced, and its tape repaired.
+ghost use Prim.Native.Nat.{_-_, _≤_, max};
+ghost use mathlib.Core.List.{_++_};
+ghost use mathlib.Core.Path.{_≡_};
+ghost use lib.ListN.{length, take, drop};
+ghost use Rattle.lines.specs.Out.{put};
+ghost use Rattle.lines.specs.Over.{over};
+ghost use Rattle.words.specs.Hex.{hexIn, pairs};
+ghost use Rattle.edits.specs.Repairs.{changedOf, repairWith, readRepair, roomFor, editIn, cutLine, endsOf, textLine};
 use crate::cuts;
 use crate::cuts::Cut;
 use lent::copies;
@@ -16,7 +24,9 @@ enum Said {
     Bad,
 }
 
-fn front(words: &[u8]) -> Said {
+fn front(words: &[u8]) -> Said
+    ensures { λ r. ⌜ r ≡ endsOf (now (words .entry)) ⌝ }
+{
     let first = number::decimal_of(words::word(words));
     let Decimal::Value(a) = first else {
         return Said::Bad;
@@ -28,11 +38,22 @@ fn front(words: &[u8]) -> Said {
     Said::Asks(a as usize, b as usize)
 }
 
+fn most(n: usize, m: usize) -> usize
+    ensures { λ r. ⌜ r ≡ max n m ⌝ }
+{
+    if n < m {
+        return m;
+    }
+    n
+}
+
 // How many numbers an accepted repair may change: the rows of the longer tape.
-fn written(n: usize, count: usize) -> usize {
-    let most = if n < count { count } else { n };
-    if most <= 65536 {
-        return row::begins(most);
+fn written(n: usize, count: usize) -> usize
+    ensures { λ r. ⌜ r ≡ changedOf n count ⌝ }
+{
+    let longer = most(n, count);
+    if longer <= 65536 {
+        return row::begins(longer);
     }
     0
 }
@@ -44,7 +65,9 @@ fn repaired(
     aside: &mut [u32],
     o: &mut [u8],
     at: usize,
-) -> usize {
+) -> usize
+    ensures { λ r. ⌜ ((now (o .exit), r) ≡ put (now (o .entry), at) (repairWith q (now (new .entry)) (now (tape .entry)) (now (aside .entry)) .0)) × (now (tape .exit) ≡ repairWith q (now (new .entry)) (now (tape .entry)) (now (aside .entry)) .1) × (now (aside .exit) ≡ repairWith q (now (new .entry)) (now (tape .entry)) (now (aside .entry)) .2) ⌝ }
+{
     copies::copy(&tape[..], aside);
     let r = sarridok::repair(tape, q.count, q.old, q.a, q.b, new);
     match r {
@@ -60,28 +83,30 @@ fn repaired(
     }
 }
 
-// The old text is the first n bytes, the new one those behind them up to m.
 fn read(
-    text: &[u8],
-    n: usize,
-    m: usize,
-    q: Cut,
+    old: &[u8],
+    new: &[u8],
+    a: usize,
+    b: usize,
     tape: &mut [u32],
     aside: &mut [u32],
     o: &mut [u8],
     at: usize,
-) -> usize {
+) -> usize
+    ensures { λ r. ⌜ ((now (o .exit), r) ≡ put (now (o .entry), at) (readRepair (now (old .entry)) (now (new .entry)) a b (now (tape .entry)) (now (aside .entry)) .0)) × (now (tape .exit) ≡ readRepair (now (old .entry)) (now (new .entry)) a b (now (tape .entry)) (now (aside .entry)) .1) × (now (aside .exit) ≡ readRepair (now (old .entry)) (now (new .entry)) a b (now (tape .entry)) (now (aside .entry)) .2) ⌝ }
+{
     numbers::mark(tape);
-    let r = sarridok::read(lines::part(text, 0, n), tape);
+    let n = old.len();
+    let r = sarridok::read(old, tape);
     match r {
         ReadAnswer::Accepted(count) => {
             let cut = Cut {
                 count,
                 old: n,
-                a: q.a,
-                b: q.b,
+                a,
+                b,
             };
-            repaired(lines::part(text, n, m), cut, tape, aside, o, at)
+            repaired(new, cut, tape, aside, o, at)
         }
         ReadAnswer::Refused(f) => {
             let a = lines::out::bytes(o, at, b"old ");
@@ -90,61 +115,106 @@ fn read(
     }
 }
 
-// The new bytes behind the old text and its front: how many there are.
-fn new_bytes(word: &[u8], text: &mut [u8], at: usize) -> Hex {
-    if at < text.len() {
-        return hex::bytes(word, &mut text[at..]);
-    }
-    Hex::Bad
-}
-
 // As many numbers as either text can fill, and a few behind them.
-fn room(n: usize, m: usize) -> usize {
-    let most = if n < m { m } else { n };
-    if most < 65536 {
-        return 4 * most + 16;
+fn room(n: usize, m: usize) -> usize
+    ensures { λ r. ⌜ r ≡ roomFor n m ⌝ }
+{
+    let longer = most(n, m);
+    if longer < 65536 {
+        return 4 * longer + 16;
     }
     262160
 }
 
 fn lent_to(
-    text: &[u8],
-    n: usize,
-    m: usize,
-    q: Cut,
+    old: &[u8],
+    new: &[u8],
+    a: usize,
+    b: usize,
     tape: &mut [u32],
     aside: &mut [u32],
     o: &mut [u8],
     at: usize,
-) -> usize {
-    let k = room(n, std::num::wrapping_sub_usize(m, n));
+) -> usize
+    ensures { λ r. ⌜ ((now (o .exit), r) ≡ put (now (o .entry), at) (editIn (now (old .entry)) (now (new .entry)) a b (now (tape .entry)) (now (aside .entry)) .0)) × (now (tape .exit) ≡ editIn (now (old .entry)) (now (new .entry)) a b (now (tape .entry)) (now (aside .entry)) .1) × (now (aside .exit) ≡ editIn (now (old .entry)) (now (new .entry)) a b (now (tape .entry)) (now (aside .entry)) .2) ⌝ }
+{
+    let k = room(old.len(), new.len());
     if k < tape.len() {
-        return read(text, n, m, q, &mut tape[0..k], aside, o, at);
+        return read(old, new, a, b, &mut tape[0..k], aside, o, at);
     }
-    read(text, n, m, q, tape, aside, o, at)
+    read(old, new, a, b, tape, aside, o, at)
 }
 
-// Behind the old text of n bytes stands the new one: the old one's front, the new bytes, the rest.
+// The old text is the first n bytes, the new one those behind them up to m.
+fn edit(
+    text: &[u8],
+    n: usize,
+    m: usize,
+    a: usize,
+    b: usize,
+    tape: &mut [u32],
+    aside: &mut [u32],
+    o: &mut [u8],
+    at: usize,
+) -> usize
+    ensures { λ r. ⌜ ((now (o .exit), r) ≡ put (now (o .entry), at) (editIn (take n (now (text .entry))) (take (m - n) (drop n (now (text .entry)))) a b (now (tape .entry)) (now (aside .entry)) .0)) × (now (tape .exit) ≡ editIn (take n (now (text .entry))) (take (m - n) (drop n (now (text .entry)))) a b (now (tape .entry)) (now (aside .entry)) .1) × (now (aside .exit) ≡ editIn (take n (now (text .entry))) (take (m - n) (drop n (now (text .entry)))) a b (now (tape .entry)) (now (aside .entry)) .2) ⌝ }
+{
+    lent_to(
+        lines::part(text, 0, n),
+        lines::part(text, n, m),
+        a,
+        b,
+        tape,
+        aside,
+        o,
+        at,
+    )
+}
+
+// The bytes that a word says, behind the first k.
+fn bytes_behind(word: &[u8], k: usize, text: &mut [u8]) -> Hex
+    requires { ⌜ k ≤ length (now text) ⌝ }
+    ensures { λ r. ⌜ (r ≡ hexIn (now (word .entry)) (length (drop k (now (text .entry))))) × (now (text .exit) ≡ take k (now (text .entry)) ++ over (pairs (now (word .entry))) (drop k (now (text .entry)))) ⌝ }
+{
+    hex::bytes(word, &mut text[k..])
+}
+
+// The first n bytes are the old text; the word says the new bytes.
 fn cut(
     word: &[u8],
     n: usize,
-    q: Cut,
+    a: usize,
+    b: usize,
     text: &mut [u8],
     tape: &mut [u32],
     aside: &mut [u32],
     o: &mut [u8],
     at: usize,
-) -> usize {
-    let behind = std::num::wrapping_add_usize(n, q.a);
-    cuts::put(text, 0, q.a, n);
-    let said = new_bytes(word, text, behind);
-    let Hex::Bytes(k) = said else {
+) -> usize
+    requires { ⌜ n ≤ length (now text) ⌝ }
+    ensures { λ r. ⌜ ((now (o .exit), r) ≡ put (now (o .entry), at) (cutLine (now (word .entry)) a b (take n (now (text .entry))) (now (text .entry)) (now (tape .entry)) (now (aside .entry)) .0)) × (now (text .exit) ≡ cutLine (now (word .entry)) a b (take n (now (text .entry))) (now (text .entry)) (now (tape .entry)) (now (aside .entry)) .1) × (now (tape .exit) ≡ cutLine (now (word .entry)) a b (take n (now (text .entry))) (now (text .entry)) (now (tape .entry)) (now (aside .entry)) .2) × (now (aside .exit) ≡ cutLine (now (word .entry)) a b (take n (now (text .entry))) (now (text .entry)) (now (tape .entry)) (now (aside .entry)) .3) ⌝ }
+{
+    if b < a {
+        return show::bad(o, at);
+    }
+    if n < b {
+        return show::bad(o, at);
+    }
+    if text.len() - n < a {
+        return show::bad(o, at);
+    }
+    let first = n + a;
+    let bytes = bytes_behind(word, first, text);
+    let Hex::Bytes(k) = bytes else {
         return show::bad(o, at);
     };
-    let end = std::num::wrapping_add_usize(behind, k);
-    cuts::put(text, q.b, n, end);
-    let m = std::num::wrapping_add_usize(end, std::num::wrapping_sub_usize(n, q.b));
-    lent_to(&text[..], n, m, q, tape, aside, o, at)
+    let end = first + k;
+    let rest = n - b;
+    if text.len() - end < rest {
+        return show::bad(o, at);
+    }
+    cuts::make(text, n, k, a, b);
+    edit(&text[..], n, end + rest, a, b, tape, aside, o, at)
 }
 
 pub fn answer(
@@ -154,27 +224,17 @@ pub fn answer(
     aside: &mut [u32],
     o: &mut [u8],
     at: usize,
-) -> usize {
+) -> usize
+    ensures { λ r. ⌜ ((now (o .exit), r) ≡ put (now (o .entry), at) (textLine (now (words .entry)) (now (text .entry)) (now (tape .entry)) (now (aside .entry)) .0)) × (now (text .exit) ≡ textLine (now (words .entry)) (now (text .entry)) (now (tape .entry)) (now (aside .entry)) .1) × (now (tape .exit) ≡ textLine (now (words .entry)) (now (text .entry)) (now (tape .entry)) (now (aside .entry)) .2) × (now (aside .exit) ≡ textLine (now (words .entry)) (now (text .entry)) (now (tape .entry)) (now (aside .entry)) .3) ⌝ }
+{
     let asked = front(words);
     let Said::Asks(a, b) = asked else {
         return show::bad(o, at);
     };
     let words = words::behind(words::behind(words));
-    let bytes = hex::bytes(words::behind(words), text);
-    let Hex::Bytes(n) = bytes else {
+    let old = hex::bytes(words::behind(words), text);
+    let Hex::Bytes(n) = old else {
         return show::bad(o, at);
     };
-    if n < b {
-        return show::bad(o, at);
-    }
-    if b < a {
-        return show::bad(o, at);
-    }
-    let q = Cut {
-        count: 0,
-        old: n,
-        a,
-        b,
-    };
-    cut(words::word(words), n, q, text, tape, aside, o, at)
+    cut(words::word(words), n, a, b, text, tape, aside, o, at)
 }

@@ -5,6 +5,7 @@ use strings::LiteralAnswer;
 use strings::decode::decode_byte_string;
 use strings::decode::decode_string;
 use text::Refusal;
+use text::refusal::placed_behind;
 ghost use mathlib.Core.Path.{_≡_};
 ghost use mathlib.Core.List.{_++_};
 ghost use Prim.Native.Nat.{_≤_};
@@ -47,6 +48,6 @@ pub fn decoded_at(text: &[u8], bytes: bool, place: usize, out: &mut [u8]) -> Dec
             decode(bytes, s, l, out);
             DecodedAnswer::Wrote(l.decoded)
         }
-        LiteralAnswer::Refused(r) => DecodedAnswer::Refused(r.placed_behind(place)),
+        LiteralAnswer::Refused(r) => DecodedAnswer::Refused(placed_behind(r, place)),
     }
 }

@@ -2,6 +2,7 @@
 use crate::named::read_named;
 use strings::LiteralAnswer;
 use text::Refusal;
+use text::refusal::placed_behind;
 ghost use mathlib.Core.Path.{_≡_};
 ghost use Prim.Native.Nat.{_≤_};
 ghost use lib.ListN.{length, drop};
@@ -29,6 +30,6 @@ pub fn contents_at(text: &[u8], bytes: bool, place: usize) -> ContentsAnswer
             let end = place + l.end;
             ContentsAnswer::Part(start, end)
         }
-        LiteralAnswer::Refused(r) => ContentsAnswer::Refused(r.placed_behind(place)),
+        LiteralAnswer::Refused(r) => ContentsAnswer::Refused(placed_behind(r, place)),
     }
 }

@@ -7,7 +7,7 @@ use mathlib.Core.Path.{_≡_, refl, subst, sym}
 use lib.Dec.{eqb, ltb}
 use lib.Ieee.{low}
 use lib.ListN.{drop, length, length-drop}
-use borrow.Author.Tests.{eqb-false, eqb-true, lt-ltb, ltb-true}
+use borrow.Author.Tests.{eqb-false, eqb-true, ltb-true}
 use Rattle.escapes.proofs.EscapeLaws.{next-ascii, next-short, two-ascii}
 use Rattle.hexes.proofs.HexLaws.{hex-ascii}
 use Rattle.escapes.specs.Escapes.{closeOf, digitsOf, escapeOf, hexBy, hexEscape, hexOf, moreBytes, nextByte, secondDigit, simpleOf, twoDigits, unicodeEscape, withByte}
@@ -19,6 +19,7 @@ use Rattle.text.proofs.Choices.{and-true, bool-cases, cond-cases, either}
 use Rattle.text.proofs.ClassLaws.{within-true}
 use Rattle.text.proofs.RunLaws.{run-le}
 use Rattle.text.proofs.Utf8Agree.{charLen-le}
+use Rattle.text.proofs.AsciiLaws.{ascii-first}
 use Rattle.text.specs.Classes.{within}
 use Rattle.text.specs.Runs.{ascii, run}
 use Rattle.text.specs.Utf8.{charLen, codeOf, scalar}
@@ -40,15 +41,10 @@ less-reach low low′ at t (Ascii b p) i (h, k) = (omega arith, k)
 less-reach low low′ at t (Utf8 c p) i (h, k) = (omega arith, k)
 less-reach low low′ at t (Refused r) i h = h
 
--- a byte of ASCII in front
-run-cons : (b : ℕ) (t : List ℕ) → b < 0x80 → run ascii (b ∷ t) ≡ suc (run ascii t)
-unfolding run
-run-cons b t h = rw (lt-ltb b 0x80 h)
-
 -- ---- each reader in turn
 
 digit-reach : (b : ℕ) (t : List ℕ) → (eqb (hexOf b) 16 ≡ false) → run ascii (b ∷ t) ≡ suc (run ascii t)
-digit-reach b t e = run-cons b t (hex-ascii b (eqb-false (hexOf b) 16 e))
+digit-reach b t e = ascii-first b t (hex-ascii b (eqb-false (hexOf b) 16 e))
 
 pub second-reach : (h at : ℕ) (t : List ℕ) → Reaches 1 at t (secondDigit h at t)
 unfolding secondDigit
@@ -70,7 +66,7 @@ close-reach empty v at [] = omega arith
 close-reach empty v at (b ∷ t) =
     cond-cases (Reaches 1 at (b ∷ t)) empty _ _ (λ e. omega arith)
     (λ n. cond-cases (Reaches 1 at (b ∷ t)) (eqb b 0x7D) _ _
-    (λ e. cond-cases (Reaches 1 at (b ∷ t)) (scalar v) _ _ (λ i. (omega arith, omega (arith, run-cons b t (omega (arith, eqb-true b 0x7D e))))) (λ i. omega arith))
+    (λ e. cond-cases (Reaches 1 at (b ∷ t)) (scalar v) _ _ (λ i. (omega arith, omega (arith, ascii-first b t (omega (arith, eqb-true b 0x7D e))))) (λ i. omega arith))
     (λ e. omega arith))
 
 pub digits-reach : (left v at : ℕ) (t : List ℕ) → Reaches 1 at t (digitsOf left v at t)
@@ -87,7 +83,7 @@ unfolding unicodeEscape
 unicode-reach at [] = omega arith
 unicode-reach at (b ∷ t) =
     cond-cases (Reaches 2 at (b ∷ t)) (eqb b 0x7B) _ _
-    (λ e. more-reach 1 at 1 t (b ∷ t) (digitsOf 6 0 (at + 1) t) (omega (arith, run-cons b t (omega (arith, eqb-true b 0x7B e)))) (omega arith) (digits-reach 6 0 (at + 1) t))
+    (λ e. more-reach 1 at 1 t (b ∷ t) (digitsOf 6 0 (at + 1) t) (omega (arith, ascii-first b t (omega (arith, eqb-true b 0x7B e)))) (omega arith) (digits-reach 6 0 (at + 1) t))
     (λ e. omega arith)
 
 next-at : (at a b : ℕ) (t : List ℕ) → Reaches 4 at (a ∷ b ∷ t) (nextByte at (a ∷ b ∷ t))
@@ -96,7 +92,7 @@ next-at at a b t =
     cond-cases (Reaches 4 at (a ∷ b ∷ t)) (eqb a 0x5C && eqb b 0x78) _ _
     (λ e. let q = and-true (eqb a 0x5C) (eqb b 0x78) e in
     more-reach 2 at 2 t (a ∷ b ∷ t) (twoDigits (at + 2) t)
-    (omega (arith, run-cons a (b ∷ t) (omega (arith, eqb-true a 0x5C (q .0))), run-cons b t (omega (arith, eqb-true b 0x78 (q .1)))))
+    (omega (arith, ascii-first a (b ∷ t) (omega (arith, eqb-true a 0x5C (q .0))), ascii-first b t (omega (arith, eqb-true b 0x78 (q .1)))))
     (omega arith) (two-reach (at + 2) t))
     (λ e. omega arith)
 
@@ -188,9 +184,9 @@ pub bounded : (m : Mode) (s : List ℕ) → Bounded s (escapeOf m s)
 unfolding escapeOf
 bounded m [] = omega arith
 bounded m (b ∷ t) =
-    cond-cases (Bounded (b ∷ t)) (ltb (simpleOf b) 256) _ _ (λ e. (omega arith, omega (arith, run-cons b t (simple-ascii b (ltb-true (simpleOf b) 256 e)))))
+    cond-cases (Bounded (b ∷ t)) (ltb (simpleOf b) 256) _ _ (λ e. (omega arith, omega (arith, ascii-first b t (simple-ascii b (ltb-true (simpleOf b) 256 e)))))
     (λ n1. cond-cases (Bounded (b ∷ t)) (eqb b 0x78) _ _
-    (λ e. reach-bounded (b ∷ t) (hexEscape m 1 t) (more-reach 2 0 1 t (b ∷ t) (hexEscape m 1 t) (omega (arith, run-cons b t (omega (arith, eqb-true b 0x78 e)))) (omega arith) (hex-reach m 1 t)))
+    (λ e. reach-bounded (b ∷ t) (hexEscape m 1 t) (more-reach 2 0 1 t (b ∷ t) (hexEscape m 1 t) (omega (arith, ascii-first b t (omega (arith, eqb-true b 0x78 e)))) (omega arith) (hex-reach m 1 t)))
     (λ n2. cond-cases (Bounded (b ∷ t)) (eqb b 0x75) _ _
-    (λ e. reach-bounded (b ∷ t) (unicodeEscape 1 t) (more-reach 2 0 1 t (b ∷ t) (unicodeEscape 1 t) (omega (arith, run-cons b t (omega (arith, eqb-true b 0x75 e)))) (omega arith) (unicode-reach 1 t)))
+    (λ e. reach-bounded (b ∷ t) (unicodeEscape 1 t) (more-reach 2 0 1 t (b ∷ t) (unicodeEscape 1 t) (omega (arith, ascii-first b t (omega (arith, eqb-true b 0x75 e)))) (omega arith) (unicode-reach 1 t)))
     (λ n3. charLen-le (b ∷ t))))

@@ -7,8 +7,11 @@ use places::line::line_end;
 use places::line::line_start;
 use places::shown::is_shown;
 use text::utf8;
-ghost use Prim.Native.Nat.{_≤_};
+ghost use mathlib.Core.Path.{_≡_};
+ghost use Prim.Native.Nat.{_≤_, max};
 ghost use lib.ListN.{length};
+ghost use Rattle.lines.specs.Out.{put};
+ghost use Rattle.explain.specs.Excerpts.{characterText, charactersText, underText, caretText, marginText, excerptText};
 
 // At most so many characters before the place, and so many in all.
 const BEFORE: usize = 80;
@@ -16,7 +19,9 @@ const BEFORE: usize = 80;
 const SHOWN: usize = 120;
 
 // The character at the front of s: as it is, or U+FFFD where a terminal would not show it in one cell.
-fn character(o: &mut [u8], at: usize, s: &[u8], n: usize) -> usize {
+fn character(o: &mut [u8], at: usize, s: &[u8], n: usize) -> usize
+    ensures { λ r. ⌜ (now (o .exit), r) ≡ put (now (o .entry), at) (characterText n (now (s .entry))) ⌝ }
+{
     if 0 < n {
         if is_shown(utf8::code_point(s)) {
             return out::bytes(o, at, part(s, 0, n));
@@ -26,33 +31,36 @@ fn character(o: &mut [u8], at: usize, s: &[u8], n: usize) -> usize {
 }
 
 // A byte that begins no character counts as one.
-fn step(n: usize) -> usize {
+fn step(n: usize) -> usize
+    ensures { λ r. ⌜ r ≡ max 1 n ⌝ }
+{
     if n == 0 { 1 } else { n }
 }
 
-// The characters from a place to the line's end, and `...` for those that are too many.
-fn characters(o: &mut [u8], at: usize, s: &[u8], from: usize, end: usize) -> usize {
+// The characters of a part, and `...` for those that are too many.
+fn characters(o: &mut [u8], at: usize, s: &[u8]) -> usize
+    ensures { λ r. ⌜ (now (o .exit), r) ≡ put (now (o .entry), at) (charactersText 120 (now (s .entry))) ⌝ }
+{
     let mut to = at;
-    let mut i = from;
+    let mut i = 0;
     let mut left = SHOWN;
-    while 0 < left {
-        if end <= i {
-            return to;
+    while i < s.len() {
+        if left == 0 {
+            return out::bytes(o, to, b"...");
         }
-        let rest = part(s, i, end);
+        let rest = &s[i..];
         let n = utf8::char_len(rest);
         to = character(o, to, rest, n);
-        i = std::num::wrapping_add_usize(i, step(n));
+        i += step(n);
         left -= 1;
     }
-    if end <= i {
-        return to;
-    }
-    out::bytes(o, to, b"...")
+    to
 }
 
 // What stands under a byte: nothing where it begins no character, a tab under a tab, else a space.
-fn under(o: &mut [u8], at: usize, b: u8) -> usize {
+fn under(o: &mut [u8], at: usize, b: u8) -> usize
+    ensures { λ r. ⌜ (now (o .exit), r) ≡ put (now (o .entry), at) (underText b) ⌝ }
+{
     if b == b'\t' {
         return out::byte(o, at, b'\t');
     }
@@ -62,7 +70,9 @@ fn under(o: &mut [u8], at: usize, b: u8) -> usize {
     at
 }
 
-fn caret(o: &mut [u8], at: usize, before: &[u8]) -> usize {
+fn caret(o: &mut [u8], at: usize, before: &[u8]) -> usize
+    ensures { λ r. ⌜ (now (o .exit), r) ≡ put (now (o .entry), at) (caretText (now (before .entry))) ⌝ }
+{
     let mut to = at;
     for i in 0..before.len() {
         to = under(o, to, before[i]);
@@ -71,7 +81,9 @@ fn caret(o: &mut [u8], at: usize, before: &[u8]) -> usize {
 }
 
 // Both lines are set in; what is left out in front is three cells in both.
-fn margin(o: &mut [u8], at: usize, cut: bool, b: u8) -> usize {
+fn margin(o: &mut [u8], at: usize, cut: bool, b: u8) -> usize
+    ensures { λ r. ⌜ (now (o .exit), r) ≡ put (now (o .entry), at) (marginText cut b) ⌝ }
+{
     let a = out::bytes(o, at, b"    ");
     if cut {
         let c = out::byte(o, a, b);
@@ -83,11 +95,12 @@ fn margin(o: &mut [u8], at: usize, cut: bool, b: u8) -> usize {
 
 pub fn excerpt(o: &mut [u8], at: usize, s: &[u8], place: usize) -> usize
     requires { ⌜ place ≤ length (now s) ⌝ }
+    ensures { λ r. ⌜ (now (o .exit), r) ≡ put (now (o .entry), at) (excerptText (now (s .entry)) place) ⌝ }
 {
     let from = chars_back(s, place, BEFORE);
     let cut = line_start(s, place) < from;
     let a = margin(o, at, cut, b'.');
-    let b = characters(o, a, s, from, line_end(s, place));
+    let b = characters(o, a, part(s, from, line_end(s, place)));
     let c = out::byte(o, b, b'\n');
     let d = margin(o, c, cut, b' ');
     let e = caret(o, d, part(s, from, place));

@@ -9,17 +9,23 @@ use lines::out;
 use places::column::column_of;
 use places::entry::walk_place;
 use places::line::line_of;
-use rows::row;
 use sarridok::ReadAnswer;
 use sarridok::WalkAnswer;
 ghost use mathlib.Core.Path.{_≡_};
-ghost use Prim.Native.Nat.{min};
+ghost use Prim.Native.Nat.{_≤_, min};
 ghost use lib.ListN.{length};
+ghost use Rattle.lines.specs.Out.{put};
+ghost use Rattle.read.specs.Read.{readAnswer, readTape};
+ghost use Rattle.rows.specs.Rows.{roomOf};
+ghost use Rattle.sarridok.specs.Walked.{linksAfter};
+ghost use Rattle.explain.specs.Explained.{acceptedText, positionText, reasonText, refusedText, walkText, linksBehind, explained};
 
 // Brackets may be open up to this many.
 const LIMIT: usize = 128;
 
-fn accepted(o: &mut [u8], count: usize, depth: usize) -> usize {
+fn accepted(o: &mut [u8], count: usize, depth: usize) -> usize
+    ensures { λ r. ⌜ (now (o .exit), r) ≡ put (now (o .entry), 0) (acceptedText count depth) ⌝ }
+{
     let a = out::bytes(o, 0, b"ok");
     let b = out::word(o, a, count as u64);
     let c = out::bytes(o, b, b" entries, depth");
@@ -35,7 +41,9 @@ fn within(place: usize, s: &[u8]) -> usize
 }
 
 // Line and column are counted from 1.
-fn position(o: &mut [u8], s: &[u8], place: usize) -> usize {
+fn position(o: &mut [u8], s: &[u8], place: usize) -> usize
+    ensures { λ r. ⌜ (now (o .exit), r) ≡ put (now (o .entry), 0) (positionText (now (s .entry)) place) ⌝ }
+{
     let a = out::bytes(o, 0, b"line");
     let b = out::word(o, a, line_of(s, place) as u64);
     let c = out::bytes(o, b, b", column");
@@ -44,7 +52,9 @@ fn position(o: &mut [u8], s: &[u8], place: usize) -> usize {
 }
 
 // The sentence of a refusal, with its number.
-fn reason(o: &mut [u8], at: usize, number: u8) -> usize {
+fn reason(o: &mut [u8], at: usize, number: u8) -> usize
+    ensures { λ r. ⌜ (now (o .exit), r) ≡ put (now (o .entry), at) (reasonText number) ⌝ }
+{
     let a = sentence::say(o, at, number);
     let b = out::bytes(o, a, b" [");
     let c = out::number(o, b, number as u64);
@@ -52,18 +62,21 @@ fn reason(o: &mut [u8], at: usize, number: u8) -> usize {
 }
 
 // The refusal with this number, at a byte of the text.
-fn refused(o: &mut [u8], s: &[u8], number: u8, at: usize) -> usize {
+fn refused(o: &mut [u8], s: &[u8], number: u8, at: usize) -> usize
+    ensures { λ r. ⌜ (now (o .exit), r) ≡ put (now (o .entry), 0) (refusedText (now (s .entry)) number at) ⌝ }
+{
     let place = within(at, s);
     let a = position(o, s, place);
     let b = reason(o, a, number);
     excerpt::excerpt(o, b, s, place)
 }
 
-// An accepted read has room for its entries.
-fn walked(o: &mut [u8], s: &[u8], tape: &[u32], count: usize, links: &mut [u32]) -> usize {
-    if row::room(tape) < count {
-        return refused(o, s, 22, 0);
-    }
+// The walk of a tape with so many entries.
+fn walked(o: &mut [u8], s: &[u8], tape: &[u32], count: usize, links: &mut [u32]) -> usize
+    requires { ⌜ count ≤ roomOf (length (now tape)) ⌝ }
+    ensures said { λ r. ⌜ (now (o .exit), r) ≡ put (now (o .entry), 0) (walkText (now (s .entry)) (now (tape .entry)) count (length (now (links .entry)))) ⌝ }
+    ensures left { λ r. ⌜ now (links .exit) ≡ linksAfter (now (tape .entry)) count 128 (now (links .entry)) ⌝ }
+{
     let r = sarridok::walk(tape, count, LIMIT, links);
     match r {
         WalkAnswer::Walked => accepted(o, count, deepest(tape, count)),
@@ -71,7 +84,12 @@ fn walked(o: &mut [u8], s: &[u8], tape: &[u32], count: usize, links: &mut [u32])
     }
 }
 
-fn explain(o: &mut [u8], s: &[u8], tape: &mut [u32], links: &mut [u32]) -> usize {
+// An accepted read has room for its entries.
+fn explain(o: &mut [u8], s: &[u8], tape: &mut [u32], links: &mut [u32]) -> usize
+    ensures said { λ r. ⌜ (now (o .exit), r) ≡ put (now (o .entry), 0) (explained (now (s .entry)) (now (tape .entry)) (length (now (links .entry)))) ⌝ }
+    ensures tape { λ r. ⌜ now (tape .exit) ≡ readTape (now (s .entry)) (now (tape .entry)) ⌝ }
+    ensures left { λ r. ⌜ now (links .exit) ≡ linksBehind (now (tape .exit)) (now (links .entry)) (readAnswer (now (s .entry)) (length (now (tape .entry)))) ⌝ }
+{
     let r = sarridok::read(s, tape);
     match r {
         ReadAnswer::Accepted(n) => walked(o, s, &tape[..], n, links),

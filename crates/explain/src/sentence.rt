@@ -1,77 +1,61 @@
-// Each refusal number of the paper as a sentence; those that no text can bring about have theirs too. Few to a function: each makes its check longer.
+// Each refusal number of the paper as a sentence. One text with a line for each: a match of as many arms takes far longer to prove.
 use lines::out;
+use lines::past;
+use lines::until;
+ghost use mathlib.Core.Path.{_≡_};
+ghost use Prim.Native.Nat.{min};
+ghost use Rattle.lines.specs.Out.{put};
+ghost use Rattle.explain.specs.Sentences.{lineAt, sentenceOf};
 
-pub fn say(o: &mut [u8], at: usize, number: u8) -> usize {
-    if number <= 6 {
-        return of_text(o, at, number);
+// The line behind n others.
+fn line(s: &[u8], n: usize) -> &[u8]
+    ensures { λ r. ⌜ now r ≡ lineAt n (now (s .entry)) ⌝ }
+{
+    if n == 0 {
+        return until(s, b'\n');
     }
-    if number <= 12 {
-        return of_number(o, at, number);
-    }
-    if number <= 18 {
-        return of_string(o, at, number);
-    }
-    if number <= 23 {
-        return of_attribute(o, at, number);
-    }
-    of_tape(o, at, number)
+    line(past(s, b'\n'), n - 1)
 }
 
-// 1 to 6: the text as a whole, comments, characters.
-fn of_text(o: &mut [u8], at: usize, number: u8) -> usize {
-    match number {
-        1 => out::bytes(o, at, b"the text is longer than 65,536 bytes"),
-        2 => out::bytes(o, at, b"the text is not UTF-8 here"),
-        3 => out::bytes(o, at, b"this character cannot stand in a name"),
-        4 => out::bytes(o, at, b"a block comment is not closed"),
-        5 => out::bytes(o, at, b"an unexpected character stands here or just before"),
-        _ => out::bytes(o, at, b"the text ends where a character is needed"),
-    }
+// Numbers above 28 have the last sentence.
+fn known(number: u8) -> usize
+    ensures { λ r. ⌜ r ≡ min number 29 ⌝ }
+{
+    if number < 29 { number as usize } else { 29 }
 }
 
-// 7 to 12: integers and floats.
-fn of_number(o: &mut [u8], at: usize, number: u8) -> usize {
-    match number {
-        7 => out::bytes(o, at, b"an integer is expected"),
-        8 => out::bytes(o, at, b"an integer cannot begin with an underscore"),
-        9 => out::bytes(o, at, b"this digit is not below the integer's base"),
-        10 => out::bytes(o, at, b"the integer is out of bounds"),
-        11 => out::bytes(o, at, b"a float is expected"),
-        _ => out::bytes(o, at, b"an underscore is misplaced in the float"),
-    }
-}
-
-// 13 to 18: escapes, chars and strings.
-fn of_string(o: &mut [u8], at: usize, number: u8) -> usize {
-    match number {
-        13 => out::bytes(o, at, b"the escape is not valid"),
-        14 => out::bytes(o, at, b"a char is expected"),
-        15 => out::bytes(o, at, b"a byte literal is expected"),
-        16 => out::bytes(o, at, b"a string is expected"),
-        17 => out::bytes(o, at, b"the string is not closed"),
-        _ => out::bytes(o, at, b"a byte string is expected"),
-    }
-}
-
-// 19 to 23: attributes, and what is asked of lent slices.
-fn of_attribute(o: &mut [u8], at: usize, number: u8) -> usize {
-    match number {
-        19 => out::bytes(o, at, b"an attribute is expected"),
-        20 => out::bytes(o, at, b"the end of the attribute is expected"),
-        21 => out::bytes(o, at, b"the extension is not known"),
-        22 => out::bytes(o, at, b"there is no room for the entries"),
-        _ => out::bytes(o, at, b"the cut, the lengths or the tape are not in order"),
-    }
-}
-
-// 24 to 29: the walk, and what is asked of an entry.
-fn of_tape(o: &mut [u8], at: usize, number: u8) -> usize {
-    match number {
-        24 => out::bytes(o, at, b"more than 128 brackets are open"),
-        25 => out::bytes(o, at, b"this cannot stand here"),
-        26 => out::bytes(o, at, b"the text ends before its value does"),
-        27 => out::bytes(o, at, b"the entry or the suffix is of another kind"),
-        28 => out::bytes(o, at, b"a place, entry number, cursor or limit is unfit"),
-        _ => out::bytes(o, at, b"the contents hold an escape or a line continuation"),
-    }
+pub fn say(o: &mut [u8], at: usize, number: u8) -> usize
+    ensures { λ r. ⌜ (now (o .exit), r) ≡ put (now (o .entry), at) (sentenceOf number) ⌝ }
+{
+    let all = b"\n\
+            the text is longer than 65,536 bytes\n\
+            the text is not UTF-8 here\n\
+            this character cannot stand in a name\n\
+            a block comment is not closed\n\
+            an unexpected character stands here or just before\n\
+            the text ends where a character is needed\n\
+            an integer is expected\n\
+            an integer cannot begin with an underscore\n\
+            this digit is not below the integer's base\n\
+            the integer is out of bounds\n\
+            a float is expected\n\
+            an underscore is misplaced in the float\n\
+            the escape is not valid\n\
+            a char is expected\n\
+            a byte literal is expected\n\
+            a string is expected\n\
+            the string is not closed\n\
+            a byte string is expected\n\
+            an attribute is expected\n\
+            the end of the attribute is expected\n\
+            the extension is not known\n\
+            there is no room for the entries\n\
+            the cut, the lengths or the tape are not in order\n\
+            more than 128 brackets are open\n\
+            this cannot stand here\n\
+            the text ends before its value does\n\
+            the entry or the suffix is of another kind\n\
+            a place, entry number, cursor or limit is unfit\n\
+            the contents hold an escape or a line continuation\n";
+    out::bytes(o, at, line(all, known(number)))
 }

@@ -6,10 +6,10 @@ use mathlib.Core.List.{List, [], _∷_, _++_}
 use mathlib.Core.Path.{_∙_, _≡_, ap, refl, sym}
 use lib.Dec.{eqb, ltb}
 use lib.ListN.{drop, length}
-use borrow.Author.Tests.{ne-eqb, eqb-true, ltb-true, not-true}
+use borrow.Author.Tests.{ne-eqb, ltb-true, not-true}
 use Rattle.digits.specs.Digits.{runOf}
 use Rattle.integers.proofs.Fronts.{prefix-by-le, sign-by-le}
-use Rattle.integers.proofs.WordStops.{asked-stopped, first-stopped, all}
+use Rattle.integers.proofs.WordStops.{asked-stopped, first-stopped}
 use Rattle.integers.specs.Front.{behindSign, frontOf, prefixOf, signOf}
 use Rattle.integers.specs.Integer.{anyAs, anyBehind, anyOf, behindRun, chosenOf, numeralOf, typedAs, typedBehind, typedOf}
 use Rattle.integers.specs.Width.{codeOf, limitAt, suffixOf, suffixWord, widest}
@@ -24,7 +24,7 @@ use Rattle.integers.specs.declared.width.Width.{Width}
 use Rattle.text.proofs.Choices.{bool-cases, either, or-left, or-right, and-true}
 use Rattle.text.proofs.ClassLaws.{inside, within-true}
 use Rattle.text.proofs.Stops.{Stopped, Reach, on, on₂, on₃, bind, part, behind, sum, run-reach, empty-stopped}
-use Rattle.text.specs.Classes.{digit, hexDigit, identNext, identRaw, intChar, letter, within, oneOf}
+use Rattle.text.specs.Classes.{digit, hexDigit, identNext, identRaw, intChar, letter, within}
 use Rattle.text.specs.Refusals.{eof, foreignChar}
 use Rattle.text.specs.Runs.{run}
 use Rattle.integers.specs.declared.integer.Numeral.the-variants as numeral
@@ -44,31 +44,18 @@ pub record Outside (c : ℕ) : Type 0 where
   pub raw : identRaw c ≡ false
   pub low : c < 0x80
 
--- the bytes of a list are outside where each is, by a test that computes
+-- told by a test that computes
 abbrev pub outside : ℕ → Bool
 outside c = not (identRaw c) && ltb c 0x80
 
-pub listed-outside : (l : List ℕ) → all outside l ≡ true → (c : ℕ) → oneOf l c ≡ true → Outside c
-listed-outside [] h c e = let z : _≡_ {A = ℕ} 0 1 = cc in absurd (omega arith)
-listed-outside (a ∷ l) h c e =
-    let k = and-true (outside a) (all outside l) h in
-    let o = and-true (not (identRaw a)) (ltb a 0x80) (k .0) in
-    either (bool-cases (eqb c a))
-    (λ p. rw (eqb-true c a p) (record { raw = not-true (identRaw a) (o .0); low = ltb-true a 0x80 (o .1) }))
-    (λ p. listed-outside l (k .1) c (rw p at e))
-
--- space, tab, LF, CR, comma, colon and the six brackets
-abbrev pub quietBytes : List ℕ
-quietBytes = 0x20 ∷ 0x09 ∷ 0x0a ∷ 0x0d ∷ 0x2c ∷ 0x3a ∷ 0x28 ∷ 0x29 ∷ 0x5b ∷ 0x5d ∷ 0x7b ∷ 0x7d ∷ []
-
--- a quiet byte, and a slash
-pub quiet-outside : (c : ℕ) → oneOf quietBytes c ≡ true → Outside c
-unfolding identRaw identNext letter digit within
-quiet-outside c e = listed-outside quietBytes refl c e
+pub told-outside : (c : ℕ) → outside c ≡ true → Outside c
+told-outside c e =
+    let o = and-true (not (identRaw c)) (ltb c 0x80) e in
+    record { raw = not-true (identRaw c) (o .0); low = ltb-true c 0x80 (o .1) }
 
 pub slash-outside : Outside 0x2f
 unfolding identRaw identNext letter digit within
-slash-outside = listed-outside (0x2f ∷ []) refl 0x2f refl
+slash-outside = told-outside 0x2f refl
 
 module _ {c : ℕ} (o : Outside c) where
   pub out-next : identNext c ≡ false

@@ -1,4 +1,3 @@
-pub mod More
 pub mod Words
 pub mod Suffixes
 pub mod Fronts

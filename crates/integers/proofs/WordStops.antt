@@ -6,23 +6,19 @@ use mathlib.Core.List.{List, [], _∷_, _++_}
 use mathlib.Core.Path.{_∙_, _≡_, ap, refl, sym}
 use lib.Dec.{eqb}
 use lib.ListN.{getD, length}
-use lib.Pow.{low}
-use borrow.Author.Tests.{lt-leb, ne-eqb}
-use Rattle.integers.specs.Words.{Word, askedBehind, firstOf, foreignAhead, identOf, startsWith}
+use Rattle.integers.specs.Words.{Word, askedBehind, firstOf, identOf}
 use Rattle.integers.specs.declared.ident.Found.{Found}
 use Rattle.text.proofs.Choices.{and-true, bool-cases, either}
 use Rattle.text.proofs.Stops.{Stopped, Reach, on, on₂, behind}
-use Rattle.text.specs.Classes.{blank2, blank3, blankWidth, foreign, identNext}
-
--- every byte is of the class
-abbrev pub all : (ℕ → Bool) → List ℕ → Bool
-all p [] = true
-all p (a ∷ s) = p a && all p s
+use Rattle.text.proofs.ClassLaws.{allOf}
+use Rattle.text.proofs.WordLaws.{foreign-stopped, starts-short, starts-stopped}
+use Rattle.text.specs.Classes.{identNext}
+use Rattle.text.specs.Words.{startsWith}
 
 -- every word is of the class
 abbrev pub fit : (ℕ → Bool) → List Word → Bool
 fit p [] = true
-fit p (w ∷ ws) = all p (w .letters) && fit p ws
+fit p (w ∷ ws) = allOf p (w .letters) && fit p ws
 
 -- the byte at a place up to c
 get-same : (c : ℕ) (u v v′ : List ℕ) (i : ℕ) → i ≤ length u → getD (u ++ c ∷ v) i 0 ≡ getD (u ++ c ∷ v′) i 0
@@ -34,23 +30,7 @@ get-same c (x ∷ u) v v′ (suc i) h = get-same c u v v′ i (omega arith)
 -- ---- words of a class that c is not of
 
 module _ (p : ℕ → Bool) (c : ℕ) (out : p c ≡ false) where
-  differs : (w : ℕ) → p w ≡ true → eqb c w ≡ false
-  differs w e = ne-eqb c w (λ q. let z : true ≡ false = sym e ∙ ap p (sym q) ∙ out in let k : _≡_ {A = ℕ} 0 1 = cc in absurd (omega arith))
-
-  starts-same : (word : List ℕ) → all p word ≡ true → (u v v′ : List ℕ) → startsWith word (u ++ c ∷ v) ≡ startsWith word (u ++ c ∷ v′)
-  unfolding startsWith
-  starts-same [] h u v v′ = refl
-  starts-same (w ∷ ws) h [] v v′ = rw (differs w (and-true (p w) (all p ws) h .0))
-  starts-same (w ∷ ws) h (x ∷ u) v v′ = ap (λ (b : Bool). eqb x w && b) (starts-same ws (and-true (p w) (all p ws) h .1) u v v′)
-
-  starts-short : (word : List ℕ) → all p word ≡ true → (u v : List ℕ) → startsWith word (u ++ c ∷ v) ≡ true → length word ≤ length u
-  unfolding startsWith
-  starts-short [] h u v e = omega arith
-  starts-short (w ∷ ws) h [] v e = let q = rw (differs w (and-true (p w) (all p ws) h .0)) at e in let z : _≡_ {A = ℕ} 0 1 = cc in absurd (omega arith)
-  starts-short (w ∷ ws) h (x ∷ u) v e =
-      omega (arith, starts-short ws (and-true (p w) (all p ws) h .1) u v (and-true (eqb x w) (startsWith ws (u ++ c ∷ v)) e .1))
-
-  module _ (word : List ℕ) (h : all p word ≡ true) where
+  module _ (word : List ℕ) (h : allOf p word ≡ true) where
     ident-same : (u v v′ : List ℕ) → identOf word (u ++ c ∷ v) ≡ identOf word (u ++ c ∷ v′)
     unfolding identOf
     ident-same u v v′ = go (startsWith word (u ++ c ∷ v)) refl
@@ -58,19 +38,16 @@ module _ (p : ℕ → Bool) (c : ℕ) (out : p c ≡ false) where
         go : (b : Bool) → startsWith word (u ++ c ∷ v) ≡ b
             → cond (startsWith word (u ++ c ∷ v)) (cond (identNext (getD (u ++ c ∷ v) (length word) 0)) 0 (length word)) 0
             ≡ cond (startsWith word (u ++ c ∷ v′)) (cond (identNext (getD (u ++ c ∷ v′) (length word) 0)) 0 (length word)) 0
-        go true e = rw (e, sym (starts-same word h u v v′) ∙ e) (ap (λ (a : ℕ). cond (identNext a) 0 (length word)) (get-same c u v v′ (length word) (starts-short word h u v e)))
-        go false e = rw (e, sym (starts-same word h u v v′) ∙ e)
+        go true e = rw (e, sym (starts-stopped p c out word h .same u v v′) ∙ e) (ap (λ (a : ℕ). cond (identNext a) 0 (length word)) (get-same c u v v′ (length word) (starts-short p c out word h u v e)))
+        go false e = rw (e, sym (starts-stopped p c out word h .same u v v′) ∙ e)
 
     ident-short : (u v : List ℕ) → identOf word (u ++ c ∷ v) ≤ length u
     unfolding identOf
     ident-short u v =
         either (bool-cases (startsWith word (u ++ c ∷ v)))
-        (λ a. let k = starts-short word h u v a in
+        (λ a. let k = starts-short p c out word h u v a in
         either (bool-cases (identNext (getD (u ++ c ∷ v) (length word) 0))) (λ b. rw (a, b) (omega arith)) (λ b. rw (a, b) (omega arith)))
         (λ a. rw a (omega arith))
-
-    pub ident-reach : Reach c (identOf word)
-    ident-reach = record { stopped = record { same = ident-same }; short = ident-short }
 
   -- ---- tables of words
 
@@ -78,14 +55,14 @@ module _ (p : ℕ → Bool) (c : ℕ) (out : p c ≡ false) where
   unfolding firstOf
   first-same [] h u v v′ = refl
   first-same (w ∷ ws) h u v v′ =
-      let k = and-true (all p (w .letters)) (fit p ws) h in
+      let k = and-true (allOf p (w .letters)) (fit p ws) h in
       rw (ident-same (w .letters) (k .0) u v v′, first-same ws (k .1) u v v′)
 
   first-short : (ws : List Word) → fit p ws ≡ true → (u v : List ℕ) → firstOf ws (u ++ c ∷ v) .end ≤ length u
   unfolding firstOf
   first-short [] h u v = omega arith
   first-short (w ∷ ws) h u v =
-      let k = and-true (all p (w .letters)) (fit p ws) h in
+      let k = and-true (allOf p (w .letters)) (fit p ws) h in
       let l = first-short ws (k .1) u v in
       let m = ident-short (w .letters) (k .0) u v in
       either (bool-cases (eqb (identOf (w .letters) (u ++ c ∷ v)) 0)) (λ a. rw a l) (λ a. rw a m)
@@ -96,20 +73,10 @@ module _ (p : ℕ → Bool) (c : ℕ) (out : p c ≡ false) where
   pub first-reach : (ws : List Word) → fit p ws ≡ true → Reach c (λ t. firstOf ws t .end)
   first-reach ws h = record { stopped = on (λ (f : Found). f .end) (first-stopped ws h); short = first-short ws h }
 
--- ---- refusal 3: a foreign character is told from three bytes, none of them behind a byte up to U+007F
+-- ---- refusal 3: what is asked behind a word
 
 module _ (c : ℕ) (low : c < 0x80) where
-  foreign-same : (u v v′ : List ℕ) → foreignAhead (u ++ c ∷ v) ≡ foreignAhead (u ++ c ∷ v′)
-  unfolding foreignAhead foreign blankWidth blank2 blank3
-  foreign-same [] v v′ = rw (lt-leb 0x80 c low)
-  foreign-same (x ∷ []) v v′ = rw (ne-eqb c 0x85 (λ e. omega arith), ne-eqb c 0x80 (λ e. omega arith))
-  foreign-same (x ∷ y ∷ []) v v′ = refl
-  foreign-same (x ∷ y ∷ z ∷ u) v v′ = refl
-
-  pub foreign-stopped : Stopped c foreignAhead
-  foreign-stopped = record { same = foreign-same }
-
   module _ (p : ℕ → Bool) (out : p c ≡ false) (ws : List Word) (h : fit p ws ≡ true) where
     pub asked-stopped : Stopped c (λ t. askedBehind (firstOf ws t) t)
     asked-stopped =
-        on₂ (λ (n : ℕ) (b : Bool). cond (eqb n 0) false b) (first-reach p c out ws h .stopped) (behind (first-reach p c out ws h) foreign-stopped)
+        on₂ (λ (n : ℕ) (b : Bool). cond (eqb n 0) false b) (first-reach p c out ws h .stopped) (behind (first-reach p c out ws h) (foreign-stopped c low))

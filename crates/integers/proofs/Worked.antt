@@ -2,11 +2,12 @@
 use mathlib.Core.Bool.{true, false}
 use mathlib.Core.List.{List, [], _∷_}
 use mathlib.Core.Path.{_≡_, refl}
-use Rattle.text.specs.Classes.{within, blankWidth, blank1, blank2, blank3, foreign, digit, letter, hexDigit, intChar, identNext}
+use Rattle.text.specs.Classes.{within, blankWidth, blank1, blank2, blank3, foreign, digit, letter, hexDigit, intChar, identNext, foreignAhead}
 use Rattle.text.specs.Runs.{run}
 use Rattle.text.specs.Refusals.{refusal}
+use Rattle.text.specs.Words.{startsWith}
 use Rattle.digits.specs.Digits.{hexOf, turnOf, digitsFrom, runOf}
-use Rattle.integers.specs.Words.{startsWith, identOf, firstOf, foreignAhead}
+use Rattle.integers.specs.Words.{identOf, firstOf}
 use Rattle.integers.specs.Width.{limitAt, firstFit, widthAt, suffixWord, suffixOf}
 use Rattle.integers.specs.Front.{signOf, prefixOf, frontOf}
 use Rattle.integers.specs.Integer.{numeralOf, typedOf}

@@ -1,18 +1,13 @@
--- Words at the front of a part: the crate's `check_str`, and its `check_ident`, which "only returns true if the char after `ident` cannot belong to an identifier".
+-- Words at the front of a part: the crate's `check_ident`, which "only returns true if the char after `ident` cannot belong to an identifier".
 -- Refusal 3 (document 01): "a name's first or next character is asked for, and the one there is above U+007F and not whitespace".
 use Prim.Native.Nat.{ℕ}
 use mathlib.Core.List.{List, [], _∷_}
-use mathlib.Core.Bool.{Bool, true, false, cond, _&&_}
+use mathlib.Core.Bool.{Bool, false, cond}
 use lib.ListN.{length, getD, drop}
 use lib.Dec.{eqb}
-use Rattle.text.specs.Classes.{identNext, foreign}
+use Rattle.text.specs.Classes.{identNext, foreignAhead}
+use Rattle.text.specs.Words.{startsWith}
 use Rattle.integers.specs.declared.ident.Found.{Found}
-
--- The part begins with the word.
-unfoldable pub startsWith : (word t : List ℕ) → Bool
-startsWith [] t = true
-startsWith (w ∷ ws) [] = false
-startsWith (w ∷ ws) (c ∷ cs) = let rest = startsWith ws cs in eqb c w && rest
 
 -- The word's length where it stands at the front and no name goes on behind it, else 0.
 unfoldable pub identOf : (word t : List ℕ) → ℕ
@@ -34,10 +29,6 @@ firstOf (w ∷ ws) t =
     let rest = firstOf ws t in
     cond (eqb (identOf (w .letters) t) 0) rest (record { code = w .says; end = identOf (w .letters) t })
 
--- The next character is above U+007F and not whitespace.
-unfoldable pub foreignAhead : List ℕ → Bool
-foreignAhead t = foreign (getD t 0 0) (getD t 1 0) (getD t 2 0)
-
--- Behind a word that was found the next character is asked for, and it is such a one.
+-- Behind a word that was found the next character is asked for, and it is above U+007F and not whitespace.
 abbrev pub askedBehind : Found → List ℕ → Bool
 askedBehind f t = cond (eqb (f .end) 0) false (foreignAhead (drop (f .end) t))

@@ -1,11 +1,12 @@
 // Words at the front of a part, after the crate's `check_str` and `check_ident`.
 use text::bytes::peek;
-use text::classes::is_foreign;
+use text::classes::is_foreign_ahead;
 use text::classes::is_ident_next_char;
 ghost use mathlib.Core.Path.{_≡_};
 ghost use Prim.Native.Nat.{_≤_};
 ghost use lib.ListN.{length};
-ghost use Rattle.integers.specs.Words.{startsWith, identOf, foreignAhead, askedBehind};
+ghost use Rattle.integers.specs.Words.{identOf, askedBehind};
+ghost use Rattle.text.specs.Words.{startsWith};
 
 // What the word found says, and its length; 0 and 0 where none was found.
 pub struct Found {
@@ -50,14 +51,7 @@ pub fn check_ident(t: &[u8], word: &[u8]) -> usize
     0
 }
 
-// The next character is above U+007F and not whitespace.
-pub fn is_foreign_ahead(t: &[u8]) -> bool
-    ensures { λ r. ⌜ r ≡ foreignAhead (now (t .entry)) ⌝ }
-{
-    is_foreign(peek(t, 0), peek(t, 1), peek(t, 2))
-}
-
-// Behind a word that was found the next character is asked for, and it is such a one.
+// Behind a word that was found the next character is asked for, and it is above U+007F and not whitespace.
 pub fn is_asked_behind(t: &[u8], found: Found) -> bool
     requires { ⌜ found .end ≤ length (now t) ⌝ }
     ensures { λ r. ⌜ r ≡ askedBehind found (now (t .entry)) ⌝ }

@@ -14,6 +14,7 @@ use digits::digit::run_len;
 use digits::down::digits_down;
 use digits::up::digits;
 use text::Refusal;
+use text::refusal::placed_behind;
 ghost use mathlib.Core.Path.{_≡_};
 ghost use Prim.Native.Nat.{_<_, _≤_};
 ghost use Rattle.digits.specs.Digits.{runOf};
@@ -143,7 +144,7 @@ pub fn typed(s: &[u8], width: Width) -> Integer
             let value = value_of(front.minus, magnitude);
             Integer::Read(value, at + end)
         }
-        Numeral::Refused(refusal) => Integer::Refused(refusal.placed_behind(at)),
+        Numeral::Refused(refusal) => Integer::Refused(placed_behind(refusal, at)),
     }
 }
 
@@ -174,6 +175,6 @@ pub fn any_integer(s: &[u8]) -> AnyInteger
             let width = width_for(found, minus, magnitude);
             AnyInteger::Read(width, at + end)
         }
-        Numeral::Refused(refusal) => AnyInteger::Refused(refusal.placed_behind(at)),
+        Numeral::Refused(refusal) => AnyInteger::Refused(placed_behind(refusal, at)),
     }
 }

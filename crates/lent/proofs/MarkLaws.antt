@@ -1,14 +1,20 @@
 -- The loops that mark and compare, turn by turn. Assumes nothing.
-use Prim.Native.Nat.{ℕ, suc, _+_, _-_, _<_, _≤_}
+use Prim.Native.Nat.{ℕ, zero, suc, _+_, _-_, _<_, _≤_}
 use native.Mathlib.Numerals.{add-one}
 use native.Mathlib.Omega.{arith}
 use mathlib.Core.Bool.{true, false}
 use mathlib.Core.List.{List, [], _∷_}
 use mathlib.Core.Path.{_≡_, ap, refl, sym, _∙_}
-use lib.ListN.{length, getD, drop, set, length-drop}
+use lib.ListN.{length, getD, drop, set, length-drop, length-set}
 use lib.Seq.{drop-cons}
 use borrow.Author.Tests.{eq-eqb, ne-eqb}
 use Rattle.lent.specs.Marks.{marked, keptFrom}
+
+-- marks change no length
+pub marked-length : (mark : ℕ → ℕ) (n i : ℕ) (s : List ℕ) → length (marked mark n i s) ≡ length s
+unfolding marked
+marked-length mark zero i s = refl
+marked-length mark (suc n) i s = marked-length mark n (i + 1) (set s i (mark i)) ∙ simp length-set
 
 -- what is left to mark gives the whole
 abbrev pub Marking : (ℕ → ℕ) → List ℕ → List ℕ → ℕ → Type 0

@@ -54,6 +54,26 @@ unfolding over
 over-nil [] = refl
 over-nil (a ∷ s) = refl
 
+-- what is put on top stands there
+pub over-front : (s d : List ℕ) → length s ≤ length d → take (length s) (over s d) ≡ s
+unfolding over
+over-front [] d h = refl
+over-front (a ∷ s) [] h = absurd (omega arith)
+over-front (a ∷ s) (b ∷ d) h = ap (λ (t : List ℕ). a ∷ t) (over-front s d (omega arith))
+
+-- nothing grows
+pub over-length : (s d : List ℕ) → length (over s d) ≡ length d
+unfolding over
+over-length [] d = refl
+over-length (a ∷ s) [] = refl
+over-length (a ∷ s) (b ∷ d) = ap suc (over-length s d)
+
+-- a list over itself
+pub over-self : (s : List ℕ) → over s s ≡ s
+unfolding over
+over-self [] = refl
+over-self (a ∷ s) = ap (λ (t : List ℕ). a ∷ t) (over-self s)
+
 -- what stands at or behind the end of the bytes on top is as it was
 pub over-behind : (s d : List ℕ) (k : ℕ) → length s ≤ k → getD (over s d) k 0 ≡ getD d k 0
 unfolding over

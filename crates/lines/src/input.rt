@@ -1,7 +1,9 @@
-// Standard input through a lent buffer. No contract can say what is read: where a function has none, it is proved safe and ending.
-ghost use Prim.Native.Nat.{_-_, _≤_};
+// Standard input through a lent buffer. Which bytes the system puts there, and how many, no contract can say; what stood there, and what is answered then, is.
+ghost use Prim.Native.Nat.{_-_, _≤_, _<_};
+ghost use mathlib.Core.Bool.{true, false};
 ghost use mathlib.Core.Path.{_≡_};
 ghost use lib.ListN.{length, take, drop};
+ghost use Rattle.lines.specs.Input.{endedInput, leavesRoom, ReadBehind};
 ghost use Rattle.lines.specs.Over.{over};
 use libc::STDIN_FILENO;
 
@@ -25,25 +27,32 @@ fn shift(buf: &mut [u8], from: usize, to: usize)
     }
 }
 
-fn read_part(part: &mut [u8]) -> usize {
+// How many bytes one reading gave.
+fn read_part(part: &mut [u8]) -> usize
+    ensures { λ r. ⌜ r ≤ length (now (part .entry)) ⌝ }
+{
     let got = libc::read(STDIN_FILENO, part);
     io::count(got, part)
 }
 
 // Reads once, behind the n bytes that are there.
-fn read_behind(buf: &mut [u8], n: usize) -> Input {
+fn read_behind(buf: &mut [u8], n: usize) -> Input
+    ensures { λ r. ⌜ (n < length (now (buf .entry)) → ReadBehind n (now (buf .entry)) (now (buf .exit)) r) × (length (now (buf .entry)) ≤ n → (r ≡ endedInput) × (now (buf .exit) ≡ now (buf .entry))) ⌝ }
+{
     if n < buf.len() {
         let got = read_part(&mut buf[n..]);
         return Input {
             from: 0,
-            to: std::num::wrapping_add_usize(n, got),
+            to: n + got,
             ended: got == 0,
         };
     }
     ended()
 }
 
-fn ended() -> Input {
+fn ended() -> Input
+    ensures { λ r. ⌜ r ≡ endedInput ⌝ }
+{
     Input {
         from: 0,
         to: 0,
@@ -52,7 +61,9 @@ fn ended() -> Input {
 }
 
 // What is not yet used goes to the front, and the input is read once behind it.
-pub fn more(buf: &mut [u8], from: usize, to: usize) -> Input {
+pub fn more(buf: &mut [u8], from: usize, to: usize) -> Input
+    ensures { λ r. ⌜ (leavesRoom from to (length (now (buf .entry))) ≡ true → ReadBehind (to - from) (drop from (now (buf .entry))) (now (buf .exit)) r) × (leavesRoom from to (length (now (buf .entry))) ≡ false → (r ≡ endedInput) × (now (buf .exit) ≡ now (buf .entry))) ⌝ }
+{
     if to < from {
         return ended();
     }
@@ -63,7 +74,8 @@ pub fn more(buf: &mut [u8], from: usize, to: usize) -> Input {
     read_behind(buf, to - from)
 }
 
-// Reads on to the end of the input, so that whoever writes it is not cut off; the turns are counted down, since a proved loop has to end.
+// Reads on to the end of the input, so that whoever writes it is not cut off; the turns are counted down, since a proved loop has to end. Nothing is answered,
+// and what the lent bytes are afterwards is the system's alone.
 pub fn drain(rest: &mut [u8]) {
     let mut turns = u64::MAX;
     while 0 < turns {

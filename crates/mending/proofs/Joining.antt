@@ -50,10 +50,6 @@ unfolding leading
 lead-front p [] ys a h = h
 lead-front p (x ∷ xs) ys a h = rw (a .0) (ap suc (lead-front p xs ys (a .1) h))
 
-pub all-map : (P Q : Entry → Type 0) (l : List Entry) → ((x : Entry) → P x → Q x) → All P l → All Q l
-all-map P Q [] f a = tt
-all-map P Q (x ∷ l) f a = (f x (a .0), all-map P Q l f (a .1))
-
 -- ---- the search
 
 -- o and n are the lengths of the texts, b and e the ends of the cut and of the new bytes

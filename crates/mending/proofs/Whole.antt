@@ -8,13 +8,13 @@ use mathlib.Core.Path.{_∙_, _≡_, ap, ap₂, refl, subst, sym}
 use lib.ListN.{drop, drop-of-length-le, getD, length, length-append, length-drop, length-map, length-take, take, take-append-drop}
 use lib.Seq.{drop-cons, length-take-le}
 use borrow.Author.Tests.{le-leb, ltb-false, ltb-true}
-use Rattle.mending.proofs.Joining.{Joined, all-map, apart-false, apart-true, lead-front, scan-found, scan-refused}
+use Rattle.mending.proofs.Joining.{Joined, apart-false, apart-true, lead-front, scan-found, scan-refused}
 use Rattle.mending.proofs.Joining.Joined.{ends, meets}
 use Rattle.mending.specs.Fresh.{OldText, apart, reaching}
 use Rattle.read.specs.Read.{readingOf}
 use Rattle.reading.proofs.Entries.{counted-broken, entries-complete, read-in-order, ▸-append}
 use Rattle.reading.proofs.Joins.{move}
-use Rattle.reading.proofs.KeptLaws.{All, Apart, all-append, all-of, kept-before, none-kept}
+use Rattle.reading.proofs.KeptLaws.{All, Apart, all-append, all-of, kept-before, none-kept, map-all}
 use Rattle.reading.proofs.QuietLaws.{last-le}
 use Rattle.reading.proofs.Repairs.{joined, joined-kept, resume}
 use Rattle.reading.specs.Kept.{Replaced, keptBefore, keptBehind, lastQuiet}
@@ -198,7 +198,7 @@ module _ (old tape : List ℕ) (count a b e : ℕ) (new : List ℕ) (O : OldText
         )
 
     apart-all : (ns : List Entry) → All (Apart o n e was) ns → All (λ x. apart o n e was x ≡ true) (take j was ++ ns)
-    apart-all ns al = all-map (Apart o n e was) (λ x. apart o n e was x ≡ true) (take j was ++ ns) (λ x h. apart-true o n e was x h) (all-append (Apart o n e was) (take j was) ns front-apart al)
+    apart-all ns al = map-all (Apart o n e was) (λ x. apart o n e was x ≡ true) (take j was ++ ns) (λ x h. apart-true o n e was x h) (all-append (Apart o n e was) (take j was) ns front-apart al)
 
     reach-is : (ns mv : List Entry) → All (Apart o n e was) ns → readingOf new ≡ (take j was ++ ns ++ mv) ▸ complete → leading (apart o n e was) mv ≡ 0 → reaching o n e was (entries (readingOf new)) ≡ length mv
     unfolding reaching

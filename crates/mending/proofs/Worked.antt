@@ -4,15 +4,16 @@ use mathlib.Core.List.{List, [], _∷_}
 use mathlib.Core.Path.{_≡_, refl}
 use Rattle.text.specs.Refusals.Told.{accepted, refused}
 use Rattle.text.specs.Refusals.{unclosedBlockComment}
-use Rattle.text.specs.Classes.{within, blank1, blank2, blank3, blankWidth, digit, hexDigit, intChar, floatChar, letter, foreign}
+use Rattle.text.specs.Classes.{within, blank1, blank2, blank3, blankWidth, digit, hexDigit, intChar, floatChar, letter, foreign, foreignAhead}
 use Rattle.text.specs.Runs.{run, run2}
+use Rattle.text.specs.Words.{startsWith}
 use Rattle.comments.specs.Blocks.{blockEnd, blockFrom, markOf}
 use Rattle.comments.specs.Gaps.{behindSlash, commentOf, gapFrom, gapOf, itemOf}
 use Rattle.digits.specs.Digits.{hexOf, digitsFrom, runOf, turnOf}
 use Rattle.integers.specs.Front.{frontOf, prefixOf, signOf}
 use Rattle.integers.specs.Integer.{anyOf, numeralOf}
 use Rattle.integers.specs.Width.{firstFit, limitAt, suffixOf, suffixWord, widthAt}
-use Rattle.integers.specs.Words.{firstOf, foreignAhead, identOf, startsWith}
+use Rattle.integers.specs.Words.{firstOf, identOf}
 use Rattle.floats.specs.Classes.{floatGoes}
 use Rattle.numbers.specs.Numbers.{floatAhead, numberOf}
 use Rattle.tokens.specs.Ron.{ronToken}

@@ -7,9 +7,9 @@ use mathlib.Core.List.{List, [], _∷_}
 use mathlib.Core.Path.{_∙_, _≡_, ap, refl, subst}
 use lib.ListN.{drop, getD, length, length-drop}
 use lib.Seq.{drop-drop}
-use Rattle.names.proofs.More.{code-ascii, cond-same}
+use Rattle.names.proofs.More.{code-ascii}
 use Rattle.names.specs.Characters.{byCharWidth, charIf, chars, charsFrom}
-use Rattle.text.proofs.Choices.{cond-cases}
+use Rattle.text.proofs.Choices.{cond-cases, cond-same}
 use Rattle.text.proofs.Utf8Agree.{charLen-le}
 use Rattle.text.proofs.Utf8Laws.{charLen-ascii, charLen-nil}
 use Rattle.text.specs.Utf8.{charLen, codeOf}

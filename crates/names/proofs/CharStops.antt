@@ -2,38 +2,18 @@
 use Prim.Native.Nat.{_<_, _≤_, suc, zero, ℕ}
 use native.Mathlib.Nat.{le-of-suc-le-suc, not-suc-le-zero}
 use native.Mathlib.Omega.{arith}
-use mathlib.Core.Bool.{Bool, _&&_, cond, false}
+use mathlib.Core.Bool.{Bool, cond, false}
 use mathlib.Core.List.{List, [], _++_, _∷_}
 use mathlib.Core.Path.{_∙_, _≡_, ap, ap₂, refl, sym}
-use lib.Dec.{eqb, leb}
 use lib.ListN.{getD, length}
-use borrow.Author.Tests.{lt-leb, ne-eqb}
 use Rattle.names.proofs.CharLaws.{char-ascii}
-use Rattle.names.proofs.More.{code-first, cond-same, len-same, len-short, no-second, no-third}
-use Rattle.names.specs.Characters.{charIf, charsFrom, foreignFront, byCharWidth, chars}
-use Rattle.text.proofs.Choices.{cond-cases, either, lt-or-le, and-false}
-use Rattle.text.proofs.Stops.{Reach, Stopped}
-use Rattle.text.specs.Classes.{blank1, blankWidth, foreign, blank2, blank3}
+use Rattle.names.proofs.More.{code-first, len-same, len-short, no-second, no-third}
+use Rattle.names.specs.Characters.{charIf, charsFrom, byCharWidth, chars}
+use Rattle.text.proofs.Choices.{cond-cases, cond-same, either, lt-or-le}
+use Rattle.text.proofs.Stops.{Reach}
 use Rattle.text.specs.Utf8.{charLen, codeOf, codeOf4}
 
 module _ (c : ℕ) (h : c < 0x80) where
-  -- ---- the character at the front is above U+007F and not whitespace
-  blank-second : (x d : ℕ) → blankWidth x c d ≡ cond (blank1 x) 1 0
-  unfolding blankWidth blank2 blank3
-  blank-second x d =
-      rw (ne-eqb c 0x85 (λ e. omega arith), ne-eqb c 0x80 (λ e. omega arith))
-      (rw (and-false (eqb x 0xc2), and-false (eqb x 0xe2)) refl)
-
-  foreign-same : (u v v′ : List ℕ) → foreignFront (u ++ c ∷ v) ≡ foreignFront (u ++ c ∷ v′)
-  unfolding foreignFront foreign
-  foreign-same [] v v′ = rw (lt-leb 0x80 c h)
-  foreign-same (x ∷ []) v v′ = ap (λ (n : ℕ). leb 0x80 x && eqb n 0) (blank-second x (getD v 0 0) ∙ sym (blank-second x (getD v′ 0 0)))
-  foreign-same (x ∷ y ∷ []) v v′ = refl
-  foreign-same (x ∷ y ∷ z ∷ u) v v′ = refl
-
-  pub foreign-stopped : Stopped c foreignFront
-  foreign-stopped = record { same = foreign-same }
-
   module _ (p : ℕ → Bool) (out : p c ≡ false) where
     -- ---- the character at the front
     char-here : (v : List ℕ) → charIf p (c ∷ v) ≡ 0

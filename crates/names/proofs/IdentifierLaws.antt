@@ -2,20 +2,20 @@
 use Prim.Native.Nat.{_+_, _-_, _≤_, ℕ, _<_}
 use native.Mathlib.Omega.{arith}
 use mathlib.Core.Bool.{true, cond, false}
-use mathlib.Core.List.{List}
-use mathlib.Core.Path.{_∙_, _≡_, ap, sym}
+use mathlib.Core.List.{List, [], _∷_}
+use mathlib.Core.Path.{_≡_}
 use lib.Dec.{eqb, ltb}
-use lib.ListN.{List·getD-eq-default, drop, getD, length, length-drop, take}
-use borrow.Author.Tests.{eqb-true, eqb-false}
+use lib.ListN.{drop, length, length-drop}
+use borrow.Author.Tests.{eqb-false}
 use Rattle.names.proofs.CharLaws.{char-le, chars-le}
-use Rattle.names.specs.Characters.{charIf, chars, foreignFront}
+use Rattle.names.specs.Characters.{charIf, chars}
 use Rattle.names.specs.Identifiers.{nameLen, identifierOf, orAsked, plainOf, rawOf, skipIdentifierOf, strictOf}
-use Rattle.names.specs.Starts.{beginsRaw, startsWith, beginsString}
+use Rattle.names.specs.Starts.{beginsRaw, beginsString}
 use Rattle.names.specs.declared.Identifier.{Identifier}
 use Rattle.names.specs.declared.Identifier.the-variants.{Missing, Name, RawName, Refused}
-use Rattle.text.proofs.Choices.{and-true, cond-cases, either, lt-or-le}
-use Rattle.text.proofs.Lists.{tail-part}
-use Rattle.text.specs.Classes.{identFirst, identNext, identRaw}
+use Rattle.text.proofs.Choices.{cond-cases}
+use Rattle.text.proofs.WordLaws.{starts-le}
+use Rattle.text.specs.Classes.{identFirst, identNext, identRaw, foreignAhead}
 use Rattle.text.specs.Refusals.{eof, foreignChar}
 
 pub name-le : (s : List ℕ) → nameLen s ≤ length s
@@ -25,17 +25,11 @@ name-le s =
     cond-cases (λ (k : ℕ). k ≤ length s) (eqb n 0) 0 (n + chars identNext (drop n s)) (λ e. omega arith)
     (λ e. omega (arith, char-le identFirst s, chars-le identNext (drop n s), length-drop n s))
 
--- ---- a test on the part from a place
-
 -- ---- a part that begins with `r#` has two bytes
 
 pub raw-long : (s : List ℕ) → beginsRaw s ≡ true → 2 ≤ length s
-unfolding beginsRaw startsWith
-raw-long s h =
-    let e = eqb-true (getD s 1 0) 0x23 (and-true (eqb (getD s 0 0) 0x72) (eqb (getD s 1 0) 0x23) h .1) in
-    either (lt-or-le (length s) 2)
-    (λ l. let z : getD s 1 0 ≡ 0 = List·getD-eq-default s 0 {n = 1} (omega arith) in absurd (omega arith))
-    (λ l. l)
+unfolding beginsRaw
+raw-long s h = starts-le (0x72 ∷ 0x23 ∷ []) s h
 
 -- ---- what is found lies within its part
 
@@ -46,7 +40,7 @@ Within s (RawName n) = (2 < n) × (n ≤ length s)
 Within s (Refused r) = r .place ≤ length s
 
 asked-within : (s : List ℕ) (n : ℕ) (i : Identifier) → n ≤ length s → Within s i → Within s (orAsked s n i)
-asked-within s n i h w = cond-cases (Within s) (foreignFront (drop n s)) (Refused (foreignChar n)) i (λ e. h) (λ e. w)
+asked-within s n i h w = cond-cases (Within s) (foreignAhead (drop n s)) (Refused (foreignChar n)) i (λ e. h) (λ e. w)
 
 pub plain-within : (s : List ℕ) → Within s (plainOf s)
 unfolding plainOf

@@ -3,23 +3,19 @@
 use Prim.Native.Nat.{_<_, ℕ, _≤_}
 use native.Mathlib.Nat.{not-suc-le-zero}
 use native.Mathlib.Omega.{arith}
-use mathlib.Core.Bool.{Bool, cond, false, true}
+use mathlib.Core.Bool.{cond, false}
 use mathlib.Core.List.{List, [], _++_, _∷_}
 use mathlib.Core.Path.{_≡_, refl, _∙_, sym}
 use lib.Dec.{eqb, leb}
 use lib.ListN.{getD, length}
 use borrow.Author.Tests.{lt-ltb, lt-leb}
-use Rattle.text.proofs.Choices.{and-false}
+use Rattle.text.proofs.Choices.{and-false, cond-same}
 use Rattle.text.proofs.ClassLaws.{below, above}
 use Rattle.text.proofs.Utf8Laws.{Second, View, width-ascii, width-view}
 use Rattle.text.proofs.Utf8Laws.Second.{after-E0, after-ED, after-F0, after-F4, after-other}
 use Rattle.text.proofs.Utf8Laws.View.{v0, v1, v2, v3, v4}
 use Rattle.text.specs.Classes.{within}
 use Rattle.text.specs.Utf8.{behindFour, behindThree, codeOf, codeOf4, secondByte, tailByte, widthOf, Tail, charLen}
-
-pub cond-same : {A : Type 0} (t : Bool) (x : A) → cond t x x ≡ x
-cond-same true x = refl
-cond-same false x = refl
 
 -- ---- the code point of an ASCII byte
 

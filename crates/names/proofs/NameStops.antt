@@ -5,35 +5,35 @@ use mathlib.Core.Bool.{Bool, _&&_, _||_, false, not, true, cond}
 use mathlib.Core.List.{List, [], _++_, _∷_}
 use mathlib.Core.Path.{_∙_, _≡_, ap, ap₂, refl, sym}
 use lib.Dec.{eqb, ltb}
-use lib.ListN.{List·getD-append, getD, length, drop, length-append}
-use lib.Seq.{getD-append-seam}
-use borrow.Author.Tests.{ltb-true, ne-eqb, not-true}
-use Rattle.names.proofs.CharStops.{char-reach, chars-reach, foreign-stopped}
-use Rattle.names.specs.Characters.{charIf, chars, foreignFront}
+use lib.ListN.{length, drop}
+use borrow.Author.Tests.{ltb-true, not-true}
+use Rattle.names.proofs.CharStops.{char-reach, chars-reach}
+use Rattle.names.specs.Characters.{charIf, chars}
 use Rattle.names.specs.Classify.{beginsFloat, byIdentifier, floatWords, missing, named, suffixed, wordOf}
 use Rattle.names.specs.Identifiers.{identifierOf, nameLen, orAsked, plainOf, rawOf, skipIdentifierOf, strictOf}
-use Rattle.names.specs.Starts.{beginsRaw, beginsString, startsAt, startsWith, startsWithOne, stringStarts}
+use Rattle.names.specs.Starts.{beginsRaw, beginsString, startsWithOne, stringStarts}
 use Rattle.names.specs.declared.Identifier.{Identifier}
 use Rattle.names.specs.declared.Identifier.the-variants.{Missing, Name, RawName, Refused}
 use Rattle.names.specs.declared.Word.{Word}
 use Rattle.names.specs.declared.Word.the-variants.{Float, Plain, Raw, Refused as NotName}
-use Rattle.text.proofs.Choices.{and-false, and-true, either, lt-or-le, or-left, or-right, cond-cases}
+use Rattle.text.proofs.Choices.{and-true, or-left, or-right, cond-cases}
 use Rattle.text.proofs.Stops.{behind, Stopped, always, on₂, Reach, bind, on, on₃, sum, empty-stopped}
-use Rattle.text.specs.Classes.{digit, identFirst, identNext, identRaw, letter, oneOf, within}
+use Rattle.text.proofs.ClassLaws.{allOf}
+use Rattle.text.proofs.WordLaws.{differs, foreign-stopped, starts-past, starts-stopped}
+use Rattle.text.specs.Classes.{digit, identFirst, identNext, identRaw, letter, oneOf, within, foreignAhead}
 use Rattle.text.specs.Refusals.{eof, expectedString, foreignChar, unexpectedChar}
 
 -- a byte of ASCII that is no character of a name or raw name, no quote and no `#`
 unfoldable pub nameStop : ℕ → Bool
 nameStop c = ltb c 0x80 && not (oneOf (0x22 ∷ 0x23 ∷ 0x27 ∷ []) c || identRaw c)
 
--- each byte of a word is none
-abbrev pub noStops : List ℕ → Bool
-noStops [] = true
-noStops (w ∷ ws) = not (nameStop w) && noStops ws
+-- any other byte
+abbrev pub kept : ℕ → Bool
+kept w = not (nameStop w)
 
-abbrev pub noStopsIn : List (List ℕ) → Bool
-noStopsIn [] = true
-noStopsIn (w ∷ ws) = noStops w && noStopsIn ws
+abbrev pub keptIn : List (List ℕ) → Bool
+keptIn [] = true
+keptIn (w ∷ ws) = allOf kept w && keptIn ws
 
 module _ (c : ℕ) (is : nameStop c ≡ true) where
   -- ---- what such a byte is not
@@ -55,49 +55,19 @@ module _ (c : ℕ) (is : nameStop c ≡ true) where
   unfolding identFirst identNext
   not-first = rw (or-left (letter c) (digit c || eqb c 0x5f) not-next) (or-right (digit c) (eqb c 0x5f) (or-right (letter c) (digit c || eqb c 0x5f) not-next))
 
-  pub not-byte : (w : ℕ) → not (nameStop w) ≡ true → eqb c w ≡ false
-  not-byte w n = ne-eqb c w (λ e. (let z : _≡_ {A = Bool} true false = sym is ∙ ap nameStop e ∙ not-true (nameStop w) n in let y : _≡_ {A = ℕ} 0 1 = cc in omega arith))
-
   -- ---- words
-  at-seam : (u v : List ℕ) (i : ℕ) → i ≡ length u → getD (u ++ c ∷ v) i 0 ≡ c
-  at-seam u v i e = ap (λ (k : ℕ). getD (u ++ c ∷ v) k 0) e ∙ getD-append-seam u c v 0
+  kept-out : kept c ≡ false
+  kept-out = rw is
 
-  at-same : (u v v′ : List ℕ) (i : ℕ) → i ≤ length u → getD (u ++ c ∷ v) i 0 ≡ getD (u ++ c ∷ v′) i 0
-  at-same u v v′ i h =
-      either (lt-or-le i (length u))
-      (λ l. List·getD-append u (c ∷ v) 0 i l ∙ sym (List·getD-append u (c ∷ v′) 0 i l))
-      (λ l. at-seam u v i (omega arith) ∙ sym (at-seam u v′ i (omega arith)))
+  pub not-byte : (w : ℕ) → kept w ≡ true → eqb c w ≡ false
+  not-byte = differs kept c kept-out
 
-  starts-same : (ws : List ℕ) → noStops ws ≡ true → (u v v′ : List ℕ) (i : ℕ) → i ≤ length u → startsAt ws (u ++ c ∷ v) i ≡ startsAt ws (u ++ c ∷ v′) i
-  starts-same [] n u v v′ i h = refl
-  starts-same (w ∷ []) n u v v′ i h = ap (λ (b : ℕ). eqb b w) (at-same u v v′ i h)
-  starts-same (w ∷ x ∷ ws) n u v v′ i h =
-      let no = and-true (not (nameStop w)) (noStops (x ∷ ws)) n in
-      either (lt-or-le i (length u))
-      (λ l. ap₂ (λ (b : ℕ) (t : Bool). eqb b w && t) (at-same u v v′ i h) (starts-same (x ∷ ws) (no .1) u v v′ (i + 1) (omega arith)))
-      (λ l. let e : i ≡ length u = omega arith in
-      rw (at-seam u v i e, at-seam u v′ i e, not-byte w (no .0)))
-
-  pub starts-stopped : (ws : List ℕ) → noStops ws ≡ true → Stopped c (startsWith ws)
-  unfolding startsWith
-  starts-stopped ws n = record { same = λ u v v′. starts-same ws n u v v′ 0 (omega arith) }
-
-  one-stopped : (ws : List (List ℕ)) → noStopsIn ws ≡ true → Stopped c (startsWithOne ws)
+  one-stopped : (ws : List (List ℕ)) → keptIn ws ≡ true → Stopped c (startsWithOne ws)
   one-stopped [] n = always false
-  one-stopped (w ∷ []) n = starts-stopped w (and-true (noStops w) true n .0)
+  one-stopped (w ∷ []) n = starts-stopped kept c kept-out w (and-true (allOf kept w) true n .0)
   one-stopped (w ∷ x ∷ ws) n =
-      let no = and-true (noStops w) (noStopsIn (x ∷ ws)) n in
-      on₂ (λ (a b : Bool). a || b) (starts-stopped w (no .0)) (one-stopped (x ∷ ws) (no .1))
-
-  -- a word that is longer than what stands in front
-  starts-short : (ws : List ℕ) → noStops ws ≡ true → (u v : List ℕ) (i : ℕ) → i ≤ length u → length u < i + length ws → startsAt ws (u ++ c ∷ v) i ≡ false
-  starts-short [] n u v i h l = absurd (omega arith)
-  starts-short (w ∷ []) n u v i h l = rw (at-seam u v i (omega arith)) (not-byte w (and-true (not (nameStop w)) true n .0))
-  starts-short (w ∷ x ∷ ws) n u v i h l =
-      let no = and-true (not (nameStop w)) (noStops (x ∷ ws)) n in
-      either (lt-or-le i (length u))
-      (λ k. rw (starts-short (x ∷ ws) (no .1) u v (i + 1) (omega arith) (omega arith)) (and-false (eqb (getD (u ++ c ∷ v) i 0) w)))
-      (λ k. rw (at-seam u v i (omega arith), not-byte w (no .0)))
+      let no = and-true (allOf kept w) (keptIn (x ∷ ws)) n in
+      on₂ (λ (a b : Bool). a || b) (starts-stopped kept c kept-out w (no .0)) (one-stopped (x ∷ ws) (no .1))
 
   string-stopped : Stopped c beginsString
   unfolding beginsString nameStop identRaw identNext letter digit within
@@ -105,11 +75,11 @@ module _ (c : ℕ) (is : nameStop c ≡ true) where
 
   raw-stopped : Stopped c beginsRaw
   unfolding beginsRaw nameStop identRaw identNext letter digit within
-  raw-stopped = starts-stopped (0x72 ∷ 0x23 ∷ []) refl
+  raw-stopped = starts-stopped kept c kept-out (0x72 ∷ 0x23 ∷ []) refl
 
   no-raw : (u v : List ℕ) → length u < 2 → beginsRaw (u ++ c ∷ v) ≡ false
-  unfolding beginsRaw startsWith nameStop identRaw identNext letter digit within
-  no-raw u v l = starts-short (0x72 ∷ 0x23 ∷ []) refl u v 0 (omega arith) l
+  unfolding beginsRaw nameStop identRaw identNext letter digit within
+  no-raw u v l = starts-past kept c kept-out (0x72 ∷ 0x23 ∷ []) refl u v l
 
   -- ---- lengths
   pub name-reach : Reach c nameLen
@@ -143,14 +113,14 @@ module _ (c : ℕ) (is : nameStop c ≡ true) where
 
   -- ---- a raw name, behind its `r#`
   behind-hash : List ℕ → Identifier
-  behind-hash t = let n = chars identRaw t in cond (foreignFront (drop n t)) (Refused (foreignChar (2 + n))) (cond (eqb n 0) Missing (RawName (2 + n)))
+  behind-hash t = let n = chars identRaw t in cond (foreignAhead (drop n t)) (Refused (foreignChar (2 + n))) (cond (eqb n 0) Missing (RawName (2 + n)))
 
   hash-is : (x y : ℕ) (t : List ℕ) → rawOf (x ∷ y ∷ t) ≡ behind-hash t
   unfolding rawOf behind-hash
   hash-is x y t =
       let n : ℕ = chars identRaw t in
       let e : 2 + n ≡ suc (suc n) = omega arith in
-      ap (λ (k : ℕ). cond (foreignFront (drop k (x ∷ y ∷ t))) (Refused (foreignChar (2 + n))) (cond (eqb n 0) Missing (RawName (2 + n)))) e
+      ap (λ (k : ℕ). cond (foreignAhead (drop k (x ∷ y ∷ t))) (Refused (foreignChar (2 + n))) (cond (eqb n 0) Missing (RawName (2 + n)))) e
 
   hash-stopped : Stopped c behind-hash
   unfolding behind-hash
@@ -188,14 +158,14 @@ module _ (c : ℕ) (is : nameStop c ≡ true) where
   float-stopped = one-stopped floatWords refl
 
   no-float : (u v : List ℕ) → length u < 3 → beginsFloat (u ++ c ∷ v) ≡ false
-  unfolding beginsFloat startsWith nameStop identRaw identNext letter digit within
-  no-float u v l = rw (starts-short (0x69 ∷ 0x6e ∷ 0x66 ∷ []) refl u v 0 (omega arith) l) (starts-short (0x4e ∷ 0x61 ∷ 0x4e ∷ []) refl u v 0 (omega arith) l)
+  unfolding beginsFloat nameStop identRaw identNext letter digit within
+  no-float u v l = rw (starts-past kept c kept-out (0x69 ∷ 0x6e ∷ 0x66 ∷ []) refl u v l) (starts-past kept c kept-out (0x4e ∷ 0x61 ∷ 0x4e ∷ []) refl u v l)
 
   suffixed-stopped : (n : ℕ) → Stopped c (λ t. suffixed t n)
   unfolding suffixed nameStop identRaw identNext letter digit within
   suffixed-stopped n =
       on₂ (λ (a b : Bool). cond a (Float n 32) (cond b (Float n 64) (Plain n)))
-      (starts-stopped (0x66 ∷ 0x33 ∷ 0x32 ∷ []) refl) (starts-stopped (0x66 ∷ 0x36 ∷ 0x34 ∷ []) refl)
+      (starts-stopped kept c kept-out (0x66 ∷ 0x33 ∷ 0x32 ∷ []) refl) (starts-stopped kept c kept-out (0x66 ∷ 0x36 ∷ 0x34 ∷ []) refl)
 
   named-same : (n : ℕ) (u v v′ : List ℕ) → named (u ++ c ∷ v) n ≡ named (u ++ c ∷ v′) n
   unfolding named

@@ -8,7 +8,7 @@ use lib.ListN.{drop, length}
 use Rattle.names.proofs.IdentifierLaws.{Within, raw-long, skip-within}
 use Rattle.names.specs.Classify.{beginsFloat, byIdentifier, missing, named, suffixed, wordOf}
 use Rattle.names.specs.Identifiers.{skipIdentifierOf}
-use Rattle.names.specs.Starts.{beginsRaw, startsWith}
+use Rattle.names.specs.Starts.{beginsRaw}
 use Rattle.names.specs.declared.Identifier.{Identifier}
 use Rattle.names.specs.declared.Identifier.the-variants.{Missing, Name, RawName, Refused}
 use Rattle.names.specs.declared.Word.{Word}
@@ -16,6 +16,7 @@ use Rattle.names.specs.declared.Word.the-variants.{Float, Plain, Raw, Re
 use Rattle.text.proofs.Choices.{cond-cases}
 use Rattle.text.specs.Refusals.{expectedString, unexpectedChar}
 use Rattle.text.specs.declared.refusal.Refusal.{Refusal}
+use Rattle.text.specs.Words.{startsWith}
 
 abbrev pub Bounded : List ℕ → Word → Type 0
 Bounded s (Plain n) = (0 < n) × (n ≤ length s)

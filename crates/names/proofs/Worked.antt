@@ -4,15 +4,16 @@ use mathlib.Core.Bool.{Bool, _&&_, true}
 use mathlib.Core.List.{List, [], _∷_}
 use mathlib.Core.Path.{_≡_, refl}
 use Rattle.names.proofs.NameStops.{nameStop}
-use Rattle.names.specs.Characters.{charIf, chars, charsFrom, foreignFront}
+use Rattle.names.specs.Characters.{charIf, chars, charsFrom}
 use Rattle.names.specs.Classify.{beginsFloat, missing, named, suffixed, wordOf}
 use Rattle.names.specs.Identifiers.{identifierOf, nameLen, plainOf, rawOf, skipIdentifierOf, strictOf}
-use Rattle.names.specs.Starts.{beginsRaw, beginsString, startsWith}
+use Rattle.names.specs.Starts.{beginsRaw, beginsString}
 use Rattle.names.specs.declared.Identifier.the-variants.{Missing, Name, RawName, Refused}
 use Rattle.names.specs.declared.Word.the-variants.{Float, Plain, Raw, Refused as NotName}
-use Rattle.text.specs.Classes.{blank1, blank2, blank3, blankWidth, digit, foreign, identFirst, identNext, identRaw, letter, within}
+use Rattle.text.specs.Classes.{blank1, blank2, blank3, blankWidth, digit, foreign, identFirst, identNext, identRaw, letter, within, foreignAhead}
 use Rattle.text.specs.Refusals.{eof, expectedString, foreignChar, unexpectedChar}
 use Rattle.text.specs.Utf8.{behindFour, behindThree, charLen, codeOf, codeOf4, secondByte, widthOf}
+use Rattle.text.specs.Words.{startsWith}
 
 -- `a`, `_1`, `a.b`, `r`, `bc`, `a` in front of U+0085: a plain name takes no `.` and ends at whitespace
 names : (wordOf (0x61 ∷ []) ≡ Plain 1)
@@ -21,7 +22,7 @@ names : (wordOf (0x61 ∷ []) ≡ Plain 1)
     × (wordOf (0x72 ∷ []) ≡ Plain 1)
     × (wordOf (0x62 ∷ 0x63 ∷ []) ≡ Plain 2)
     × (wordOf (0x61 ∷ 0xc2 ∷ 0x85 ∷ 0x62 ∷ []) ≡ Plain 1)
-unfolding wordOf named beginsFloat suffixed missing skipIdentifierOf beginsString startsWith beginsRaw rawOf plainOf nameLen charIf chars charsFrom foreignFront foreign blankWidth blank1 blank2 blank3 codeOf codeOf4 charLen widthOf behindThree behindFour secondByte within identFirst identNext identRaw letter digit
+unfolding wordOf named beginsFloat suffixed missing skipIdentifierOf beginsString startsWith beginsRaw rawOf plainOf nameLen charIf chars charsFrom foreignAhead foreign blankWidth blank1 blank2 blank3 codeOf codeOf4 charLen widthOf behindThree behindFour secondByte within identFirst identNext identRaw letter digit
 names = (refl, refl, refl, refl, refl, refl)
 
 -- `r#a`, `r#1`, `r#.`, `r#a.b-c`: a raw name takes `. + -`, and its `r#` counts
@@ -29,7 +30,7 @@ raw-names : (wordOf (0x72 ∷ 0x23 ∷ 0x61 ∷ []) ≡ Raw 3)
     × (wordOf (0x72 ∷ 0x23 ∷ 0x31 ∷ []) ≡ Raw 3)
     × (wordOf (0x72 ∷ 0x23 ∷ 0x2e ∷ []) ≡ Raw 3)
     × (wordOf (0x72 ∷ 0x23 ∷ 0x61 ∷ 0x2e ∷ 0x62 ∷ 0x2d ∷ 0x63 ∷ []) ≡ Raw 7)
-unfolding wordOf named beginsFloat suffixed missing skipIdentifierOf beginsString startsWith beginsRaw rawOf plainOf nameLen charIf chars charsFrom foreignFront foreign blankWidth blank1 blank2 blank3 codeOf codeOf4 charLen widthOf behindThree behindFour secondByte within identFirst identNext identRaw letter digit
+unfolding wordOf named beginsFloat suffixed missing skipIdentifierOf beginsString startsWith beginsRaw rawOf plainOf nameLen charIf chars charsFrom foreignAhead foreign blankWidth blank1 blank2 blank3 codeOf codeOf4 charLen widthOf behindThree behindFour secondByte within identFirst identNext identRaw letter digit
 raw-names = (refl, refl, refl, refl)
 
 -- `inf`, `NaN`, `inff32`, `NaNf64`
@@ -37,7 +38,7 @@ floats : (wordOf (0x69 ∷ 0x6e ∷ 0x66 ∷ []) ≡ Float 3 0)
     × (wordOf (0x4e ∷ 0x61 ∷ 0x4e ∷ []) ≡ Float 3 0)
     × (wordOf (0x69 ∷ 0x6e ∷ 0x66 ∷ 0x66 ∷ 0x33 ∷ 0x32 ∷ []) ≡ Float 6 32)
     × (wordOf (0x4e ∷ 0x61 ∷ 0x4e ∷ 0x66 ∷ 0x36 ∷ 0x34 ∷ []) ≡ Float 6 64)
-unfolding wordOf named beginsFloat suffixed missing skipIdentifierOf beginsString startsWith beginsRaw rawOf plainOf nameLen charIf chars charsFrom foreignFront foreign blankWidth blank1 blank2 blank3 codeOf codeOf4 charLen widthOf behindThree behindFour secondByte within identFirst identNext identRaw letter digit
+unfolding wordOf named beginsFloat suffixed missing skipIdentifierOf beginsString startsWith beginsRaw rawOf plainOf nameLen charIf chars charsFrom foreignAhead foreign blankWidth blank1 blank2 blank3 codeOf codeOf4 charLen widthOf behindThree behindFour secondByte within identFirst identNext identRaw letter digit
 floats = (refl, refl, refl, refl)
 
 -- `inf_`, `infx`, `NaNf32x`, `infinity`, `nan`, `inff16`, `r#inf`
@@ -48,7 +49,7 @@ no-floats : (wordOf (0x69 ∷ 0x6e ∷ 0x66 ∷ 0x5f ∷ []) ≡ Plain 4)
     × (wordOf (0x6e ∷ 0x61 ∷ 0x6e ∷ []) ≡ Plain 3)
     × (wordOf (0x69 ∷ 0x6e ∷ 0x66 ∷ 0x66 ∷ 0x31 ∷ 0x36 ∷ []) ≡ Plain 6)
     × (wordOf (0x72 ∷ 0x23 ∷ 0x69 ∷ 0x6e ∷ 0x66 ∷ []) ≡ Raw 5)
-unfolding wordOf named beginsFloat suffixed missing skipIdentifierOf beginsString startsWith beginsRaw rawOf plainOf nameLen charIf chars charsFrom foreignFront foreign blankWidth blank1 blank2 blank3 codeOf codeOf4 charLen widthOf behindThree behindFour secondByte within identFirst identNext identRaw letter digit
+unfolding wordOf named beginsFloat suffixed missing skipIdentifierOf beginsString startsWith beginsRaw rawOf plainOf nameLen charIf chars charsFrom foreignAhead foreign blankWidth blank1 blank2 blank3 codeOf codeOf4 charLen widthOf behindThree behindFour secondByte within identFirst identNext identRaw letter digit
 no-floats = (refl, refl, refl, refl, refl, refl, refl)
 
 -- `é`, `aé`, `bé`, `r#é`, `r#a.é`, `infé`, `NaNf32é`: 3 at the character that is asked for
@@ -59,7 +60,7 @@ asked : (wordOf (0xc3 ∷ 0xa9 ∷ []) ≡ NotName (foreignChar 0))
     × (wordOf (0x72 ∷ 0x23 ∷ 0x61 ∷ 0x2e ∷ 0xc3 ∷ 0xa9 ∷ []) ≡ NotName (foreignChar 4))
     × (wordOf (0x69 ∷ 0x6e ∷ 0x66 ∷ 0xc3 ∷ 0xa9 ∷ []) ≡ NotName (foreignChar 3))
     × (wordOf (0x4e ∷ 0x61 ∷ 0x4e ∷ 0x66 ∷ 0x33 ∷ 0x32 ∷ 0xc3 ∷ 0xa9 ∷ []) ≡ NotName (foreignChar 6))
-unfolding wordOf named beginsFloat suffixed missing skipIdentifierOf beginsString startsWith beginsRaw rawOf plainOf nameLen charIf chars charsFrom foreignFront foreign blankWidth blank1 blank2 blank3 codeOf codeOf4 charLen widthOf behindThree behindFour secondByte within identFirst identNext identRaw letter digit
+unfolding wordOf named beginsFloat suffixed missing skipIdentifierOf beginsString startsWith beginsRaw rawOf plainOf nameLen charIf chars charsFrom foreignAhead foreign blankWidth blank1 blank2 blank3 codeOf codeOf4 charLen widthOf behindThree behindFour secondByte within identFirst identNext identRaw letter digit
 asked = (refl, refl, refl, refl, refl, refl, refl)
 
 -- `r#`, `r# a`, `r#(`: 16 two bytes on; `*`, `;`: 5 there
@@ -68,7 +69,7 @@ no-names : (wordOf (0x72 ∷ 0x23 ∷ []) ≡ NotName (expectedString 2))
     × (wordOf (0x72 ∷ 0x23 ∷ 0x28 ∷ []) ≡ NotName (expectedString 2))
     × (wordOf (0x2a ∷ []) ≡ NotName (unexpectedChar 0))
     × (wordOf (0x3b ∷ []) ≡ NotName (unexpectedChar 0))
-unfolding wordOf named beginsFloat suffixed missing skipIdentifierOf beginsString startsWith beginsRaw rawOf plainOf nameLen charIf chars charsFrom foreignFront foreign blankWidth blank1 blank2 blank3 codeOf codeOf4 charLen widthOf behindThree behindFour secondByte within identFirst identNext identRaw letter digit
+unfolding wordOf named beginsFloat suffixed missing skipIdentifierOf beginsString startsWith beginsRaw rawOf plainOf nameLen charIf chars charsFrom foreignAhead foreign blankWidth blank1 blank2 blank3 codeOf codeOf4 charLen widthOf behindThree behindFour secondByte within identFirst identNext identRaw letter digit
 no-names = (refl, refl, refl, refl, refl)
 
 -- what the list of an attribute asks for: `a`, `r#a`, `a.`, `5`, `b"a"`, no byte, `a.é`, `5é`
@@ -80,7 +81,7 @@ strict : (identifierOf (0x61 ∷ []) ≡ Name 1)
     × (identifierOf [] ≡ Refused (eof 0))
     × (identifierOf (0x61 ∷ 0x2e ∷ 0xc3 ∷ 0xa9 ∷ []) ≡ Refused (foreignChar 2))
     × (identifierOf (0x35 ∷ 0xc3 ∷ 0xa9 ∷ []) ≡ Refused (foreignChar 1))
-unfolding identifierOf strictOf beginsString startsWith beginsRaw rawOf nameLen charIf chars charsFrom foreignFront foreign blankWidth blank1 blank2 blank3 codeOf codeOf4 charLen widthOf behindThree behindFour secondByte within identFirst identNext identRaw letter digit
+unfolding identifierOf strictOf beginsString startsWith beginsRaw rawOf nameLen charIf chars charsFrom foreignAhead foreign blankWidth blank1 blank2 blank3 codeOf codeOf4 charLen widthOf behindThree behindFour secondByte within identFirst identNext identRaw letter digit
 strict = (refl, refl, refl, refl, refl, refl, refl, refl)
 
 -- what a struct's kind asks for: `a`, `inf`, `b'a'`, `r#"a"#`, `br#`, `5`, `aé`
@@ -91,7 +92,7 @@ skipped : (skipIdentifierOf (0x61 ∷ []) ≡ Name 1)
     × (skipIdentifierOf (0x62 ∷ 0x72 ∷ 0x23 ∷ []) ≡ Missing)
     × (skipIdentifierOf (0x35 ∷ []) ≡ Missing)
     × (skipIdentifierOf (0x61 ∷ 0xc3 ∷ 0xa9 ∷ []) ≡ Refused (foreignChar 1))
-unfolding skipIdentifierOf beginsString startsWith beginsRaw rawOf plainOf nameLen charIf chars charsFrom foreignFront foreign blankWidth blank1 blank2 blank3 codeOf codeOf4 charLen widthOf behindThree behindFour secondByte within identFirst identNext identRaw letter digit
+unfolding skipIdentifierOf beginsString startsWith beginsRaw rawOf plainOf nameLen charIf chars charsFrom foreignAhead foreign blankWidth blank1 blank2 blank3 codeOf codeOf4 charLen widthOf behindThree behindFour secondByte within identFirst identNext identRaw letter digit
 skipped = (refl, refl, refl, refl, refl, refl, refl)
 
 abbrev allStop : List ℕ → Bool

@@ -1,10 +1,8 @@
 -- Characters of a name, by code point and width (document 01, module 1): "Name: first a letter or `_`, then letters, digits, `_`; a raw name also takes `. + -`."
--- Refusal 3: "a name's first or next character is asked for, and the one there is above U+007F and not whitespace".
 use Prim.Native.Nat.{ℕ, zero, suc}
 use mathlib.Core.Bool.{Bool, cond}
 use mathlib.Core.List.{List, [], _∷_}
-use lib.ListN.{getD}
-use Rattle.text.specs.Classes.{identFirst, identNext, identRaw, foreign}
+use Rattle.text.specs.Classes.{identFirst, identNext, identRaw}
 use Rattle.text.specs.Utf8.{charLen, codeOf}
 use Rattle.names.specs.declared.Class.{Class}
 use Rattle.names.specs.declared.Class.the-variants.{First, Next, Raw}
@@ -33,7 +31,3 @@ charsFrom p (a ∷ s) zero = byCharWidth (charIf p (a ∷ s)) (λ n. suc (charsF
 -- How many bytes from the front are characters of the class.
 unfoldable pub chars : (ℕ → Bool) → List ℕ → ℕ
 chars p s = charsFrom p s 0
-
--- The character at the front is above U+007F and not whitespace.
-unfoldable pub foreignFront : List ℕ → Bool
-foreignFront s = foreign (getD s 0 0) (getD s 1 0) (getD s 2 0)

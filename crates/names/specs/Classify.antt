@@ -7,7 +7,8 @@ use lib.ListN.{drop}
 use lib.Dec.{eqb}
 use Rattle.text.specs.declared.refusal.Refusal.{Refusal}
 use Rattle.text.specs.Refusals.{unexpectedChar, expectedString}
-use Rattle.names.specs.Starts.{startsWith, startsWithOne, beginsRaw}
+use Rattle.text.specs.Words.{startsWith}
+use Rattle.names.specs.Starts.{startsWithOne, beginsRaw}
 use Rattle.names.specs.Identifiers.{skipIdentifierOf}
 use Rattle.names.specs.declared.Identifier.{Identifier}
 use Rattle.names.specs.declared.Identifier.the-variants.{Missing, Name, RawName, Refused as Asked}

@@ -4,9 +4,9 @@ use mathlib.Core.Bool.{Bool, cond}
 use mathlib.Core.List.{List}
 use lib.ListN.{length, drop}
 use lib.Dec.{eqb, ltb}
-use Rattle.text.specs.Classes.{identFirst, identNext, identRaw}
+use Rattle.text.specs.Classes.{identFirst, identNext, identRaw, foreignAhead}
 use Rattle.text.specs.Refusals.{foreignChar, eof}
-use Rattle.names.specs.Characters.{charIf, chars, foreignFront}
+use Rattle.names.specs.Characters.{charIf, chars}
 use Rattle.names.specs.Starts.{beginsString, beginsRaw}
 use Rattle.names.specs.declared.Identifier.{Identifier}
 use Rattle.names.specs.declared.Identifier.the-variants.{Missing, Name, RawName, Refused}
@@ -17,7 +17,7 @@ nameLen s = let first = charIf identFirst s in cond (eqb first 0) 0 (first + cha
 
 -- The answer where n bytes were passed: 3 where the character there is asked for, and else what was found.
 abbrev pub orAsked : List ℕ → ℕ → Identifier → Identifier
-orAsked s n found = cond (foreignFront (drop n s)) (Refused (foreignChar n)) found
+orAsked s n found = cond (foreignAhead (drop n s)) (Refused (foreignChar n)) found
 
 -- A name.
 unfoldable pub plainOf : List ℕ → Identifier

@@ -1,19 +1,8 @@
 -- Words at the front of a part (document 01, module 9): "`b'` integer; `b"` `br"` `br#` byte string; `r"` `r#"` `r##` string; `r#` raw name".
-use Prim.Native.Nat.{ℕ, _+_}
-use mathlib.Core.Bool.{Bool, true, false, _&&_, _||_}
+use Prim.Native.Nat.{ℕ}
+use mathlib.Core.Bool.{Bool, false, _||_}
 use mathlib.Core.List.{List, [], _∷_}
-use lib.ListN.{getD}
-use lib.Dec.{eqb}
-
--- The word stands at i; past the end stands 0, which is in no word.
-abbrev pub startsAt : List ℕ → List ℕ → ℕ → Bool
-startsAt [] s i = true
-startsAt (w ∷ []) s i = eqb (getD s i 0) w
-startsAt (w ∷ v ∷ ws) s i = eqb (getD s i 0) w && startsAt (v ∷ ws) s (i + 1)
-
--- The part begins with the word.
-unfoldable pub startsWith : List ℕ → List ℕ → Bool
-startsWith word s = startsAt word s 0
+use Rattle.text.specs.Words.{startsWith}
 
 -- The part begins with one of the words.
 abbrev pub startsWithOne : List (List ℕ) → List ℕ → Bool

@@ -1,10 +1,9 @@
 // Characters at the front of a part, by code point and width; an ASCII byte is tested first.
 use crate::Class;
-use text::bytes::peek;
 use text::classes;
 use text::utf8;
 ghost use mathlib.Core.Path.{_≡_};
-ghost use Rattle.names.specs.Characters.{identChar, charIf, chars, foreignFront};
+ghost use Rattle.names.specs.Characters.{identChar, charIf, chars};
 
 fn is_ident_char(class: Class, c: u32) -> bool
     ensures { λ r. ⌜ r ≡ identChar class c ⌝ }
@@ -55,15 +54,4 @@ pub fn next_chars_while_len(s: &[u8], class: Class) -> usize
         i += n;
     }
     i
-}
-
-// Whether the character at the front is above U+007F and not whitespace.
-pub fn begins_foreign(s: &[u8]) -> bool
-    ensures { λ r. ⌜ r ≡ foreignFront (now (s .entry)) ⌝ }
-{
-    let a = peek(s, 0);
-    if a < 0x80 {
-        return false;
-    }
-    classes::is_foreign(a, peek(s, 1), peek(s, 2))
 }

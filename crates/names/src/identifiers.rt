@@ -1,12 +1,12 @@
 // Names and raw names at the front of a part.
 use crate::Class;
 use crate::Identifier;
-use crate::characters::begins_foreign;
 use crate::characters::char_if;
 use crate::characters::next_chars_while_len;
 use crate::starts::begins_raw;
 use crate::starts::begins_string;
 use text::Refusal;
+use text::classes::is_foreign_ahead;
 ghost use mathlib.Core.Path.{_≡_};
 ghost use Prim.Native.Nat.{_≤_};
 ghost use lib.ListN.{length};
@@ -28,7 +28,7 @@ fn plain(s: &[u8]) -> Identifier
     ensures { λ r. ⌜ r ≡ plainOf (now (s .entry)) ⌝ }
 {
     let n = name_len(s);
-    if begins_foreign(&s[n..]) {
+    if is_foreign_ahead(&s[n..]) {
         return Identifier::Refused(Refusal::foreign_char(n));
     }
     if n == 0 {
@@ -44,7 +44,7 @@ fn raw(s: &[u8]) -> Identifier
 {
     let n = next_chars_while_len(&s[2..], Class::Raw);
     let end = 2 + n;
-    if begins_foreign(&s[end..]) {
+    if is_foreign_ahead(&s[end..]) {
         return Identifier::Refused(Refusal::foreign_char(end));
     }
     if n == 0 {
@@ -70,11 +70,11 @@ fn strict(s: &[u8]) -> Identifier
     ensures { λ r. ⌜ r ≡ strictOf (now (s .entry)) ⌝ }
 {
     let n = name_len(s);
-    if begins_foreign(&s[n..]) {
+    if is_foreign_ahead(&s[n..]) {
         return Identifier::Refused(Refusal::foreign_char(n));
     }
     let raw = next_chars_while_len(s, Class::Raw);
-    if begins_foreign(&s[raw..]) {
+    if is_foreign_ahead(&s[raw..]) {
         return Identifier::Refused(Refusal::foreign_char(raw));
     }
     if n == 0 {

@@ -1,28 +1,34 @@
 // Whether a part begins with a word (the crate's `check_str`).
-use text::bytes::peek;
 ghost use mathlib.Core.Path.{_≡_};
 ghost use mathlib.Core.List.{[], _∷_};
-ghost use Rattle.names.specs.Starts.{startsWith, beginsString, beginsRaw};
+ghost use Rattle.names.specs.Starts.{beginsString, beginsRaw};
+ghost use Rattle.text.specs.Words.{startsWith};
 
 pub fn starts_with2(s: &[u8], a: u8, b: u8) -> bool
     ensures { λ r. ⌜ r ≡ startsWith (a ∷ b ∷ []) (now (s .entry)) ⌝ }
 {
-    if peek(s, 0) != a {
+    if s.len() < 2 {
         return false;
     }
-    peek(s, 1) == b
+    if s[0] != a {
+        return false;
+    }
+    s[1] == b
 }
 
 pub fn starts_with3(s: &[u8], a: u8, b: u8, c: u8) -> bool
     ensures { λ r. ⌜ r ≡ startsWith (a ∷ b ∷ c ∷ []) (now (s .entry)) ⌝ }
 {
-    if peek(s, 0) != a {
+    if s.len() < 3 {
         return false;
     }
-    if peek(s, 1) != b {
+    if s[0] != a {
         return false;
     }
-    peek(s, 2) == c
+    if s[1] != b {
+        return false;
+    }
+    s[2] == c
 }
 
 // Whether a string, a byte string or a byte literal begins at the front.

@@ -1,11 +1,12 @@
 -- Texts of document 01 and of the crate's odd corners, with the crate's answers for the number in front, computed of the definition. Assumes nothing.
 use mathlib.Core.List.{List, [], _∷_}
 use mathlib.Core.Path.{_≡_, refl}
-use Rattle.text.specs.Classes.{within, blankWidth, blank1, blank2, blank3, foreign, digit, letter, hexDigit, intChar, floatChar, identNext}
+use Rattle.text.specs.Classes.{within, blankWidth, blank1, blank2, blank3, foreign, digit, letter, hexDigit, intChar, floatChar, identNext, foreignAhead}
 use Rattle.text.specs.Runs.{run, run2}
 use Rattle.text.specs.Refusals.{refusal}
+use Rattle.text.specs.Words.{startsWith}
 use Rattle.digits.specs.Digits.{hexOf, turnOf, digitsFrom, runOf}
-use Rattle.integers.specs.Words.{startsWith, identOf, firstOf, foreignAhead}
+use Rattle.integers.specs.Words.{identOf, firstOf}
 use Rattle.integers.specs.Width.{limitAt, firstFit, widthAt, suffixWord, suffixOf}
 use Rattle.integers.specs.Front.{signOf, prefixOf, frontOf}
 use Rattle.integers.specs.Integer.{numeralOf, anyOf}

@@ -9,13 +9,12 @@ use lib.Dec.{eqb, ltb}
 use lib.ListN.{getD, length}
 use borrow.Author.Tests.{eqb-true, eqb-false, lt-ltb, ltb-true, ne-eqb, not-true}
 use Rattle.text.proofs.Choices.{and-true, cond-cases}
-use Rattle.text.proofs.ClassLaws.{blank-ascii}
+use Rattle.text.proofs.ClassLaws.{blank-ascii, one-of-all}
 use Rattle.text.specs.Classes.{blank1, blankWidth, oneOf, within}
 use Rattle.comments.proofs.GapFronts.{clear-front, clearByte}
 use Rattle.comments.specs.Gaps.{gapOf}
 use Rattle.comments.specs.declared.gap.Gap.the-variants.{Clear}
 use Rattle.comments.specs.declared.gap.Item.the-variants.{Other}
-use Rattle.reading.proofs.QuietLaws.{one-of-all}
 use Rattle.reading.specs.Tokens.{token}
 use Rattle.tokens.proofs.RonLaws.{is-token}
 use Rattle.tokens.specs.Lexemes.{lexeme, lexemeOf}

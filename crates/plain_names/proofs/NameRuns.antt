@@ -1,5 +1,5 @@
 -- Runs of the characters of a name, byte by byte. Assumes nothing.
-use Prim.Native.Nat.{ℕ, zero, suc, _+_, _<_, _≤_}
+use Prim.Native.Nat.{ℕ, zero, suc, _+_, _<_}
 use native.Mathlib.Nat.{le-of-suc-le-suc, not-suc-le-zero}
 use native.Mathlib.Omega.{arith}
 use mathlib.Core.Bool.{Bool, true, false, cond, _||_}
@@ -11,7 +11,7 @@ use borrow.Author.Tests.{ne-eqb}
 use Rattle.names.proofs.CharLaws.{char-ascii, char-nil, chars-first, chars-none}
 use Rattle.names.specs.Characters.{charIf, chars}
 use Rattle.text.proofs.Choices.{bool-cases, either, lt-or-le}
-use Rattle.text.proofs.ClassLaws.{above}
+use Rattle.text.proofs.ClassLaws.{next-wide}
 use Rattle.text.specs.Classes.{digit, identFirst, identNext, letter}
 use Rattle.text.specs.Runs.{run}
 
@@ -20,10 +20,6 @@ pub unequal : (p : ℕ → Bool) (a w : ℕ) → p a ≡ true → p w ≡ false 
 unequal p a w is isn = ne-eqb a w (λ e. (let z : _≡_ {A = Bool} true false = sym is ∙ ap p e ∙ isn in let y : _≡_ {A = ℕ} 0 1 = cc in omega arith))
 
 -- ---- the characters of a name are ASCII
-
-next-wide : (a : ℕ) → 0x80 ≤ a → identNext a ≡ false
-unfolding identNext letter digit
-next-wide a h = rw (above 0x41 0x5a a (omega arith), above 0x61 0x7a a (omega arith), above 0x30 0x39 a (omega arith), ne-eqb a 0x5f (λ e. omega arith))
 
 pub next-ascii : (a : ℕ) → identNext a ≡ true → a < 0x80
 next-ascii a is = either (lt-or-le a 0x80) (λ h. h) (λ h. let z : _≡_ {A = Bool} true false = sym is ∙ next-wide a h in let y : _≡_ {A = ℕ} 0 1 = cc in absurd (omega arith))

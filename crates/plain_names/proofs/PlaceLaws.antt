@@ -8,13 +8,14 @@ use lib.Dec.{eqb}
 use lib.ListN.{List·getD-eq-default, drop, getD, length}
 use lib.Seq.{getD-drop}
 use Rattle.names.specs.Classify.{beginsFloat}
-use Rattle.names.specs.Starts.{startsWith}
 use Rattle.reading.specs.Owed.{quietByte}
 use Rattle.text.proofs.Choices.{or-false}
 use Rattle.text.proofs.Lists.{head-at}
 use Rattle.text.proofs.RunLaws.{run-more}
+use Rattle.text.proofs.WordLaws.{starts-other}
 use Rattle.text.specs.Classes.{identFirst, identNext}
 use Rattle.text.specs.Runs.{run}
+use Rattle.text.specs.Words.{startsWith}
 use Rattle.plain_names.specs.PlainNames.{plainName}
 use Rattle.plain_names.proofs.NameRuns.{first-next}
 
@@ -41,13 +42,14 @@ none-behind s end h = rw (List·getD-eq-default s 0 {n = end} h)
 -- ---- `inf` and `NaN`, by the first byte
 
 pub float-i : (s : List ℕ) → getD s 0 0 ≡ 0x69 → beginsFloat s ≡ startsWith (0x69 ∷ 0x6e ∷ 0x66 ∷ []) s
-unfolding beginsFloat startsWith
-float-i s e = rw e (or-false (eqb (getD s 1 0) 0x6e && eqb (getD s 2 0) 0x66))
+unfolding beginsFloat
+float-i s e = rw (starts-other 0x4e (0x61 ∷ 0x4e ∷ []) s (rw e)) (or-false (startsWith (0x69 ∷ 0x6e ∷ 0x66 ∷ []) s))
 
 pub float-n : (s : List ℕ) → getD s 0 0 ≡ 0x4e → beginsFloat s ≡ startsWith (0x4e ∷ 0x61 ∷ 0x4e ∷ []) s
-unfolding beginsFloat startsWith
-float-n s e = rw e
+unfolding beginsFloat
+float-n s e = rw (starts-other 0x69 (0x6e ∷ 0x66 ∷ []) s (rw e))
 
 pub no-float : (s : List ℕ) (at : ℕ) → eqb (getD s at 0) 0x69 ≡ false → eqb (getD s at 0) 0x4e ≡ false → beginsFloat (drop at s) ≡ false
-unfolding beginsFloat startsWith
-no-float s at i n = rw (head-at s at, i, n)
+unfolding beginsFloat
+no-float s at i n =
+    rw (starts-other 0x69 (0x6e ∷ 0x66 ∷ []) (drop at s) (rw (head-at s at) i), starts-other 0x4e (0x61 ∷ 0x4e ∷ []) (drop at s) (rw (head-at s at) n))

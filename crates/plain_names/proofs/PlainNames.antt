@@ -5,25 +5,26 @@ use native.Mathlib.Omega.{arith}
 use mathlib.Core.Bool.{Bool, true, false, cond, not, _&&_}
 use mathlib.Core.List.{List, [], _∷_}
 use mathlib.Core.Path.{_≡_, ap, refl, sym, subst, _∙_}
-use lib.Dec.{eqb, ltb}
+use lib.Dec.{eqb, leb, ltb}
 use lib.ListN.{getD, length, drop}
 use lib.Seq.{getD-drop}
 use borrow.Author.Tests.{ltb-true, lt-ltb, le-ltb, lt-leb, ne-eqb, not-true}
-use Rattle.text.proofs.Choices.{and-false, and-true, either, lt-or-le, chosen}
+use Rattle.text.proofs.Choices.{and-false, and-true, either, lt-or-le, chosen, cond-same}
 use Rattle.text.proofs.ClassLaws.{above, below, blank-ascii}
 use Rattle.text.proofs.Lists.{head-at}
 use Rattle.text.proofs.RunLaws.{run-le, run-more, run-holds}
-use Rattle.text.specs.Classes.{blank1, blankWidth, digit, foreign, identFirst, identNext, letter, within}
+use Rattle.text.proofs.WordLaws.{starts-three, starts-two}
+use Rattle.text.specs.Classes.{blank1, blankWidth, digit, foreign, identFirst, identNext, letter, within, foreignAhead}
 use Rattle.text.specs.Runs.{run}
+use Rattle.text.specs.Words.{startsWith}
 use Rattle.comments.proofs.GapFronts.{clear-front, clearByte}
 use Rattle.comments.specs.Gaps.{gapOf}
 use Rattle.comments.specs.declared.gap.Gap.the-variants.{Clear}
 use Rattle.names.proofs.CharLaws.{char-ascii}
-use Rattle.names.proofs.More.{cond-same}
-use Rattle.names.specs.Characters.{charIf, foreignFront}
+use Rattle.names.specs.Characters.{charIf}
 use Rattle.names.specs.Classify.{beginsFloat, byIdentifier, named, wordOf}
 use Rattle.names.specs.Identifiers.{nameLen, plainOf, skipIdentifierOf}
-use Rattle.names.specs.Starts.{beginsRaw, beginsString, startsWith}
+use Rattle.names.specs.Starts.{beginsRaw, beginsString}
 use Rattle.names.specs.declared.Identifier.the-variants.{Name}
 use Rattle.names.specs.declared.Word.{Word as Named}
 use Rattle.names.specs.declared.Word.the-variants.{Plain}
@@ -175,13 +176,21 @@ module _ (s : List ℕ) (f : Found s) where
   shape-is : shapeAt s ≡ Word
   shape-is = a-word (getD s 0 0) (f .first) (getD s 1 0) (getD s 2 0) b-word r-word
 
+  no-two : (a b : ℕ) → eqb (getD s 1 0) b ≡ false → startsWith (a ∷ b ∷ []) s ≡ false
+  no-two a b e = starts-two a b s ∙ rw (e, and-false (eqb (getD s 0 0) a)) (and-false (leb 2 (length s)))
+
+  no-three : (a b c : ℕ) → (eqb (getD s 1 0) b && eqb (getD s 2 0) c) ≡ false → startsWith (a ∷ b ∷ c ∷ []) s ≡ false
+  no-three a b c e = starts-three a b c s ∙ rw (e, and-false (eqb (getD s 0 0) a)) (and-false (leb 3 (length s)))
+
   no-string : beginsString s ≡ false
-  unfolding beginsString startsWith
-  no-string = simp (no-quote, no-tick, no-hash, no-r-quote, no-r-hash, and-false)
+  unfolding beginsString
+  no-string =
+      rw (no-two 0x62 0x22 no-quote, no-two 0x62 0x27 no-tick, no-three 0x62 0x72 0x23 no-r-hash, no-three 0x62 0x72 0x22 no-r-quote)
+      (rw (no-two 0x72 0x22 no-quote, no-three 0x72 0x23 0x22 (rw no-hash), no-three 0x72 0x23 0x23 (rw no-hash)))
 
   no-raw : beginsRaw s ≡ false
-  unfolding beginsRaw startsWith
-  no-raw = rw no-hash (and-false (eqb (getD s 0 0) 0x72))
+  unfolding beginsRaw
+  no-raw = no-two 0x72 0x23 no-hash
 
   -- ---- and reads as a name of its length
   quiet-ascii : getD s len 0 < 0x80
@@ -204,8 +213,8 @@ module _ (s : List ℕ) (f : Found s) where
       let one : charIf identFirst s ≡ 1 = char-ascii identFirst s holds-one (first-ascii (getD s 0 0) (f .first)) ∙ ap (λ (t : Bool). cond t 1 0) (f .first) in
       rw one (ap (λ (n : ℕ). 1 + n) (chars-run (drop 1 s) rest-ascii) ∙ sym rest-is)
 
-  not-asked : foreignFront (drop len s) ≡ false
-  unfolding foreignFront foreign
+  not-asked : foreignAhead (drop len s) ≡ false
+  unfolding foreignAhead foreign
   not-asked = rw (head-at s len, lt-leb 0x80 (getD s len 0) quiet-ascii)
 
   name-is : skipIdentifierOf s ≡ Name len

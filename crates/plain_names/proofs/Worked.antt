@@ -2,10 +2,10 @@
 use mathlib.Core.List.{[], _∷_}
 use mathlib.Core.Path.{_≡_, refl}
 use Rattle.names.specs.Classify.{beginsFloat}
-use Rattle.names.specs.Starts.{startsWith}
 use Rattle.reading.specs.Owed.{quietByte}
 use Rattle.text.specs.Classes.{digit, identFirst, identNext, letter, within}
 use Rattle.text.specs.Runs.{run}
+use Rattle.text.specs.Words.{startsWith}
 use Rattle.plain_names.specs.PlainNames.{plainName}
 
 -- `id:`, `_1,`, `r(`, `Na `: plain

@@ -7,13 +7,13 @@ use mathlib.Core.Path.{_≡_, ap, refl, sym, _∙_}
 use lib.Dec.{eqb, leb}
 use lib.ListN.{getD}
 use Rattle.text.proofs.Choices.{and-true, cond-cases}
+use Rattle.text.specs.Words.{startsWith}
 use Rattle.floats.specs.Float.{floatOf}
 use Rattle.floats.specs.declared.float.AnyFloat.{AnyFloat}
 use Rattle.floats.specs.declared.float.AnyFloat.the-variants as float
 use Rattle.integers.specs.Front.{frontOf}
 use Rattle.integers.specs.Integer.{anyOf, valueOf}
 use Rattle.integers.specs.Width.{codeOf}
-use Rattle.integers.specs.Words.{startsWith}
 use Rattle.integers.specs.declared.integer.AnyInteger.{AnyInteger}
 use Rattle.integers.specs.declared.integer.AnyInteger.the-variants as any
 use Rattle.integers.specs.declared.integer.Integer.the-variants as integer

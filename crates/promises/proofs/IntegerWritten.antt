@@ -16,12 +16,12 @@ use Rattle.text.specs.Refusals.{Told, accepted, refused, unfit}
 use Rattle.text.specs.Runs.{run}
 use Rattle.text.specs.declared.judge.Judged.{Judged}
 use Rattle.text.specs.declared.judge.Judged.the-variants.{Fit, Refused as NotFit}
+use Rattle.text.specs.Words.{startsWith}
 use Rattle.digits.specs.Digits.{hexOf}
 use Rattle.digits.specs.Value.{Fit as DigitFit}
 use Rattle.integers.specs.Front.{frontOf, prefixOf, signOf}
 use Rattle.integers.specs.Integer.{typedOf, valueOf}
 use Rattle.integers.specs.Range.{InWidth}
-use Rattle.integers.specs.Words.{startsWith}
 use Rattle.integers.specs.declared.integer.Integer.{Integer}
 use Rattle.integers.specs.declared.integer.Integer.the-variants as integer
 use Rattle.integers.specs.declared.integer.Value.{Value}

@@ -5,11 +5,12 @@ use mathlib.Core.Path.{_≡_, refl}
 use lib.IntN.{pos, negℤ}
 use Rattle.text.specs.Classes.{digit, hexDigit, identNext, intChar, letter, within}
 use Rattle.text.specs.Runs.{run}
+use Rattle.text.specs.Words.{startsWith}
 use Rattle.digits.specs.Digits.{hexOf}
 use Rattle.digits.specs.Value.{valueFrom}
 use Rattle.integers.specs.Front.{frontOf, prefixOf, signOf}
 use Rattle.integers.specs.Width.{suffixOf, suffixWord}
-use Rattle.integers.specs.Words.{firstOf, identOf, startsWith}
+use Rattle.integers.specs.Words.{firstOf, identOf}
 use Rattle.promises.specs.Written.{written, writtenLen}
 
 -- `-0x1_0i16 `

@@ -9,11 +9,12 @@ use lib.IntN.{ℤ, pos}
 use lib.ListN.{length, take, drop}
 use Rattle.text.specs.Classes.{intChar}
 use Rattle.text.specs.Runs.{run}
+use Rattle.text.specs.Words.{startsWith}
 use Rattle.digits.specs.Value.{valueOf}
 use Rattle.integers.specs.Front.{frontOf}
 use Rattle.integers.specs.Range.{InWidth, Reads, signedOf}
 use Rattle.integers.specs.Width.{codeOf, suffixOf}
-use Rattle.integers.specs.Words.{askedBehind, startsWith}
+use Rattle.integers.specs.Words.{askedBehind}
 use Rattle.integers.specs.declared.ident.Found.{Found}
 use Rattle.integers.specs.declared.width.Width.{Width}
 use Rattle.integers.specs.declared.width.Width.the-variants.{I8, I16, I32, I64, U8, U16, U32, U64}

@@ -4,6 +4,7 @@ use plain::blanks::behind_blanks;
 use plain::forms::plain;
 use rows::Entry;
 use rows::row;
+use text::refusal::placed_behind;
 use tokens::following::Following;
 use tokens::following::next_token;
 use tokens::lexeme::Lexeme;
@@ -72,7 +73,7 @@ pub fn pass(text: &[u8], from: usize, tape: &mut [u32], n: usize, on: bool) -> R
             }
             Following::End => return ReadAnswer::Accepted(i),
             Following::Refused(refusal) => {
-                return ReadAnswer::Refused(refusal.placed_behind(front));
+                return ReadAnswer::Refused(placed_behind(refusal, front));
             }
         }
     }

@@ -49,7 +49,7 @@ unfolding countOf
 count-split p [] ys a b = count-none p ys b
 count-split p (x ∷ xs) ys a b = rw (a .0) (ap suc (count-split p xs ys (a .1) b))
 
-map-all : (P Q : Entry → Type 0) (es : List Entry) → ((e : Entry) → P e → Q e) → All P es → All Q es
+pub map-all : (P Q : Entry → Type 0) (es : List Entry) → ((e : Entry) → P e → Q e) → All P es → All Q es
 map-all P Q [] f a = tt
 map-all P Q (e ∷ es) f a = (f e (a .0), map-all P Q es f (a .1))
 

@@ -2,31 +2,19 @@
 use Prim.Native.Nat.{_<_, _≤_, suc, zero, ℕ}
 use native.Mathlib.Nat.{not-suc-le-zero}
 use native.Mathlib.Omega.{arith}
-use mathlib.Core.Bool.{Bool, _&&_, _||_, cond, false, true}
+use mathlib.Core.Bool.{Bool, _||_, cond, false, true}
 use mathlib.Core.List.{List, [], _++_, _∷_}
 use mathlib.Core.Path.{_∙_, _≡_, ap, refl, sym}
-use lib.Dec.{eqb, leb·suc-suc, ltb}
+use lib.Dec.{leb·suc-suc, ltb}
 use lib.Ieee.{eq}
 use lib.ListN.{drop, length}
-use borrow.Author.Tests.{eqb-true, le-ltb, lt-ltb}
+use borrow.Author.Tests.{le-ltb, lt-ltb}
 use Rattle.reading.specs.Kept.{anyQuiet, lastQuiet}
 use Rattle.reading.specs.Owed.{quietByte, quietBytes}
-use Rattle.text.proofs.Choices.{and-true, bool-cases, cond-cases, either}
-use Rattle.text.specs.Classes.{oneOf}
+use Rattle.text.proofs.Choices.{cond-cases}
+use Rattle.text.proofs.ClassLaws.{allOf, one-of-all}
 
--- ---- what holds of each byte of a list holds of every byte that is one of them
-
-abbrev pub allOf : (ℕ → Bool) → List ℕ → Bool
-allOf p [] = true
-allOf p (a ∷ l) = p a && allOf p l
-
-pub one-of-all : (p : ℕ → Bool) (l : List ℕ) (c : ℕ) → allOf p l ≡ true → oneOf l c ≡ true → p c ≡ true
-one-of-all p [] c h e = let z : _≡_ {A = ℕ} 0 1 = cc in absurd (omega arith)
-one-of-all p (a ∷ l) c h e =
-    let both = and-true (p a) (allOf p l) h in
-    either (bool-cases (eqb c a))
-    (λ is. ap p (eqb-true c a is) ∙ both .0)
-    (λ isn. one-of-all p l c (both .1) (sym (ap (λ (t : Bool). t || oneOf l c) isn) ∙ e))
+-- ---- what holds of each of them
 
 pub quiet-all : (p : ℕ → Bool) (c : ℕ) → allOf p quietBytes ≡ true → quietByte c ≡ true → p c ≡ true
 unfolding quietByte

@@ -106,9 +106,6 @@ module _ (b e m f g : ℕ) (t : List ℕ) where
   unfolding entriesOf
   up-starts = sym (laid-none g t)
 
-  pub up-length : (k : ℕ) (s : List ℕ) → width * (g + k) ≤ length t → Up k s → length s ≡ length t
-  up-length k s h inv = ap length inv ∙ length-laid g (ups k) t (omega (arith, count-ups k))
-
   -- the row to be moved next is as it was
   up-here : (k : ℕ) (s : List ℕ) → g ≤ f → width * (f + k + 1) ≤ length t → Up k s → entryAt s (f + k) ≡ entryAt (drop (width * f) t) k
   unfolding entryAt
@@ -150,9 +147,6 @@ module _ (b e m f g : ℕ) (t : List ℕ) where
   down-starts =
       let z : drop m (entriesOf m (drop (width * f) t)) ≡ [] = drop-of-length-le (entriesOf m (drop (width * f) t)) {i = m} (omega (arith, length-entries m (drop (width * f) t))) in
       sym (ap (λ (l : List Entry). laidAt (g + m) (map (clippedFrom b e) l) t) z ∙ laid-none (g + m) t)
-
-  pub down-length : (k : ℕ) (s : List ℕ) → k ≤ m → width * (g + m) ≤ length t → Down k s → length s ≡ length t
-  down-length k s l h inv = ap length inv ∙ length-laid (g + k) (rest k) t (omega (arith, count-rest k))
 
   down-here : (k j : ℕ) (s : List ℕ) → k ≡ j + 1 → k ≤ m → f ≤ g → width * (g + m) ≤ length t → Down k s → entryAt s (f + j) ≡ entryAt t (f + j)
   down-here k j s kj l fg h inv =
@@ -198,9 +192,6 @@ module _ (x y : ℕ) (t : List ℕ) where
 
   pub clear-starts : Clearing x t
   clear-starts = let z : x - x ≡ 0 = omega arith in sym (ap (λ (n : ℕ). laidAt x (replicate n noEntry) t) z ∙ laid-none x t)
-
-  pub clear-length : (i : ℕ) (s : List ℕ) → x ≤ i → width * i ≤ length t → Clearing i s → length s ≡ length t
-  clear-length i s l h inv = ap length inv ∙ length-laid x (replicate (i - x) noEntry) t (omega (arith, length-replicate (i - x) noEntry))
 
   pub clear-goes : (i : ℕ) (s s′ : List ℕ) → x ≤ i → width * (i + 1) ≤ length t → Clearing i s → s′ ≡ written s i noEntry → Clearing (i + 1) s′
   clear-goes i s s′ l h inv w =

@@ -2,7 +2,7 @@
 use Prim.Native.Nat.{ℕ, _+_, _-_, _*_, _≤_, min}
 use mathlib.Core.Bool.{Bool, true, cond}
 use mathlib.Core.Path.{_≡_}
-use mathlib.Core.List.{List, [], _∷_, _++_, map}
+use mathlib.Core.List.{List, _++_, map}
 use lib.Dec.{ltb, leb}
 use lib.ListN.{length, take, drop, replicate}
 use Rattle.rows.specs.Rows.{width, roomOf, entriesOf, flat, laid}
@@ -15,10 +15,6 @@ use Rattle.rows.specs.declared.Entry.{Entry}
 use Rattle.repair.specs.Repair.{leading, seekOf, joins, noEntry, cleared, Repaired}
 use Rattle.repair.specs.declared.search.Met.{Met}
 use Rattle.repair.specs.declared.search.Met.the-variants.{At, Next}
-
--- The six brackets, which end the list of the quiet bytes.
-abbrev pub brackets : List ℕ
-brackets = 0x28 ∷ 0x29 ∷ 0x5b ∷ 0x5d ∷ 0x7b ∷ 0x7d ∷ []
 
 -- The entries are in order, within some limit.
 abbrev pub InOrder : List Entry → Type 0

@@ -2,6 +2,7 @@
 use crate::search::Met;
 use crate::search::meet;
 use text::Refusal;
+use text::refusal::placed_behind;
 use tokens::following::Following;
 use tokens::following::next_token;
 ghost use mathlib.Core.Path.{_≡_};
@@ -57,7 +58,7 @@ pub fn find_join(
                 return Scan::Found(n, count);
             }
             Following::Refused(refusal) => {
-                return Scan::Refused(refusal.placed_behind(at));
+                return Scan::Refused(placed_behind(refusal, at));
             }
         }
     }

@@ -2,7 +2,7 @@
 use crate::check::repair_fits;
 use crate::join::Scan;
 use crate::join::find_join;
-use crate::quiet::last_quiet;
+use crate::quiet_end::last_quiet;
 use crate::rewrite::Rest;
 use crate::rewrite::rewrite;
 use crate::search::ends_before;

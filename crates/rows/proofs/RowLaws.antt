@@ -6,7 +6,7 @@ use mathlib.Core.List.{List, [], _++_, _∷_, append-assoc, append-nil}
 use mathlib.Core.Path.{_∙_, _≡_, ap, refl, sym, ap₂}
 use lib.Ieee.{ne}
 use lib.ListN.{drop, getD, length, length-append, length-drop, take, take-append-drop, set}
-use lib.Seq.{drop-at, drop-drop, getD-at, length-take-le, sets-eq, take-append-le, take-at, take-take, drop-append-add, take-nil, getD-drop}
+use lib.Seq.{drop-at, drop-drop, getD-at, length-take-le, sets-eq, take-append-le, take-at, take-take, take-nil, getD-drop}
 use Rattle.rows.specs.Rows.{cells, entriesOf, entryAt, entryOf, flat, roomOf, width, written, laid}
 use Rattle.rows.specs.declared.Entry.{Entry}
 use Rattle.text.proofs.Choices.{either, lt-or-le}
@@ -16,9 +16,6 @@ use Rattle.text.proofs.Lists.{head-at}
 
 pub row-fits : (i numbers : ℕ) → i < roomOf numbers → width * (i + 1) ≤ numbers
 row-fits i numbers h = omega arith
-
-pub rows-fit : (n numbers : ℕ) → n ≤ roomOf numbers → width * n ≤ numbers
-rows-fit n numbers h = omega arith
 
 -- ---- entries and their numbers
 
@@ -148,11 +145,6 @@ module _ (t : List ℕ) (i : ℕ) (e : Entry) (h : width * (i + 1) ≤ length t)
   unfolding entryAt
   entry-same = ap entryOf drop-here
 
-  -- the entries from row i on
-  pub entries-here : (m : ℕ) → entriesOf (suc m) (drop (width * i) (written t i e)) ≡ e ∷ entriesOf m (drop (width * (i + 1)) t)
-  unfolding entriesOf
-  entries-here m = ap (entriesOf (suc m)) drop-here
-
 -- an entry is the first numbers of its row
 entry-take : (s : List ℕ) → entryOf (take width s) ≡ entryOf s
 entry-take [] = refl
@@ -168,18 +160,7 @@ row-slice (suc n) m (x ∷ l) =
     let e : suc n + m ≡ suc (n + m) = omega arith in
     row-slice n m l ∙ ap (λ (k : ℕ). drop (suc n) (take k (x ∷ l))) (sym e)
 
--- tapes that agree in their first rows hold the same entries there
-pub entries-agree : (n : ℕ) (t t′ : List ℕ) → take (width * n) t ≡ take (width * n) t′ → entriesOf n t ≡ entriesOf n t′
-unfolding entriesOf
-entries-agree zero t t′ h = refl
-entries-agree (suc n) t t′ h =
-    let w : width + width * n ≡ width * suc n = omega arith in
-    let row : take width t ≡ take width t′ = sym (take-take width (width * suc n) t (omega arith)) ∙ ap (take width) h ∙ take-take width (width * suc n) t′ (omega arith) in
-    let rows : (s : List ℕ) → take (width * n) (drop width s) ≡ drop width (take (width * suc n) s) = λ s. row-slice width (width * n) s ∙ ap (λ (k : ℕ). drop width (take k s)) w in
-    ap₂ {B = List Entry} {C = List Entry} (λ (x : Entry) (l : List Entry). x ∷ l)
-    (sym (entry-take t) ∙ ap entryOf row ∙ entry-take t′)
-    (entries-agree n (drop width t) (drop width t′) (rows t ∙ ap (drop width) h ∙ sym (rows t′)))
-
+-- tapes that agree in their first rows hold the same entry there
 pub entry-agree : (j : ℕ) (t t′ : List ℕ) → take (width * (j + 1)) t ≡ take (width * (j + 1)) t′ → entryAt t j ≡ entryAt t′ j
 unfolding entryAt
 entry-agree j t t′ h =
@@ -223,19 +204,6 @@ pub writes-front : (es : List Entry) (t : List ℕ) → width * length es ≤ le
 writes-front es t h =
     let z : 0 + length es ≡ length es = omega arith in
     writes-all es 0 t (omega arith) ∙ ap (λ (k : ℕ). flat es ++ drop (width * k) t) z
-
--- a row more behind n rows that were written
-pub write-next : (es : List Entry) (e : Entry) (n : ℕ) (t : List ℕ) → length es ≡ n → width * (n + 1) ≤ length t
-    → written (flat es ++ drop (width * n) t) n e ≡ flat (es ++ (e ∷ [])) ++ drop (width * (n + 1)) t
-unfolding written flat
-write-next es e n t c h =
-    let l : length (flat es) ≡ width * n = length-flat es ∙ ap (λ (k : ℕ). width * k) c in
-    let z : width * n + width ≡ width * (n + 1) = omega arith in
-    let w : length (flat es) + width ≡ width * (n + 1) = omega arith in
-    ap₂ (λ (x y : List ℕ). x ++ cells e ++ y)
-    (take-at (flat es) (drop (width * n) t) (width * n) l)
-    (ap (λ (k : ℕ). drop k (flat es ++ drop (width * n) t)) (sym w) ∙ drop-append-add (flat es) (drop (width * n) t) width ∙ drop-drop width (width * n) t ∙ ap (λ (k : ℕ). drop k t) z)
-    ∙ ap (λ (x : List ℕ). x ++ drop (width * (n + 1)) t) (sym (flat-append es (e ∷ []) ∙ ap (λ (x : List ℕ). flat es ++ x) (append-nil (cells e))))
 
 -- the same in one word
 pub writes-laid : (es : List Entry) (t : List ℕ) → width * length es ≤ length t → writes es 0 t ≡ laid es t

@@ -6,7 +6,7 @@ use mathlib.Core.List.{List, [], _∷_}
 use lib.Dec.{eqb}
 use lib.ListN.{length, drop, length-drop}
 use Rattle.text.proofs.Choices.{bool-cases, either}
-use Rattle.integers.specs.Words.{startsWith}
+use Rattle.text.specs.Words.{startsWith}
 use Rattle.integers.specs.Width.{codeOf}
 use Rattle.integers.specs.declared.width.Width.{Width}
 use Rattle.integers.specs.declared.integer.Integer.{Integer}

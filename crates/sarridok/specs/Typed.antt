@@ -8,7 +8,7 @@ use lib.Dec.{eqb}
 use lib.IntN.{ℤ}
 use Rattle.text.specs.Refusals.{Told, accepted, refused, placedBehind, otherKind}
 use Rattle.text.specs.Judged.{placeFits, behindFront}
-use Rattle.integers.specs.Words.{startsWith}
+use Rattle.text.specs.Words.{startsWith}
 use Rattle.integers.specs.Width.{codeOf}
 use Rattle.integers.specs.Range.{signedOf}
 use Rattle.integers.specs.Integer.{typedOf}

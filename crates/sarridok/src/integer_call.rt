@@ -11,6 +11,7 @@ use text::Refusal;
 use text::judge::Judged;
 use text::judge::judge;
 use text::judge::place_fits;
+use text::refusal::placed_behind;
 ghost use mathlib.Core.Path.{_≡_};
 ghost use Prim.Native.Nat.{_<_};
 ghost use Rattle.sarridok.specs.Typed.{byteAs, integerAt, Fitting, placedAt, told, integerOf};
@@ -58,7 +59,7 @@ fn placed(read: Integer, place: usize) -> IntegerAnswer
     match read {
         Integer::Read(value, end) => IntegerAnswer::Value(value, place + end),
         Integer::OtherSuffix => IntegerAnswer::Refused(Refusal::other_kind()),
-        Integer::Refused(refusal) => IntegerAnswer::Refused(refusal.placed_behind(place)),
+        Integer::Refused(refusal) => IntegerAnswer::Refused(placed_behind(refusal, place)),
     }
 }
 

@@ -8,6 +8,7 @@ use text::Refusal;
 use text::judge::Judged;
 use text::judge::judge;
 use text::judge::place_fits;
+use text::refusal::placed_behind;
 ghost use mathlib.Core.Path.{_≡_};
 ghost use Rattle.structs.specs.Kinds.{Fitting};
 ghost use Rattle.sarridok.specs.StructKind.{kindPlaced, toldStruct, structKindOf};
@@ -25,7 +26,7 @@ fn placed_kind(read: StructAnswer, place: usize) -> StructKindAnswer
 {
     match read {
         StructAnswer::Kind(kind) => StructKindAnswer::Kind(kind),
-        StructAnswer::Refused(refusal) => StructKindAnswer::Refused(refusal.placed_behind(place)),
+        StructAnswer::Refused(refusal) => StructKindAnswer::Refused(placed_behind(refusal, place)),
     }
 }
 

@@ -1,10 +1,22 @@
 // The answer of a read, and the entries of its tape.
+ghost use mathlib.Core.Path.{_≡_};
+ghost use mathlib.Core.Bool.{cond};
+ghost use mathlib.Core.List.{[]};
+ghost use lib.Dec.{ltb};
+ghost use lib.ListN.{length};
+ghost use Rattle.lines.specs.Out.{put};
+ghost use Rattle.read.specs.Read.{toldRead};
+ghost use Rattle.rows.specs.Rows.{roomOf, entryAt};
+ghost use Rattle.show.specs.Answers.{answerText};
+ghost use Rattle.show.specs.Readings.{entryText, tapeText, readText};
 use lines::out;
 use rows::row;
 use sarridok::ReadAnswer;
 
 // An entry's four numbers behind a separator.
-fn entry(o: &mut [u8], at: usize, tape: &[u32], i: usize, between: u8) -> usize {
+fn entry(o: &mut [u8], at: usize, tape: &[u32], i: usize, between: u8) -> usize
+    ensures { λ r. ⌜ (now (o .exit), r) ≡ put (now (o .entry), at) (cond (ltb i (roomOf (length (now (tape .entry))))) (entryText between (entryAt (now (tape .entry)) i)) []) ⌝ }
+{
     if row::room(tape) <= i {
         return at;
     }
@@ -16,7 +28,9 @@ fn entry(o: &mut [u8], at: usize, tape: &[u32], i: usize, between: u8) -> usize 
     out::word(o, d, e.detail as u64)
 }
 
-pub fn entries(o: &mut [u8], at: usize, tape: &[u32], n: usize, between: u8) -> usize {
+pub fn entries(o: &mut [u8], at: usize, tape: &[u32], n: usize, between: u8) -> usize
+    ensures { λ r. ⌜ (now (o .exit), r) ≡ put (now (o .entry), at) (tapeText between (now (tape .entry)) n) ⌝ }
+{
     let mut to = at;
     for i in 0..n {
         to = entry(o, to, tape, i, between);
@@ -25,7 +39,9 @@ pub fn entries(o: &mut [u8], at: usize, tape: &[u32], n: usize, between: u8) -> 
 }
 
 // The separator stands before each entry.
-pub fn read(o: &mut [u8], at: usize, r: ReadAnswer, tape: &[u32], between: u8) -> usize {
+pub fn read(o: &mut [u8], at: usize, r: ReadAnswer, tape: &[u32], between: u8) -> usize
+    ensures { λ p. ⌜ (now (o .exit), p) ≡ put (now (o .entry), at) (answerText (readText between (now (tape .entry))) (toldRead r)) ⌝ }
+{
     match r {
         ReadAnswer::Accepted(n) => {
             let a = out::bytes(o, at, b"ok");

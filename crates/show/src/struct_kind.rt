@@ -1,9 +1,16 @@
 // The answer of a struct kind.
+ghost use mathlib.Core.Path.{_≡_};
+ghost use Rattle.lines.specs.Out.{put};
+ghost use Rattle.sarridok.specs.StructKind.{toldStruct};
+ghost use Rattle.show.specs.Answers.{answerText};
+ghost use Rattle.show.specs.StructKinds.{kindName, kindText};
 use lines::out;
 use sarridok::StructKindAnswer;
 use sarridok::StructType;
 
-fn name(o: &mut [u8], at: usize, kind: StructType) -> usize {
+fn name(o: &mut [u8], at: usize, kind: StructType) -> usize
+    ensures { λ r. ⌜ (now (o .exit), r) ≡ put (now (o .entry), at) (kindName kind) ⌝ }
+{
     match kind {
         StructType::AnyTuple => out::bytes(o, at, b"AnyTuple"),
         StructType::EmptyTuple => out::bytes(o, at, b"EmptyTuple"),
@@ -14,7 +21,9 @@ fn name(o: &mut [u8], at: usize, kind: StructType) -> usize {
     }
 }
 
-pub fn kind(o: &mut [u8], at: usize, r: StructKindAnswer) -> usize {
+pub fn kind(o: &mut [u8], at: usize, r: StructKindAnswer) -> usize
+    ensures { λ p. ⌜ (now (o .exit), p) ≡ put (now (o .entry), at) (answerText kindText (toldStruct r)) ⌝ }
+{
     match r {
         StructKindAnswer::Kind(k) => {
             let a = out::bytes(o, at, b"ok ");

@@ -29,6 +29,7 @@ use Rattle.strings.specs.declared.pieces.Piece.the-variants.{Backslash, 
 use Rattle.text.proofs.Choices.{and-true, bool-cases, cond-cases, either, lt-or-le}
 use Rattle.text.proofs.Lists.{head-at}
 use Rattle.text.proofs.Utf8Agree.{encode-1}
+use Rattle.text.proofs.AsciiLaws.{ascii-first}
 use Rattle.text.specs.Classes.{continuationBlank}
 use Rattle.text.specs.Runs.{ascii, run}
 use Rattle.text.specs.Utf8.{Encoded, Scalar, encode}
@@ -57,10 +58,6 @@ blank-ascii b =
     (λ n2. either (bool-cases (eqb b 0x0a)) (λ e f. lt-ltb b 0x80 (omega (arith, eqb-true b 0x0a e)))
     (λ n3. either (bool-cases (eqb b 0x0d)) (λ e f. lt-ltb b 0x80 (omega (arith, eqb-true b 0x0d e)))
     (λ n4 f. let z : false ≡ true = rw (n1, n2, n3, n4) at f in let y : _≡_ {A = ℕ} 0 1 = cc in absurd (omega arith)))))
-
-ascii-first : (b : ℕ) (t : List ℕ) → b < 0x80 → run ascii (b ∷ t) ≡ suc (run ascii t)
-unfolding run
-ascii-first b t h = rw (lt-ltb b 0x80 h)
 
 escape-pure : (t : List ℕ) (a : EscapeAnswer) → Bounded t a → Decodes 0x80 a → Pure (0x5C ∷ t) (byEscape a)
 escape-pure t (Ascii b n) h d = (omega (arith, ascii-first 0x5C t (omega arith), h .1), one-byte b d)

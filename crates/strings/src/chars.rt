@@ -2,6 +2,7 @@
 use escapes::EscapeAnswer;
 use escapes::Mode;
 use text::Refusal;
+use text::refusal::placed_behind;
 use text::utf8;
 ghost use mathlib.Core.Path.{_≡_};
 ghost use Prim.Native.Nat.{_≤_};
@@ -48,7 +49,7 @@ fn escaped_char(s: &[u8]) -> CharAnswer
     match escapes::parse_escape(Mode::Char, &s[2..]) {
         EscapeAnswer::Ascii(b, n) => char_ends(s, 2 + n, b as u32),
         EscapeAnswer::Utf8(c, n) => char_ends(s, 2 + n, c),
-        EscapeAnswer::Refused(r) => CharAnswer::Refused(r.placed_behind(2)),
+        EscapeAnswer::Refused(r) => CharAnswer::Refused(placed_behind(r, 2)),
     }
 }
 
@@ -98,7 +99,7 @@ fn escaped_byte(s: &[u8]) -> ByteAnswer
     match escapes::parse_escape(Mode::Bytes, &s[3..]) {
         EscapeAnswer::Ascii(b, n) => byte_ends(s, 3 + n, b),
         EscapeAnswer::Utf8(_, n) => ByteAnswer::Refused(Refusal::invalid_escape(3 + n)),
-        EscapeAnswer::Refused(r) => ByteAnswer::Refused(r.placed_behind(3)),
+        EscapeAnswer::Refused(r) => ByteAnswer::Refused(placed_behind(r, 3)),
     }
 }
 

@@ -5,6 +5,7 @@ use escapes::EscapeAnswer;
 use escapes::Mode;
 use text::Refusal;
 use text::bytes::peek;
+use text::refusal::placed_behind;
 ghost use mathlib.Core.Path.{_≡_};
 ghost use Prim.Native.Nat.{_+_, _<_, _^_};
 ghost use lib.ListN.{drop, length};
@@ -63,7 +64,7 @@ fn behind_backslash(m: Mode, s: &[u8]) -> Piece
     match escapes::parse_escape(m, s) {
         EscapeAnswer::Ascii(b, n) => Piece::Backslash(n + 1, Decoded::Byte(b)),
         EscapeAnswer::Utf8(c, n) => Piece::Backslash(n + 1, Decoded::Point(c)),
-        EscapeAnswer::Refused(r) => Piece::Spoilt(r.placed_behind(1)),
+        EscapeAnswer::Refused(r) => Piece::Spoilt(placed_behind(r, 1)),
     }
 }
 

@@ -9,6 +9,7 @@ use crate::pieces::simple_escape;
 use crate::runs::find_end;
 use crate::runs::find_quote;
 use escapes::Mode;
+use text::refusal::placed_behind;
 ghost use mathlib.Core.Path.{_≡_};
 ghost use mathlib.Core.Bool.{false};
 ghost use Prim.Native.Nat.{_≤_};
@@ -55,7 +56,7 @@ fn body(m: Mode, s: &[u8], start: usize) -> LiteralAnswer
                 escaped = true;
             }
             Piece::Spoilt(r) => {
-                return LiteralAnswer::Refused(r.placed_behind(at));
+                return LiteralAnswer::Refused(placed_behind(r, at));
             }
         }
     }

@@ -1,5 +1,6 @@
 // What is asked and what is answered, in the crate's names and order.
 use text::Refusal;
+use text::refusal::placed_behind;
 ghost use mathlib.Core.Path.{_≡_};
 ghost use Prim.Native.Nat.{_+_, _^_, _<_};
 ghost use Rattle.structs.specs.Kinds.{Fitting, placedAt};
@@ -37,6 +38,6 @@ pub fn placed(answer: StructAnswer, place: usize) -> StructAnswer
 {
     match answer {
         StructAnswer::Kind(kind) => StructAnswer::Kind(kind),
-        StructAnswer::Refused(refusal) => StructAnswer::Refused(refusal.placed_behind(place)),
+        StructAnswer::Refused(refusal) => StructAnswer::Refused(placed_behind(refusal, place)),
     }
 }

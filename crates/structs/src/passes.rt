@@ -5,6 +5,7 @@ use strings::LiteralAnswer;
 use strings::chars::CharAnswer;
 use strings::chars::char_literal;
 use text::Refusal;
+use text::refusal::placed_behind;
 ghost use mathlib.Core.Path.{_≡_};
 ghost use lib.ListN.{length};
 ghost use Rattle.structs.specs.Passes.{Fits, FitsLiteral, behindLiteral, pastGap, pastChar, pastString, pastByteString};
@@ -26,7 +27,7 @@ pub fn skip_ws(s: &[u8], from: Passed) -> Passed
     match gap {
         Gap::Clear(n) => Passed::To(at + n),
         Gap::InLine(n) => Passed::To(at + n),
-        Gap::Refused(refusal) => Passed::Refused(refusal.placed_behind(at)),
+        Gap::Refused(refusal) => Passed::Refused(placed_behind(refusal, at)),
     }
 }
 
@@ -56,7 +57,7 @@ fn behind_literal(read: LiteralAnswer, none: u8, at: usize) -> Passed
             if refusal.number == none {
                 return Passed::To(at);
             }
-            Passed::Refused(refusal.placed_behind(at))
+            Passed::Refused(placed_behind(refusal, at))
         }
     }
 }

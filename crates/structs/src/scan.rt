@@ -7,6 +7,7 @@ use crate::passes::skip_ws;
 use crate::steps::Step;
 use crate::steps::next_step;
 use text::bytes::peek;
+use text::refusal::placed_behind;
 ghost use mathlib.Core.Path.{_≡_};
 ghost use Prim.Native.Nat.{_≤_};
 ghost use lib.ListN.{length};
@@ -59,7 +60,7 @@ pub fn scan_value(s: &[u8], at: usize) -> StructAnswer
                 i += n;
             }
             Step::Refused(refusal) => {
-                break StructAnswer::Refused(refusal.placed_behind(i));
+                break StructAnswer::Refused(placed_behind(refusal, i));
             }
         }
     };

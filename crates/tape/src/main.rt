@@ -2,15 +2,26 @@
 use libc::STDIN_FILENO;
 use lines::input;
 use lines::out;
+ghost use mathlib.Core.Path.{_≡_};
+ghost use Rattle.lines.specs.Out.{put};
+ghost use Rattle.read.specs.Read.{readTape};
+ghost use Rattle.tape.specs.Printed.{printedText};
+
+// The answer to a text, from the front of the output on: where it ends there.
+fn answer(text: &[u8], tape: &mut [u32], o: &mut [u8]) -> usize
+    ensures { λ r. ⌜ ((now (o .exit), r) ≡ put (now (o .entry), 0) (printedText (now (text .entry)) (now (tape .entry)))) × (now (tape .exit) ≡ readTape (now (text .entry)) (now (tape .entry))) ⌝ }
+{
+    let r = sarridok::read(text, tape);
+    let a = show::reading::read(o, 0, r, &tape[..], b'\n');
+    out::byte(o, a, b'\n')
+}
 
 // A byte more than a text may have is read, so that a longer one is refused.
 fn print(text: &mut [u8], rest: &mut [u8], tape: &mut [u32], o: &mut [u8]) {
     let n = io::read_full(STDIN_FILENO, text);
     input::drain(rest);
-    let r = sarridok::read(lines::part(&text[..], 0, n), tape);
-    let a = show::reading::read(o, 0, r, &tape[..], b'\n');
-    let b = out::byte(o, a, b'\n');
-    out::flush(&o[..], b);
+    let end = answer(lines::part(&text[..], 0, n), tape, o);
+    out::flush(&o[..], end);
 }
 
 // The arrays are lent as arrays first: then no proof computes their lengths.

@@ -1,4 +1,7 @@
 // `W LIMIT LINKS COUNT N,N,..`: a walk of any tape, into that many links.
+ghost use mathlib.Core.Path.{_≡_};
+ghost use Rattle.lines.specs.Out.{put};
+ghost use Rattle.tapes.specs.Walks.{frontOf, anyLine};
 use crate::walks;
 use crate::walks::Asked;
 use words::list;
@@ -12,7 +15,9 @@ enum Said {
 }
 
 // What the first three words say.
-fn front(words: &[u8]) -> Said {
+fn front(words: &[u8]) -> Said
+    ensures { λ r. ⌜ r ≡ frontOf (now (words .entry)) ⌝ }
+{
     let first = number::decimal_of(words::word(words));
     let Decimal::Value(limit) = first else {
         return Said::Bad;
@@ -33,7 +38,9 @@ fn front(words: &[u8]) -> Said {
     })
 }
 
-pub fn answer(words: &[u8], tape: &mut [u32], links: &mut [u32], o: &mut [u8], at: usize) -> usize {
+pub fn answer(words: &[u8], tape: &mut [u32], links: &mut [u32], o: &mut [u8], at: usize) -> usize
+    ensures { λ r. ⌜ ((now (o .exit), r) ≡ put (now (o .entry), at) (anyLine (now (words .entry)) (now (tape .entry)) (now (links .entry)) .0)) × (now (tape .exit) ≡ anyLine (now (words .entry)) (now (tape .entry)) (now (links .entry)) .1) × (now (links .exit) ≡ anyLine (now (words .entry)) (now (tape .entry)) (now (links .entry)) .2) ⌝ }
+{
     let asked = front(words);
     let Said::Asks(q) = asked else {
         return show::bad(o, at);

@@ -1,4 +1,9 @@
 // `w LIMIT HEX`: a text read, then walked.
+ghost use Prim.Native.Nat.{_+_, min};
+ghost use mathlib.Core.Path.{_≡_};
+ghost use Rattle.lines.specs.Out.{put};
+ghost use Rattle.read.specs.Read.{readTape};
+ghost use Rattle.tapes.specs.Walks.{asked as Walks·asked, walkOfText, walkLine};
 use crate::walks;
 use crate::walks::Asked;
 use sarridok::ReadAnswer;
@@ -8,11 +13,23 @@ use words::number;
 use words::number::Decimal;
 
 // As many links as there are entries, and a few behind them.
-fn asked(count: usize, limit: u64) -> Asked {
+fn links_for(count: usize) -> usize
+    ensures { λ r. ⌜ r ≡ min count 65536 + 16 ⌝ }
+{
+    if count < 65536 {
+        return count + 16;
+    }
+    65552
+}
+
+fn asked(count: usize, limit: u64) -> Asked
+    ensures { λ r. ⌜ r ≡ Walks·asked count limit (min count 65536 + 16) ⌝ }
+{
+    let room = links_for(count);
     Asked {
         count,
         limit: limit as usize,
-        room: std::num::wrapping_add_usize(count, 16),
+        room,
     }
 }
 
@@ -23,7 +40,9 @@ fn walked(
     links: &mut [u32],
     o: &mut [u8],
     at: usize,
-) -> usize {
+) -> usize
+    ensures { λ r. ⌜ ((now (o .exit), r) ≡ put (now (o .entry), at) (walkOfText (now (text .entry)) limit (now (tape .entry)) (now (links .entry)) .0)) × (now (tape .exit) ≡ readTape (now (text .entry)) (now (tape .entry))) × (now (links .exit) ≡ walkOfText (now (text .entry)) limit (now (tape .entry)) (now (links .entry)) .1) ⌝ }
+{
     let r = sarridok::read(text, tape);
     match r {
         ReadAnswer::Accepted(n) => walks::answer(&tape[..], asked(n, limit), links, o, at),
@@ -38,7 +57,9 @@ pub fn answer(
     links: &mut [u32],
     o: &mut [u8],
     at: usize,
-) -> usize {
+) -> usize
+    ensures { λ r. ⌜ ((now (o .exit), r) ≡ put (now (o .entry), at) (walkLine (now (words .entry)) (now (text .entry)) (now (tape .entry)) (now (links .entry)) .0)) × (now (text .exit) ≡ walkLine (now (words .entry)) (now (text .entry)) (now (tape .entry)) (now (links .entry)) .1) × (now (tape .exit) ≡ walkLine (now (words .entry)) (now (text .entry)) (now (tape .entry)) (now (links .entry)) .2) × (now (links .exit) ≡ walkLine (now (words .entry)) (now (text .entry)) (now (tape .entry)) (now (links .entry)) .3) ⌝ }
+{
     let first = number::decimal_of(words::word(words));
     let Decimal::Value(limit) = first else {
         return show::bad(o, at);

@@ -1,4 +1,7 @@
 // A tape walked into marked links.
+ghost use mathlib.Core.Path.{_≡_};
+ghost use Rattle.lines.specs.Out.{put};
+ghost use Rattle.tapes.specs.Walks.{linksLeft, walksText, walkIn};
 use lent::numbers;
 use sarridok::WalkAnswer;
 use words::list;
@@ -11,7 +14,9 @@ pub struct Asked {
 }
 
 // A refused walk may change no link, an accepted one none behind the count.
-fn walked(tape: &[u32], q: Asked, links: &mut [u32], o: &mut [u8], at: usize) -> usize {
+fn walked(tape: &[u32], q: Asked, links: &mut [u32], o: &mut [u8], at: usize) -> usize
+    ensures { λ r. ⌜ ((now (o .exit), r) ≡ put (now (o .entry), at) (walksText (now (tape .entry)) q (now (links .entry)))) × (now (links .exit) ≡ linksLeft (now (tape .entry)) q (now (links .entry))) ⌝ }
+{
     numbers::mark(links);
     let answer = sarridok::walk(tape, q.count, q.limit, links);
     match answer {
@@ -27,7 +32,9 @@ fn walked(tape: &[u32], q: Asked, links: &mut [u32], o: &mut [u8], at: usize) ->
 }
 
 // More links than there can be entries are no more than all that there are.
-pub fn answer(tape: &[u32], q: Asked, links: &mut [u32], o: &mut [u8], at: usize) -> usize {
+pub fn answer(tape: &[u32], q: Asked, links: &mut [u32], o: &mut [u8], at: usize) -> usize
+    ensures { λ r. ⌜ ((now (o .exit), r) ≡ put (now (o .entry), at) (walkIn (now (tape .entry)) q (now (links .entry)) .0)) × (now (links .exit) ≡ walkIn (now (tape .entry)) q (now (links .entry)) .1) ⌝ }
+{
     let room = q.room;
     if room < links.len() {
         return walked(tape, q, &mut links[0..room], o, at);

@@ -1,10 +1,10 @@
--- Eight bytes of ASCII at once. Assumes nothing.
+-- Runs of ASCII: one byte, and eight at once. Assumes nothing.
 use Prim.Native.Nat.{ℕ, zero, suc, _+_, _≤_, _<_}
 use native.Mathlib.Omega.{arith}
 use native.Mathlib.Nat.{eq-or-lt-of-le}
 use mathlib.Core.Path.{_≡_, refl, sym, ap, _∙_}
 use mathlib.Core.Logic.{⊎-elim}
-use mathlib.Core.List.{List}
+use mathlib.Core.List.{List, _∷_}
 use mathlib.Core.Bool.{Bool, true, false, _&&_}
 use lib.ListN.{length, getD, drop}
 use lib.Dec.{ltb}
@@ -29,6 +29,11 @@ ascii-at s at zero e k h = absurd (omega arith)
 ascii-at s at (suc n) e k h =
     let p = and-true (asciiFor s at n) (ascii (getD s (at + n) 0)) e in
     ⊎-elim (λ q. ap (λ (j : ℕ). ascii (getD s (at + j) 0)) q ∙ p .1) (λ l. ascii-at s at n (p .0) k l) (eq-or-lt-of-le {n = k} {m = n} (omega arith))
+
+-- a byte of ASCII in front
+pub ascii-first : (b : ℕ) (t : List ℕ) → b < 0x80 → run ascii (b ∷ t) ≡ suc (run ascii t)
+unfolding run
+ascii-first b t h = rw (lt-ltb b 0x80 h)
 
 pub ascii-many : (s : List ℕ) (at n : ℕ) → at + n ≤ length s → asciiFor s at n ≡ true → run ascii (drop at s) ≡ n + run ascii (drop (at + n) s)
 ascii-many s at n h e = run-many ascii n s at h (ascii-at s at n e)

@@ -73,7 +73,8 @@ four c l =
 
 -- ---- the whole
 
-abbrev widthAt : List ℕ → ℕ
+-- the width of the whitespace character in front
+abbrev pub widthAt : List ℕ → ℕ
 widthAt s = blankWidth (getD s 0 0) (getD s 1 0) (getD s 2 0)
 
 no-2 : (a b : ℕ) → 0xE0 ≤ a → blank2 a b ≡ false

@@ -12,6 +12,10 @@ pub cond-cases : {A : Type 0} (P : A → Type 0) (t : Bool) (x y : A) → (t ≡
 cond-cases P true x y f g = f refl
 cond-cases P false x y f g = g refl
 
+pub cond-same : {A : Type 0} (t : Bool) (x : A) → cond t x x ≡ x
+cond-same true x = refl
+cond-same false x = refl
+
 pub bool-cases : (t : Bool) → (t ≡ true) ⊎ (t ≡ false)
 bool-cases true = inl refl
 bool-cases false = inr refl
@@ -26,6 +30,10 @@ lt-or-le a b = either (bool-cases (ltb a b)) (λ e. inl (ltb-true a b e)) (λ e.
 pub and-false : (t : Bool) → (t && false) ≡ false
 and-false true = refl
 and-false false = refl
+
+pub and-one : (t : Bool) → (t && true) ≡ t
+and-one true = refl
+and-one false = refl
 
 pub or-true : (t : Bool) → (t || true) ≡ true
 or-true true = refl

@@ -1,15 +1,15 @@
 -- Laws of the classes. Assumes nothing.
 use Prim.Native.Nat.{ℕ, _≤_, _<_}
 use native.Mathlib.Omega.{arith}
-use mathlib.Core.Path.{_≡_, refl}
+use mathlib.Core.Path.{_≡_, refl, ap, sym, _∙_}
 use mathlib.Core.List.{List, [], _∷_}
 use mathlib.Core.Bool.{Bool, true, false, cond, _&&_, _||_}
 use lib.ListN.{length, getD}
 use lib.Dec.{leb, eqb, lit≤}
-use borrow.Author.Tests.{leb-true, le-leb, lt-leb, ne-eqb}
-use Rattle.text.specs.Classes.{within, blank1, blank2, blank3, blankWidth}
+use borrow.Author.Tests.{leb-true, le-leb, lt-leb, ne-eqb, eqb-true}
+use Rattle.text.specs.Classes.{within, blank1, blank2, blank3, blankWidth, digit, identNext, letter, oneOf}
 use Rattle.text.specs.Utf8.{In}
-use Rattle.text.proofs.Choices.{cond-cases, and-false, and-true}
+use Rattle.text.proofs.Choices.{cond-cases, and-false, and-true, bool-cases, either}
 
 -- ---- ranges
 
@@ -33,6 +33,26 @@ within-true lo hi x e =
 
 pub in-within : (lo hi x : ℕ) → In lo hi x → within lo hi x ≡ true
 in-within lo hi x h = inside lo hi x (h .0) (h .1)
+
+-- ---- what holds of each byte of a list holds of every byte that is one of them
+
+abbrev pub allOf : (ℕ → Bool) → List ℕ → Bool
+allOf p [] = true
+allOf p (a ∷ l) = p a && allOf p l
+
+pub one-of-all : (p : ℕ → Bool) (l : List ℕ) (c : ℕ) → allOf p l ≡ true → oneOf l c ≡ true → p c ≡ true
+one-of-all p [] c h e = let z : _≡_ {A = ℕ} 0 1 = cc in absurd (omega arith)
+one-of-all p (a ∷ l) c h e =
+    let both = and-true (p a) (allOf p l) h in
+    either (bool-cases (eqb c a))
+    (λ is. ap p (eqb-true c a is) ∙ both .0)
+    (λ isn. one-of-all p l c (both .1) (sym (ap (λ (t : Bool). t || oneOf l c) isn) ∙ e))
+
+-- ---- the characters of a name are ASCII
+
+pub next-wide : (c : ℕ) → 0x80 ≤ c → identNext c ≡ false
+unfolding identNext letter digit
+next-wide c h = rw (above 0x41 0x5a c (omega arith), above 0x61 0x7a c (omega arith), above 0x30 0x39 c (omega arith), ne-eqb c 0x5f (λ e. omega arith))
 
 -- ---- whitespace by its first byte
 

@@ -20,6 +20,7 @@ pub record Reach (c : ℕ) (n : List ℕ → ℕ) : Type 0 where
   pub stopped : Stopped c n
   pub short : (u v : List ℕ) → n (u ++ c ∷ v) ≤ length u
 
+-- the byte at the front, 0 at the end
 head-same : (c : ℕ) (u v v′ : List ℕ) → getD (u ++ c ∷ v) 0 0 ≡ getD (u ++ c ∷ v′) 0 0
 head-same c [] v v′ = refl
 head-same c (x ∷ u) v v′ = refl
@@ -72,10 +73,6 @@ module _ {c : ℕ} where
         let e : m (drop k (u ++ c ∷ v)) ≡ m (drop k u ++ c ∷ v) = ap m (drop-append-le k u (c ∷ v) (r .short u v)) in
         omega (arith, e, q .short (drop k u) v, length-drop k u, r .short u v));
   }
-
-  -- ---- the byte at the front, 0 at the end
-  pub head-stopped : Stopped c (λ s. getD s 0 0)
-  head-stopped = record { same = head-same c }
 
   -- ---- runs
   run-same : (p : ℕ → Bool) → p c ≡ false → (u v v′ : List ℕ) → run p (u ++ c ∷ v) ≡ run p (u ++ c ∷ v′)

@@ -5,6 +5,7 @@
 use Prim.Native.Nat.{ℕ}
 use mathlib.Core.List.{List, [], _∷_}
 use mathlib.Core.Bool.{Bool, false, cond, _&&_, _||_}
+use lib.ListN.{getD}
 use lib.Dec.{leb, eqb}
 
 -- c is one of lo to hi.
@@ -39,6 +40,10 @@ blankWidth a b c = cond (blank1 a) 1 (cond (blank2 a b) 2 (cond (blank3 a b c) 3
 -- Three bytes in a row begin with a character above U+007F that is not whitespace.
 unfoldable pub foreign : ℕ → ℕ → ℕ → Bool
 foreign a b c = leb 0x80 a && eqb (blankWidth a b c) 0
+
+-- The character at the front is such a one; behind the end of the text stands none.
+unfoldable pub foreignAhead : List ℕ → Bool
+foreignAhead s = foreign (getD s 0 0) (getD s 1 0) (getD s 2 0)
 
 -- Digits.
 unfoldable pub digit : ℕ → Bool

@@ -1,5 +1,6 @@
 pub mod Refusals
 pub mod Classes
 pub mod Runs
+pub mod Words
 pub mod Utf8
 pub mod Judged

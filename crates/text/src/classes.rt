@@ -1,7 +1,8 @@
 // Classes of characters, after the crate's functions of the same names.
+use crate::bytes::peek;
 ghost use mathlib.Core.Path.{_≡_};
 ghost use Prim.Native.Nat.{_≤_};
-ghost use Rattle.text.specs.Classes.{within, blankWidth, foreign, digit, letter, floatChar, identFirst, identNext, identRaw, continuationBlank};
+ghost use Rattle.text.specs.Classes.{within, blankWidth, foreign, foreignAhead, digit, letter, floatChar, identFirst, identNext, identRaw, continuationBlank};
 
 // One of lo to hi.
 pub fn is_within(lo: u8, hi: u8, b: u8) -> bool
@@ -66,6 +67,17 @@ pub fn is_foreign(a: u8, b: u8, c: u8) -> bool
         return false;
     }
     blank_width(a, b, c) == 0
+}
+
+// The character at the front is such a one: its first byte decides nearly always.
+pub fn is_foreign_ahead(s: &[u8]) -> bool
+    ensures { λ r. ⌜ r ≡ foreignAhead (now (s .entry)) ⌝ }
+{
+    let a = peek(s, 0);
+    if a < 0x80 {
+        return false;
+    }
+    is_foreign(a, peek(s, 1), peek(s, 2))
 }
 
 pub fn is_digit(b: u8) -> bool

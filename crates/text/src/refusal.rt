@@ -15,15 +15,15 @@ fn at(number: u8, place: usize) -> Refusal
     Refusal { number, place }
 }
 
-impl Refusal {
-    // The same refusal, seen from `by` bytes further in front.
-    pub fn placed_behind(self, by: usize) -> Refusal
-        requires { ⌜ by + self .place < 2 ^ 64 ⌝ }
-        ensures { λ r. ⌜ r ≡ placedBehind by self ⌝ }
-    {
-        at(self.number, by + self.place)
-    }
+// The same refusal, seen from `by` bytes further in front. No method: a host, to whom the type is handed out, has no call with a `requires`.
+pub fn placed_behind(refused: Refusal, by: usize) -> Refusal
+    requires { ⌜ by + refused .place < 2 ^ 64 ⌝ }
+    ensures { λ r. ⌜ r ≡ placedBehind by refused ⌝ }
+{
+    at(refused.number, by + refused.place)
+}
 
+impl Refusal {
     pub fn too_long() -> Refusal
         ensures { λ r. ⌜ r ≡ tooLong ⌝ }
     {

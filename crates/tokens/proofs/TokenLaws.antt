@@ -9,7 +9,7 @@ use Rattle.attributes.proofs.AttributeLaws.{Bounded-attribute, Within-attribute
 use Rattle.attributes.specs.Attributes.{attributeOf}
 use Rattle.attributes.specs.declared.AttributeAnswer.{AttributeAnswer}
 use Rattle.attributes.specs.declared.AttributeAnswer.the-variants as attribute
-use Rattle.integers.proofs.IntegerStops.{quiet-outside}
+use Rattle.integers.proofs.IntegerStops.{outside, told-outside}
 use Rattle.integers.specs.Width.{codeOf}
 use Rattle.integers.specs.declared.width.Width.{Width}
 use Rattle.integers.specs.declared.width.Width.the-variants.{I8, I16, I32, I64, U8, U16, U32, U64}
@@ -140,8 +140,8 @@ unfolding nameStop identRaw identNext letter digit within
 quiet-stop c q = quiet-all nameStop c refl q
 
 number-same : (c : ℕ) → quietByte c ≡ true → Stopped c numberOf
-unfolding quietByte
-number-same c q = number-stopped c (quiet-outside c q)
+unfolding identRaw identNext letter digit within
+number-same c q = number-stopped c (told-outside c (quiet-all outside c refl q))
 
 module _ (c : ℕ) (q : quietByte c ≡ true) (u v v′ : List ℕ) where
   by-shape-same : (k : Shape) → Fits (length u) (lexemeOf (byShape k (u ++ c ∷ v))) → byShape k (u ++ c ∷ v′) ≡ byShape k (u ++ c ∷ v)

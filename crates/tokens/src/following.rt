@@ -6,6 +6,7 @@ use crate::token::token_at;
 use comments::Gap;
 use comments::skip_gap;
 use text::Refusal;
+use text::refusal::placed_behind;
 ghost use mathlib.Core.Path.{_≡_};
 ghost use Prim.Native.Nat.{_<_};
 ghost use lib.ListN.{length, drop};
@@ -28,7 +29,7 @@ fn behind_gap(s: &[u8], g: usize) -> Following
     let found = lexeme_of(token_at(&s[g..]));
     match found {
         LexemeAnswer::Read(l) => Following::Token(g, l),
-        LexemeAnswer::Refused(refusal) => Following::Refused(refusal.placed_behind(g)),
+        LexemeAnswer::Refused(refusal) => Following::Refused(placed_behind(refusal, g)),
     }
 }
 

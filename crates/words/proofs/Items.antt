@@ -12,7 +12,7 @@ use lib.Dec.{leb, ltb, eqb}
 use borrow.Author.Tests.{le-leb, lt-leb, eq-eqb, ne-eqb, ltb-true, ltb-false}
 use Rattle.lines.specs.Find.{findOf}
 use Rattle.words.specs.Dash.{isDash}
-use Rattle.words.specs.Digit.{within}
+use Rattle.text.specs.Classes.{within}
 use Rattle.words.specs.Number.{allDigits, valueFrom, decimalFrom, decimalOf}
 use Rattle.words.specs.Small.{smallOf}
 use Rattle.words.specs.Numbers.{inFront, items, onSmall, smalls, numbersOf, itemsIn}

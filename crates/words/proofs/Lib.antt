@@ -1,5 +1,6 @@
 pub mod Dashes
-pub mod Digits
 pub mod Decimals
 pub mod Pairs
 pub mod Items
+pub mod SaidLaws
+pub mod DecidedLaws

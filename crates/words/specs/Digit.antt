@@ -1,11 +1,7 @@
 -- Digits, decimal and hexadecimal.
 use Prim.Native.Nat.{ℕ, _-_}
-use mathlib.Core.Bool.{Bool, cond, _&&_}
-use lib.Dec.{leb}
-
--- a is one of lo to hi
-unfoldable pub within : ℕ → ℕ → ℕ → Bool
-within lo hi a = leb lo a && leb a hi
+use mathlib.Core.Bool.{Bool, cond}
+use Rattle.text.specs.Classes.{within}
 
 -- `0` to `9`
 abbrev pub isDigit : ℕ → Bool

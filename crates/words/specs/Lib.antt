@@ -4,3 +4,5 @@ pub mod Number
 pub mod Hex
 pub mod Small
 pub mod Numbers
+pub mod Split
+pub mod Said

@@ -4,22 +4,20 @@ pub mod list;
 pub mod number;
 pub mod small;
 
-ghost use Prim.Native.Nat.{_+_};
 ghost use mathlib.Core.Path.{_≡_};
-ghost use lib.ListN.{take, drop};
-ghost use Rattle.lines.specs.Find.{findOf};
 ghost use Rattle.words.specs.Dash.{isDash};
+ghost use Rattle.words.specs.Split.{firstWord, behindWord};
 
 // The first word: it ends at a space, or with the last byte.
 pub fn word(s: &[u8]) -> &[u8]
-    ensures { λ r. ⌜ now r ≡ take (findOf 32 (now (s .entry))) (now (s .entry)) ⌝ }
+    ensures { λ r. ⌜ now r ≡ firstWord (now (s .entry)) ⌝ }
 {
     lines::until(s, b' ')
 }
 
 // The words behind the first, without the space between.
 pub fn behind(s: &[u8]) -> &[u8]
-    ensures { λ r. ⌜ now r ≡ drop (findOf 32 (now (s .entry)) + 1) (now (s .entry)) ⌝ }
+    ensures { λ r. ⌜ now r ≡ behindWord (now (s .entry)) ⌝ }
 {
     lines::past(s, b' ')
 }

@@ -1,10 +1,11 @@
 -- The starred worked texts hold, all of them. Each is computed. Assumes nothing.
 use mathlib.Core.Path.{refl}
-use Rattle.text.specs.Classes.{within, blank, blank1, blank2, blank3, blankWidth, foreign, digit, letter, hexDigit, intChar, floatChar, identFirst, identNext, identRaw, continuationBlank}
+use Rattle.text.specs.Classes.{within, blank, blank1, blank2, blank3, blankWidth, foreign, digit, letter, hexDigit, intChar, floatChar, identFirst, identNext, identRaw, continuationBlank, foreignAhead}
 use Rattle.text.specs.Judged.{judgedOf as judgedOf·text, placeFits, behindFront}
 use Rattle.floats.specs.Judged.{judgedOf as judgedOf·floats, wellTo, stripped}
 use Rattle.text.specs.Runs.{run, run2, asciiFor}
 use Rattle.text.specs.Utf8.{encode, secondByte, behindThree, behindFour, widthOf, charLen, utf8From, utf8Of, codeOf4, codeOf, scalar, encodedLen, encodeAnswer, encodedInto}
+use Rattle.text.specs.Words.{startsWith}
 use Rattle.comments.specs.Blocks.{markOf, blockFrom, blockEnd}
 use Rattle.comments.specs.Gaps.{behindSlash, commentOf, itemOf as itemOf·comments, gapFrom, gapOf}
 use Rattle.attributes.specs.List.{itemOf as itemOf·attributes, otherChar, itemEnd, behindName, listFrom, listOf}
@@ -17,13 +18,13 @@ use Rattle.reading.specs.Kept.{anyQuiet, countOf, keptBefore, lastQuiet, isMove
 use Rattle.reading.specs.Owed.{quietByte}
 use Rattle.reading.specs.Readings.{place, entries, counted, endOf}
 use Rattle.reading.specs.Tokens.{tokensFrom}
-use Rattle.names.specs.Characters.{charIf, charsFrom, chars, foreignFront}
+use Rattle.names.specs.Characters.{charIf, charsFrom, chars}
 use Rattle.names.specs.Classify.{beginsFloat, suffixed, named, missing, wordOf as wordOf·names}
 use Rattle.attributes.specs.Words.{wordOf as wordOf·attributes, byWord, keywordAt}
 use Rattle.names.specs.Identifiers.{nameLen, plainOf, rawOf as rawOf·names, skipIdentifierOf, strictOf, identifierOf}
 use Rattle.strings.specs.Raw.{rawOf as rawOf·strings, rawEnd, rawContents}
-use Rattle.names.specs.Starts.{startsWith as startsWith·names, beginsString, beginsRaw}
-use Rattle.integers.specs.Words.{startsWith as startsWith·integers, identOf, firstOf, foreignAhead}
+use Rattle.names.specs.Starts.{beginsString, beginsRaw}
+use Rattle.integers.specs.Words.{identOf, firstOf}
 use Rattle.digits.specs.Digits.{turnOf, digitsFrom, runOf}
 use Rattle.digits.specs.Value.{valueFrom as valueFrom·digits}
 use Rattle.attributes.specs.Attributes.{valueFrom as valueFrom·attributes, enableFrom, keywordFrom, openedOf, attributeOf}
@@ -59,5 +60,5 @@ use Rattle.worked.specs.Texts.{AllHold, texts}
 
 -- document 01, "Worked texts"
 pub worked : AllHold texts
-unfolding within blank blank1 blank2 blank3 blankWidth foreign digit letter hexDigit intChar floatChar identFirst identNext identRaw continuationBlank judgedOf·text judgedOf·floats placeFits behindFront run run2 asciiFor encode secondByte behindThree behindFour widthOf charLen utf8From utf8Of codeOf4 codeOf scalar encodedLen encodeAnswer encodedInto markOf blockFrom blockEnd behindSlash commentOf itemOf·comments itemOf·attributes gapFrom gapOf lineFrom lineEnd·comments lineEnd·strings hexOf secondDigit twoDigits closeOf digitsOf unicodeEscape nextByte moreBytes hexEscape simpleOf escapeOf orderly inOrderFrom inOrder entryAt entriesOf written flat laid anyQuiet countOf keptBefore lastQuiet isMoved areMoved allBehind areKept largest keptBehind quietByte place entries counted endOf tokensFrom charIf charsFrom chars foreignFront beginsFloat suffixed named missing wordOf·names wordOf·attributes nameLen plainOf rawOf·names rawOf·strings skipIdentifierOf strictOf identifierOf startsWith·names startsWith·integers beginsString beginsRaw turnOf digitsFrom runOf valueFrom·digits valueFrom·attributes signOf prefixOf frontOf numeralOf typedOf anyOf widthAt limitAt firstFit suffixWord suffixOf identOf firstOf foreignAhead floatGoes runAt floatOf stepOf·floats stepOf·structs accepts wellTo stripped floatAhead numberOf charEnds charOf byteEnds byteOf unquoted plain behindBackslash pieceOf decodedLen bodyFrom bodyOf decodedOf measured quotedOf rawEnd rawContents stringOf byteStringOf stringDecoded byteStringDecoded enableFrom keywordFrom openedOf attributeOf noEnd listEnd closeList stringEnd stringFrom isWord firstNamed extensionOf addedTo otherChar itemEnd behindName listFrom listOf skipFrom consumeFrom signAt signFrom byWord keywordAt ronToken markKind startsNumber behindB behindR shapeOf tokenOf readAnswer readTape cutFits repairFits leading joins scanOf·repair scanOf·structs repairAnswerOf cleared repairTapeOf repairOf repairedTape laidAt byKind insideOf namedOf pastGap pastChar pastString pastByteString markedBy pastSpurious afterComma scanFrom decided afterName contentsOf·structs contentsOf·sarridok unlessEmpty parenthesized insideNewtype structTypeOf decodedAnswer decodedOut skipOf structKindOf integerAt integerOf behindWalkFront walkOf linksAfter
+unfolding within blank blank1 blank2 blank3 blankWidth foreign digit letter hexDigit intChar floatChar identFirst identNext identRaw continuationBlank judgedOf·text judgedOf·floats placeFits behindFront run run2 asciiFor encode secondByte behindThree behindFour widthOf charLen utf8From utf8Of codeOf4 codeOf scalar encodedLen encodeAnswer encodedInto markOf blockFrom blockEnd behindSlash commentOf itemOf·comments itemOf·attributes gapFrom gapOf lineFrom lineEnd·comments lineEnd·strings hexOf secondDigit twoDigits closeOf digitsOf unicodeEscape nextByte moreBytes hexEscape simpleOf escapeOf orderly inOrderFrom inOrder entryAt entriesOf written flat laid anyQuiet countOf keptBefore lastQuiet isMoved areMoved allBehind areKept largest keptBehind quietByte place entries counted endOf tokensFrom charIf charsFrom chars foreignAhead beginsFloat suffixed named missing wordOf·names wordOf·attributes nameLen plainOf rawOf·names rawOf·strings skipIdentifierOf strictOf identifierOf startsWith beginsString beginsRaw turnOf digitsFrom runOf valueFrom·digits valueFrom·attributes signOf prefixOf frontOf numeralOf typedOf anyOf widthAt limitAt firstFit suffixWord suffixOf identOf firstOf floatGoes runAt floatOf stepOf·floats stepOf·structs accepts wellTo stripped floatAhead numberOf charEnds charOf byteEnds byteOf unquoted plain behindBackslash pieceOf decodedLen bodyFrom bodyOf decodedOf measured quotedOf rawEnd rawContents stringOf byteStringOf stringDecoded byteStringDecoded enableFrom keywordFrom openedOf attributeOf noEnd listEnd closeList stringEnd stringFrom isWord firstNamed extensionOf addedTo otherChar itemEnd behindName listFrom listOf skipFrom consumeFrom signAt signFrom byWord keywordAt ronToken markKind startsNumber behindB behindR shapeOf tokenOf readAnswer readTape cutFits repairFits leading joins scanOf·repair scanOf·structs repairAnswerOf cleared repairTapeOf repairOf repairedTape laidAt byKind insideOf namedOf pastGap pastChar pastString pastByteString markedBy pastSpurious afterComma scanFrom decided afterName contentsOf·structs contentsOf·sarridok unlessEmpty parenthesized insideNewtype structTypeOf decodedAnswer decodedOut skipOf structKindOf integerAt integerOf behindWalkFront walkOf linksAfter
 worked = ((refl, refl), ((refl, refl), ((refl, refl), ((refl, refl), ((refl, refl), (refl, (refl, (refl, (refl, (refl, ((refl, refl), (refl, ((refl, refl), tt)))))))))))))

@@ -5,8 +5,7 @@ use Rattle.attributes.proofs.ListLaws.{other-out}
 use Rattle.attributes.proofs.list.check_other_char.Statement.{statement}
 use Rattle.attributes.specs.List.{otherChar}
 use Rattle.attributes.specs.declared.list.OtherChar.the-variants.{Foreign}
-use Rattle.integers.specs.Words.{foreignAhead}
-use Rattle.text.specs.Classes.{identNext}
+use Rattle.text.specs.Classes.{identNext, foreignAhead}
 use Rattle.text.proofs.Lists.{on-part}
 use Rattle.attributes.proofs.list.check_other_char.Tie as tie
 

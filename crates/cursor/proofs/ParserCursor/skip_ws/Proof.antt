@@ -1,4 +1,4 @@
-use Prim.Native.Nat.{_-_, ℕ}
+use Prim.Native.Nat.{_+_, _-_, ℕ}
 use native.Mathlib.Omega.{arith}
 use mathlib.Core.List.{List}
 use mathlib.Core.Path.{_∙_, _≡_, ap, subst, sym}
@@ -9,7 +9,7 @@ use Rattle.comments.specs.Gaps.{gapOf}
 use Rattle.comments.specs.declared.gap.Gap.{Gap}
 use Rattle.comments.specs.declared.gap.Gap.the-variants.{Clear, InLine, Refused as GapRefused}
 use Rattle.cursor.proofs.ParserCursor.skip_ws.Statement.{statement}
-use Rattle.cursor.proofs.SkipLaws.{pre-le, skip-at-end, skip-runs}
+use Rattle.cursor.proofs.SkipLaws.{skip-at-end, skip-runs}
 use Rattle.cursor.specs.Cursor.{cursor}
 use Rattle.cursor.specs.Skip.{behindGap, preOf, skipWsOf}
 use Rattle.cursor.specs.declared.ParserCursor.{ParserCursor}
@@ -62,8 +62,8 @@ enum-known-run c = search needs
 add-end : tie.Need-add-end
 add-end c = let p = c .before .before .before in omega (arith, short p (Clear _) (c .before .run .given .1))
 
-sub-len : tie.Need-sub-len
-sub-len c = let p = c .before .before .before in omega (arith, c .before .before .before .before .before .before .pre-ws .ensures, pre-le (own p) (c .before .before .before .before .before .before .before .before .pre .1))
+less-requires : tie.Need-less-requires
+less-requires c κs = search needs
 
 enum-known-run-2 : tie.Need-enum-known-run-2
 enum-known-run-2 c = search needs
@@ -78,7 +78,9 @@ placed-behind-requires : tie.Need-placed-behind-requires
 placed-behind-requires c κs = let p = c .before .before .before in omega (arith, short p (GapRefused _) (c .before .run3 .given .1))
 
 returns-2 : tie.Need-returns-2
-returns-2 c = ran (c .before .before .before) (Clear _) (c .before .run .given .1)
+returns-2 c =
+    let p = c .before .before .before .before in
+    ap (λ (n : ℕ). Moved (cursor (own p .cursor + c .before .before .run .given .0 .0) (p .before .before .before .pre-ws .result) n)) (c .less .ensures) ∙ ran p (Clear _) (c .before .before .run .given .1)
 
 returns-3 : tie.Need-returns-3
 returns-3 c = ran (c .before .before .before) (InLine _) (c .before .run2 .given .1)
@@ -98,7 +100,7 @@ skip-ws-spec =
     skip-gap-requires
     enum-known-run
     add-end
-    sub-len
+    less-requires
     enum-known-run-2
     add-end-2
     enum-known-run-3

@@ -3,9 +3,9 @@ use native.Mathlib.Omega.{arith}
 use mathlib.Core.Path.{_∙_, _≡_, refl, sym}
 use lib.ListN.{drop, length}
 use borrow.Author.Needs.{needs}
-use Rattle.integers.proofs.Words.{starts-differ, starts-end, starts-more, starts-out}
+use Rattle.text.proofs.WordLaws.{starts-differ, starts-end, starts-more, starts-out}
 use Rattle.integers.proofs.ident.check_str.Statement.{statement}
-use Rattle.integers.specs.Words.{startsWith}
+use Rattle.text.specs.Words.{startsWith}
 use Rattle.integers.proofs.ident.check_str.Tie as tie
 
 abbrev Inv-loop : tie.InvT-loop

@@ -2,8 +2,8 @@ use mathlib.Core.Path.{_∙_, ap}
 use borrow.Author.Needs.{needs}
 use borrow.Author.Tests.{eq-eqb, ne-eqb}
 use Rattle.integers.proofs.ident.is_asked_behind.Statement.{statement}
-use Rattle.integers.specs.Words.{foreignAhead}
 use Rattle.text.proofs.Lists.{tail-part}
+use Rattle.text.specs.Classes.{foreignAhead}
 use Rattle.integers.proofs.ident.is_asked_behind.Tie as tie
 
 returns : tie.Need-returns

@@ -1,5 +1,5 @@
 use borrow.Author.Tests.{eq-eqb, ne-eqb}
-use Rattle.integers.proofs.More.{cond-same}
+use Rattle.text.proofs.Choices.{cond-same}
 use Rattle.integers.proofs.width.lowest.Statement.{statement}
 use Rattle.integers.specs.Width.{limitAt}
 use Rattle.integers.proofs.width.lowest.Tie as tie

@@ -6,9 +6,9 @@ use borrow.Author.Needs.{needs}
 use borrow.Author.Tests.{eq-eqb, ne-eqb}
 use Rattle.names.proofs.CharLaws.{chars-le}
 use Rattle.names.proofs.identifiers.raw.Statement.{statement}
-use Rattle.names.specs.Characters.{chars, foreignFront}
+use Rattle.names.specs.Characters.{chars}
 use Rattle.names.specs.Identifiers.{rawOf}
-use Rattle.text.specs.Classes.{identRaw}
+use Rattle.text.specs.Classes.{identRaw, foreignAhead}
 use Rattle.text.proofs.Lists.{on-part}
 use Rattle.names.proofs.identifiers.raw.Tie as tie
 
@@ -27,32 +27,32 @@ next-chars-while-len-requires c κs = search needs
 add-end : tie.Need-add-end
 add-end c = omega (arith, on-part (chars identRaw) (c .before .before .before .args .s .now) 2 (c .next-chars-while-len .result) _ (c .next-chars-while-len .ensures) refl, chars-le identRaw (drop 2 (c .before .before .before .args .s .now)), length-drop 2 (c .before .before .before .args .s .now))
 
-sub-begins-foreign : tie.Need-sub-begins-foreign
-sub-begins-foreign c = omega (arith, on-part (chars identRaw) (c .before .before .before .args .s .now) 2 (c .next-chars-while-len .result) _ (c .next-chars-while-len .ensures) refl, chars-le identRaw (drop 2 (c .before .before .before .args .s .now)), length-drop 2 (c .before .before .before .args .s .now))
+sub-is-foreign-ahead : tie.Need-sub-is-foreign-ahead
+sub-is-foreign-ahead c = omega (arith, on-part (chars identRaw) (c .before .before .before .args .s .now) 2 (c .next-chars-while-len .result) _ (c .next-chars-while-len .ensures) refl, chars-le identRaw (drop 2 (c .before .before .before .args .s .now)), length-drop 2 (c .before .before .before .args .s .now))
 
-part-begins-foreign-start : tie.Need-part-begins-foreign-start
-part-begins-foreign-start c = omega (arith, on-part (chars identRaw) (c .before .before .before .args .s .now) 2 (c .next-chars-while-len .result) _ (c .next-chars-while-len .ensures) refl, chars-le identRaw (drop 2 (c .before .before .before .args .s .now)), length-drop 2 (c .before .before .before .args .s .now))
+part-is-foreign-ahead-start : tie.Need-part-is-foreign-ahead-start
+part-is-foreign-ahead-start c = omega (arith, on-part (chars identRaw) (c .before .before .before .args .s .now) 2 (c .next-chars-while-len .result) _ (c .next-chars-while-len .ensures) refl, chars-le identRaw (drop 2 (c .before .before .before .args .s .now)), length-drop 2 (c .before .before .before .args .s .now))
 
-part-begins-foreign-end : tie.Need-part-begins-foreign-end
-part-begins-foreign-end c = search needs
+part-is-foreign-ahead-end : tie.Need-part-is-foreign-ahead-end
+part-is-foreign-ahead-end c = search needs
 
-begins-foreign-requires : tie.Need-begins-foreign-requires
-begins-foreign-requires c κs = search needs
+is-foreign-ahead-requires : tie.Need-is-foreign-ahead-requires
+is-foreign-ahead-requires c κs = search needs
 
 foreign-char-requires : tie.Need-foreign-char-requires
 foreign-char-requires c κs = search needs
 
 returns : tie.Need-returns
 unfolding rawOf
-returns c = simp (on-part (chars identRaw) (c .before .before .before .before .before .before .before .args .s .now) 2 (c .before .before .before .before .next-chars-while-len .result) _ (c .before .before .before .before .next-chars-while-len .ensures) refl, on-part foreignFront (c .before .before .before .before .before .before .before .args .s .now) (2 + (c .before .before .before .before .next-chars-while-len .result)) _ _ (c .before .before .begins-foreign .ensures) (c .before .if1 .taken), c .foreign-char .ensures)
+returns c = simp (on-part (chars identRaw) (c .before .before .before .before .before .before .before .args .s .now) 2 (c .before .before .before .before .next-chars-while-len .result) _ (c .before .before .before .before .next-chars-while-len .ensures) refl, on-part foreignAhead (c .before .before .before .before .before .before .before .args .s .now) (2 + (c .before .before .before .before .next-chars-while-len .result)) _ _ (c .before .before .is-foreign-ahead .ensures) (c .before .if1 .taken), c .foreign-char .ensures)
 
 returns-2 : tie.Need-returns-2
 unfolding rawOf
-returns-2 c = simp (on-part (chars identRaw) (c .before .before .before .before .before .before .before .args .s .now) 2 (c .before .before .before .before .next-chars-while-len .result) _ (c .before .before .before .before .next-chars-while-len .ensures) refl, on-part foreignFront (c .before .before .before .before .before .before .before .args .s .now) (2 + (c .before .before .before .before .next-chars-while-len .result)) _ _ (c .before .before .begins-foreign .ensures) (c .before .if1 .left), eq-eqb _ _ (c .if2 .taken))
+returns-2 c = simp (on-part (chars identRaw) (c .before .before .before .before .before .before .before .args .s .now) 2 (c .before .before .before .before .next-chars-while-len .result) _ (c .before .before .before .before .next-chars-while-len .ensures) refl, on-part foreignAhead (c .before .before .before .before .before .before .before .args .s .now) (2 + (c .before .before .before .before .next-chars-while-len .result)) _ _ (c .before .before .is-foreign-ahead .ensures) (c .before .if1 .left), eq-eqb _ _ (c .if2 .taken))
 
 returns-3 : tie.Need-returns-3
 unfolding rawOf
-returns-3 c = simp (on-part (chars identRaw) (c .before .before .before .before .before .before .before .args .s .now) 2 (c .before .before .before .before .next-chars-while-len .result) _ (c .before .before .before .before .next-chars-while-len .ensures) refl, on-part foreignFront (c .before .before .before .before .before .before .before .args .s .now) (2 + (c .before .before .before .before .next-chars-while-len .result)) _ _ (c .before .before .begins-foreign .ensures) (c .before .if1 .left), ne-eqb _ _ (c .if2 .left))
+returns-3 c = simp (on-part (chars identRaw) (c .before .before .before .before .before .before .before .args .s .now) 2 (c .before .before .before .before .next-chars-while-len .result) _ (c .before .before .before .before .next-chars-while-len .ensures) refl, on-part foreignAhead (c .before .before .before .before .before .before .before .args .s .now) (2 + (c .before .before .before .before .next-chars-while-len .result)) _ _ (c .before .before .is-foreign-ahead .ensures) (c .before .if1 .left), ne-eqb _ _ (c .if2 .left))
 
 pub raw-spec : {M : Type 1} → statement M
 raw-spec =
@@ -63,10 +63,10 @@ raw-spec =
     part-next-chars-while-len-end
     next-chars-while-len-requires
     add-end
-    sub-begins-foreign
-    part-begins-foreign-start
-    part-begins-foreign-end
-    begins-foreign-requires
+    sub-is-foreign-ahead
+    part-is-foreign-ahead-start
+    part-is-foreign-ahead-end
+    is-foreign-ahead-requires
     foreign-char-requires
     returns
     returns-2

@@ -3,8 +3,8 @@ use mathlib.Core.Path.{_∙_, ap, sym}
 use borrow.Author.Needs.{needs}
 use borrow.Author.Tests.{ne-eqb}
 use lib.ListN.{drop}
-use Rattle.names.specs.Starts.{startsWith}
 use Rattle.text.proofs.Lists.{head-at, tail-part}
+use Rattle.text.specs.Words.{startsWith}
 use Rattle.plain_names.proofs.PlaceLaws.{float-i, float-n, no-float}
 use Rattle.plain_names.proofs.plain.begins_float.Statement.{statement}
 use Rattle.plain_names.proofs.plain.begins_float.Tie as tie

@@ -1,7 +1,6 @@
 use mathlib.Core.Path.{_∙_, ap, sym}
 use borrow.Author.Needs.{needs}
 use borrow.Author.Tests.{not-false, not-true}
-use Rattle.cursor.proofs.SkipLaws.{fits-places}
 use Rattle.sarridok.proofs.skip_call.skip.Statement.{statement}
 use Rattle.sarridok.specs.Skip.{told, skipOf}
 use Rattle.text.proofs.JudgeLaws.{front-fit, front-refused, front-unfit}
@@ -32,7 +31,7 @@ unfolding skipOf
 returns-2 c = ap refused (c .unfit .ensures) ∙ sym (front-unfit _ _ _ (sym (c .before .before .before .before .before .judge .ensures) ∙ c .before .before .before .enum-told .given .1) (sym (c .before .before .fits2 .ensures) ∙ not-true _ (c .before .if1 .taken)))
 
 skip-ws-requires : tie.Need-skip-ws-requires
-skip-ws-requires c κs = fits-places _ _ (sym (c .before .fits2 .ensures) ∙ not-false _ (c .if1 .left))
+skip-ws-requires c κs = search needs
 
 returns-3 : tie.Need-returns-3
 unfolding skipOf

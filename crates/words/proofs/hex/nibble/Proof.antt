@@ -1,7 +1,7 @@
 use native.Mathlib.Omega.{arith}
 use borrow.Author.Needs.{needs}
 use Rattle.words.specs.Digit.{nibbleOf}
-use Rattle.words.proofs.Digits.{inside, below, above}
+use Rattle.text.proofs.ClassLaws.{inside, below, above}
 use Rattle.words.proofs.hex.nibble.Statement.{statement}
 use Rattle.words.proofs.hex.nibble.Tie as tie
 

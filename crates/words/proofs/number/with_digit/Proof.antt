@@ -3,7 +3,7 @@ use mathlib.Core.List.{[]}
 use mathlib.Core.Path.{sym, _∙_}
 use borrow.Author.Needs.{needs}
 use Rattle.words.proofs.Decimals.{decimal-digit, decimal-other, decimal-end, decimal-large}
-use Rattle.words.proofs.Digits.{inside, below, above}
+use Rattle.text.proofs.ClassLaws.{inside, below, above}
 use Rattle.words.proofs.number.with_digit.Statement.{statement}
 use Rattle.words.proofs.number.with_digit.Tie as tie
 

@@ -1,0 +1,5 @@
+pub mod Bytes
+pub mod Skips
+pub mod Integers
+pub mod Kinds
+pub mod Contents

@@ -1,0 +1,3 @@
+pub mod SentenceLaws
+pub mod ExcerptLaws
+pub mod ExplainLaws

@@ -1,0 +1,49 @@
+-- Each refusal number of the paper as a sentence.
+use Prim.Native.Nat.{ℕ, zero, suc, _+_, min}
+use mathlib.Core.List.{List, _++_}
+use lib.ListN.{take, drop}
+use Rattle.lines.specs.Ascii.{ascii}
+use Rattle.lines.specs.Find.{findOf}
+
+-- The line behind n others.
+unfoldable pub lineAt : ℕ → List ℕ → List ℕ
+lineAt zero s = take (findOf 10 s) s
+lineAt (suc n) s = lineAt n (drop (findOf 10 s + 1) s)
+
+-- A line for each number from 0, which no refusal has, to 29; those that no text can bring about have theirs too.
+unfoldable pub sentences : List ℕ
+sentences =
+    ascii "\n" ++
+    ascii "the text is longer than 65,536 bytes\n" ++
+    ascii "the text is not UTF-8 here\n" ++
+    ascii "this character cannot stand in a name\n" ++
+    ascii "a block comment is not closed\n" ++
+    ascii "an unexpected character stands here or just before\n" ++
+    ascii "the text ends where a character is needed\n" ++
+    ascii "an integer is expected\n" ++
+    ascii "an integer cannot begin with an underscore\n" ++
+    ascii "this digit is not below the integer's base\n" ++
+    ascii "the integer is out of bounds\n" ++
+    ascii "a float is expected\n" ++
+    ascii "an underscore is misplaced in the float\n" ++
+    ascii "the escape is not valid\n" ++
+    ascii "a char is expected\n" ++
+    ascii "a byte literal is expected\n" ++
+    ascii "a string is expected\n" ++
+    ascii "the string is not closed\n" ++
+    ascii "a byte string is expected\n" ++
+    ascii "an attribute is expected\n" ++
+    ascii "the end of the attribute is expected\n" ++
+    ascii "the extension is not known\n" ++
+    ascii "there is no room for the entries\n" ++
+    ascii "the cut, the lengths or the tape are not in order\n" ++
+    ascii "more than 128 brackets are open\n" ++
+    ascii "this cannot stand here\n" ++
+    ascii "the text ends before its value does\n" ++
+    ascii "the entry or the suffix is of another kind\n" ++
+    ascii "a place, entry number, cursor or limit is unfit\n" ++
+    ascii "the contents hold an escape or a line continuation\n"
+
+-- The sentence of a number: its line, and the last one for a number above 28.
+unfoldable pub sentenceOf : ℕ → List ℕ
+sentenceOf n = lineAt (min n 29) sentences

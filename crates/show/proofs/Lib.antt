@@ -1,0 +1,4 @@
+pub mod ContentsLaws
+pub mod HexLaws
+pub mod ShownLaws
+pub mod SignLaws

@@ -1,0 +1,9 @@
+pub mod Answers
+pub mod Hexes
+pub mod Contents
+pub mod Integers
+pub mod Readings
+pub mod Walks
+pub mod Repairs
+pub mod Skips
+pub mod StructKinds
