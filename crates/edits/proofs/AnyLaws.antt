@@ -6,7 +6,7 @@ use mathlib.Core.List.{List, [], _++_, append-nil}
 use mathlib.Core.Path.{_≡_, sym, ap, subst, _∙_}
 use lib.ListN.{length, take, drop, drop-of-length-le}
 use lib.Seq.{take-all}
-use Rattle.lent.specs.Copies.{copied, sameFront}
+use Rattle.text.specs.Words.{startsWith}
 use Rattle.lines.specs.Out.{put}
 use Rattle.lines.specs.Over.{over}
 use Rattle.lines.proofs.OutLaws.{then}
@@ -68,28 +68,28 @@ module _ (tape text aside : List ℕ) (q : Cut) (r : RepairAnswer) (e : toldRepa
     unfolding tapeAfter
     left-is = l
 
-    module _ (copy : List ℕ) (k : copy ≡ copied tape aside) (out mid end : List ℕ × ℕ) where
+    module _ (copy : List ℕ) (k : copy ≡ over tape aside) (out mid end : List ℕ × ℕ) where
       abbrev Says : Type 0
-      Says = (end ≡ put out (anyText (toldOf tape q text) (tapeAfter tape q text) (copied tape aside))) × (left ≡ tapeAfter tape q text) × (copy ≡ copied tape aside)
+      Says = (end ≡ put out (anyText (toldOf tape q text) (tapeAfter tape q text) (over tape aside))) × (left ≡ tapeAfter tape q text) × (copy ≡ over tape aside)
 
       pub any-accepted : (n before behind : ℕ) → r ≡ repair.Repaired n before behind → mid ≡ put out (countsText n before behind)
           → end ≡ put mid (numbersText left) → Says
       any-accepted n before behind f g h = (
         then out mid end (countsText n before behind) (numbersText left) g h
             ∙ ap (λ (s : List ℕ). put out (countsText n before behind ++ numbersText s)) left-is
-            ∙ ap (λ (t : Told Repaired). put out (anyText t (tapeAfter tape q text) (copied tape aside))) (told-by (repair.Repaired n before behind) f),
+            ∙ ap (λ (t : Told Repaired). put out (anyText t (tapeAfter tape q text) (over tape aside))) (told-by (repair.Repaired n before behind) f),
         left-is,
         k,
       )
 
       pub any-refused : (f : Refusal) → r ≡ repair.Refused f → mid ≡ put out (refusedText f)
-          → (same : Bool) → same ≡ sameFront left copy → end ≡ put mid (cleanText same) → Says
+          → (same : Bool) → same ≡ startsWith left copy → end ≡ put mid (cleanText same) → Says
       any-refused f g h same j i = (
         then out mid end (refusedText f) (cleanText same) h i
             ∙ ap (λ (b : Bool). put out (refusedText f ++ cleanText b)) j
-            ∙ ap (λ (s : List ℕ). put out (refusedText f ++ cleanText (sameFront s copy))) left-is
-            ∙ ap (λ (s : List ℕ). put out (refusedText f ++ cleanText (sameFront (tapeAfter tape q text) s))) k
-            ∙ ap (λ (t : Told Repaired). put out (anyText t (tapeAfter tape q text) (copied tape aside))) (told-by (repair.Refused f) g),
+            ∙ ap (λ (s : List ℕ). put out (refusedText f ++ cleanText (startsWith s copy))) left-is
+            ∙ ap (λ (s : List ℕ). put out (refusedText f ++ cleanText (startsWith (tapeAfter tape q text) s))) k
+            ∙ ap (λ (t : Told Repaired). put out (anyText t (tapeAfter tape q text) (over tape aside))) (told-by (repair.Refused f) g),
         left-is,
         k,
       )
@@ -98,7 +98,7 @@ module _ (tape text aside : List ℕ) (q : Cut) (r : RepairAnswer) (e : toldRepa
 
 module _ (tape text aside : List ℕ) (q : Cut) (k : ℕ) (out end : List ℕ × ℕ) (last copy : List ℕ) where
   abbrev Repairs : List ℕ → Type 0
-  Repairs t = (end ≡ put out (anyText (toldOf t q text) (tapeAfter t q text) (copied t aside))) × (last ≡ tapeAfter t q text) × (copy ≡ copied t aside)
+  Repairs t = (end ≡ put out (anyText (toldOf t q text) (tapeAfter t q text) (over t aside))) × (last ≡ tapeAfter t q text) × (copy ≡ over t aside)
 
   abbrev In : List ℕ → List ℕ → List ℕ → Type 0
   In t rest after = (end ≡ put out (repairIn text q t rest aside .0)) × (after ≡ repairIn text q t rest aside .1) × (copy ≡ repairIn text q t rest aside .2)

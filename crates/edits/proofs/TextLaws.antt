@@ -7,7 +7,8 @@ use mathlib.Core.Path.{_≡_, refl, sym, ap, subst, _∙_}
 use lib.ListN.{length, take, drop, drop-of-length-le}
 use lib.Seq.{take-all}
 use borrow.Author.Tests.{le-leb, lt-leb}
-use Rattle.lent.specs.Copies.{copied, sameFront}
+use Rattle.lines.specs.Over.{over}
+use Rattle.text.specs.Words.{startsWith}
 use Rattle.lent.specs.Marks.{markAt, marked, keptFrom}
 use Rattle.lines.specs.Out.{put}
 use Rattle.lines.proofs.OutLaws.{then}
@@ -49,7 +50,7 @@ module _ (n m k : ℕ) (e : k ≡ max n m) where
 -- ---- a repair
 
 module _ (tape text aside : List ℕ) (q : Cut) (r : RepairAnswer) (e : toldRepair r ≡ repairOf tape (q .count) (q .old) (q .a) (q .b) text)
-    (left : List ℕ) (l : left ≡ repairedTape tape (q .count) (q .old) (q .a) (q .b) text) (copy : List ℕ) (k : copy ≡ copied tape aside) (out mid end : List ℕ × ℕ) where
+    (left : List ℕ) (l : left ≡ repairedTape tape (q .count) (q .old) (q .a) (q .b) text) (copy : List ℕ) (k : copy ≡ over tape aside) (out mid end : List ℕ × ℕ) where
   abbrev after : List ℕ
   after = tapeAfter tape q text
 
@@ -57,8 +58,8 @@ module _ (tape text aside : List ℕ) (q : Cut) (r : RepairAnswer) (e : toldRepa
   same-left = left-is tape text aside q r e left l
 
   told-text : (a : RepairAnswer) → r ≡ a
-      → put out (editText (toldRepair a) (q .count) after (copied tape aside)) ≡ put out (editText (toldOf tape q text) (q .count) after (copied tape aside))
-  told-text a f = ap (λ (t : Told Repaired). put out (editText t (q .count) after (copied tape aside))) (told-by tape text aside q r e a f)
+      → put out (editText (toldRepair a) (q .count) after (over tape aside)) ≡ put out (editText (toldOf tape q text) (q .count) after (over tape aside))
+  told-text a f = ap (λ (t : Told Repaired). put out (editText t (q .count) after (over tape aside))) (told-by tape text aside q r e a f)
 
   pub text-accepted : (n before behind : ℕ) → r ≡ repair.Repaired n before behind → mid ≡ put out (countsText n before behind)
       → (next : List ℕ × ℕ) → next ≡ put mid (tapeText 59 left n) → (w : ℕ) → w ≡ changedOf n (q .count)
@@ -76,13 +77,13 @@ module _ (tape text aside : List ℕ) (q : Cut) (r : RepairAnswer) (e : toldRepa
       )
 
   pub text-refused : (f : Refusal) → r ≡ repair.Refused f → mid ≡ put out (refusedText f)
-      → (same : Bool) → same ≡ sameFront left copy → end ≡ put mid (cleanText same) → Done (repairWith q text tape aside) out end left copy
+      → (same : Bool) → same ≡ startsWith left copy → end ≡ put mid (cleanText same) → Done (repairWith q text tape aside) out end left copy
   unfolding repairWith
   text-refused f g h same j i = (
     then out mid end (refusedText f) (cleanText same) h i
         ∙ ap (λ (b : Bool). put out (refusedText f ++ cleanText b)) j
-        ∙ ap (λ (s : List ℕ). put out (refusedText f ++ cleanText (sameFront s copy))) same-left
-        ∙ ap (λ (s : List ℕ). put out (refusedText f ++ cleanText (sameFront after s))) k
+        ∙ ap (λ (s : List ℕ). put out (refusedText f ++ cleanText (startsWith s copy))) same-left
+        ∙ ap (λ (s : List ℕ). put out (refusedText f ++ cleanText (startsWith after s))) k
         ∙ told-text (repair.Refused f) g,
     same-left,
     k,

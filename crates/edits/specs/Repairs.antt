@@ -4,7 +4,7 @@ use mathlib.Core.Bool.{cond, _&&_}
 use mathlib.Core.List.{List, _++_}
 use lib.Dec.{leb}
 use lib.ListN.{length, take, drop}
-use Rattle.lent.specs.Copies.{copied, sameFront}
+use Rattle.text.specs.Words.{startsWith}
 use Rattle.lent.specs.Marks.{markAt, marked, keptFrom}
 use Rattle.lines.specs.Ascii.{ascii}
 use Rattle.lines.specs.Over.{over}
@@ -43,13 +43,13 @@ tapeAfter tape q text = repairedTape tape (q .count) (q .old) (q .a) (q .b) text
 -- Accepted, every number of the slice; a refused repair may change none, which is told by a copy set aside before it.
 abbrev pub anyText : Told Repaired → List ℕ → List ℕ → List ℕ
 anyText (accepted r) left aside = countsText (r .count) (r .before) (r .behind) ++ numbersText left
-anyText (refused r) left aside = refusedText r ++ cleanText (sameFront left aside)
+anyText (refused r) left aside = refusedText r ++ cleanText (startsWith left aside)
 
 -- What is said of a tape with other numbers behind it, and all these and the copy afterwards.
 unfoldable pub repairIn : List ℕ → Cut → List ℕ → List ℕ → List ℕ → List ℕ × List ℕ × List ℕ
 repairIn text q tape rest aside =
     let left = tapeAfter tape q text in
-    let copy = copied tape aside in
+    let copy = over tape aside in
     (anyText (toldOf tape q text) left copy, left ++ rest, copy)
 
 -- What the first four words of `P` say.
@@ -91,13 +91,13 @@ abbrev pub editText : Told Repaired → ℕ → List ℕ → List ℕ → List �
 editText (accepted r) count left aside =
     let changed = changedOf (r .count) count in
     countsText (r .count) (r .before) (r .behind) ++ tapeText 59 left (r .count) ++ cleanText (keptFrom markAt (drop changed left) changed)
-editText (refused r) count left aside = refusedText r ++ cleanText (sameFront left aside)
+editText (refused r) count left aside = refusedText r ++ cleanText (startsWith left aside)
 
 -- A tape repaired for a cut and a new text: what is said, the tape and the copy.
 unfoldable pub repairWith : Cut → List ℕ → List ℕ → List ℕ → List ℕ × List ℕ × List ℕ
 repairWith q new tape aside =
     let left = tapeAfter tape q new in
-    let copy = copied tape aside in
+    let copy = over tape aside in
     (editText (toldOf tape q new) (q .count) left copy, left, copy)
 
 -- The same of the tape of an old text, where it was read.

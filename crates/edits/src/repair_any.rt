@@ -1,7 +1,7 @@
 // `P COUNT OLDLEN A B HEX N,N,..`: a repair of any tape. Accepted, every number of the slice is shown.
 ghost use mathlib.Core.Path.{_≡_};
 ghost use lib.ListN.{take, drop};
-ghost use Rattle.lent.specs.Copies.{copied};
+ghost use Rattle.lines.specs.Over.{over};
 ghost use Rattle.lines.specs.Out.{put};
 ghost use Rattle.edits.specs.Repairs.{toldOf, tapeAfter, anyText, repairIn, frontOf, anyLine};
 use crate::cuts::Cut;
@@ -58,7 +58,7 @@ fn repaired(
     o: &mut [u8],
     at: usize,
 ) -> usize
-    ensures { λ r. ⌜ ((now (o .exit), r) ≡ put (now (o .entry), at) (anyText (toldOf (now (tape .entry)) q (now (text .entry))) (tapeAfter (now (tape .entry)) q (now (text .entry))) (copied (now (tape .entry)) (now (aside .entry))))) × (now (tape .exit) ≡ tapeAfter (now (tape .entry)) q (now (text .entry))) × (now (aside .exit) ≡ copied (now (tape .entry)) (now (aside .entry))) ⌝ }
+    ensures { λ r. ⌜ ((now (o .exit), r) ≡ put (now (o .entry), at) (anyText (toldOf (now (tape .entry)) q (now (text .entry))) (tapeAfter (now (tape .entry)) q (now (text .entry))) (over (now (tape .entry)) (now (aside .entry))))) × (now (tape .exit) ≡ tapeAfter (now (tape .entry)) q (now (text .entry))) × (now (aside .exit) ≡ over (now (tape .entry)) (now (aside .entry))) ⌝ }
 {
     copies::copy(&tape[..], aside);
     let r = sarridok::repair(tape, q.count, q.old, q.a, q.b, text);

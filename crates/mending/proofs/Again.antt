@@ -1,23 +1,18 @@
 -- A tape that an accepted read or repair leaves holds the reading of its text, so that it may be repaired next. Assumes nothing.
 use Prim.Native.Nat.{ℕ, _*_, _≤_}
 use native.Mathlib.Omega.{arith}
-use mathlib.Core.Bool.{Bool, true, false, cond}
 use mathlib.Core.List.{List}
 use mathlib.Core.Path.{_≡_, ap, refl, sym, _∙_, subst}
-use lib.Dec.{ltb}
 use lib.ListN.{length, drop, replicate, length-append, length-drop, length-replicate}
-use borrow.Author.Tests.{ltb-false}
-use Rattle.text.specs.Judged.{judgedOf}
-use Rattle.text.specs.Refusals.{Told, accepted, refused, noRoom}
-use Rattle.text.specs.declared.judge.Judged.{Judged}
-use Rattle.text.specs.declared.judge.Judged.the-variants.{Fit, Refused}
+use Rattle.text.specs.Refusals.{Told, accepted}
 use Rattle.rows.proofs.RowLaws.{entries-flat, length-flat}
 use Rattle.rows.specs.Rows.{entriesOf, flat, laid, roomOf, width}
 use Rattle.rows.specs.declared.Entry.{Entry}
 use Rattle.reading.proofs.Entries.{counted-accepted}
 use Rattle.reading.specs.Readings.{_▸_, complete, counted, entries}
-use Rattle.read.proofs.ReadLaws.{read-fit, read-refused, tape-by}
-use Rattle.read.specs.Read.{readAnswer, readTape, readingOf, roomFor}
+use Rattle.read.proofs.AcceptedReads.{read-accepted}
+use Rattle.read.proofs.ReadLaws.{tape-by}
+use Rattle.read.specs.Read.{readAnswer, readTape, readingOf}
 use Rattle.repair.specs.Repair.{cleared}
 use Rattle.mending.specs.Fresh.{freshBy, freshCallTape}
 
@@ -37,26 +32,6 @@ laid-held text t n h l =
       holds = c .reading-is ∙ ap (λ (x : List Entry). x ▸ complete) (sym is);
       room = omega (arith, length-append (flat es) (drop (width * length es) t), length-flat es, length-drop (width * length es) t);
     }
-
--- an accepted read found the text fit, and room for its entries
-pub record Accepted (text : List ℕ) (numbers n : ℕ) : Type 0 where
-  pub counts : counted 0 (readingOf text) ≡ accepted n
-  pub fits : n ≤ roomOf numbers
-
-by-room : (r : ℕ) (x : Told ℕ) (n : ℕ) → roomFor r x ≡ accepted n → (x ≡ accepted n) × (n ≤ r)
-by-room r (refused d) n h = let z : _≡_ {A = ℕ} 0 1 = cc in absurd (omega arith)
-by-room r (accepted m) n h = go (ltb r m) refl h
-  where
-    go : (t : Bool) → ltb r m ≡ t → cond t (refused noRoom) (accepted m) ≡ accepted n → (accepted m ≡ accepted n) × (n ≤ r)
-    go true e h = let z : _≡_ {A = ℕ} 0 1 = cc in absurd (omega arith)
-    go false e h = let k : m ≡ n = cc in (h, omega (arith, ltb-false r m e))
-
-pub read-accepted : (text : List ℕ) (numbers n : ℕ) → readAnswer text numbers ≡ accepted n → Accepted text numbers n
-read-accepted text numbers n h = go (judgedOf text) refl
-  where
-    go : (x : Judged) → judgedOf text ≡ x → Accepted text numbers n
-    go Fit e = let w = by-room (roomOf numbers) (counted 0 (readingOf text)) n (sym (read-fit text numbers e) ∙ h) in record { counts = w .0; fits = w .1 }
-    go (Refused d) e = let z : _≡_ {A = Told ℕ} (refused d) (accepted n) = sym (read-refused text numbers d e) ∙ h in let y : _≡_ {A = ℕ} 0 1 = cc in absurd (omega arith)
 
 -- what an accepted read leaves
 pub after-read : (text tape : List ℕ) (n : ℕ) → readAnswer text (length tape) ≡ accepted n → Held text (readTape text tape) n

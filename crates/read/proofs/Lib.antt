@@ -1,3 +1,4 @@
 pub mod ReadSteps
 pub mod PassLaws
 pub mod ReadLaws
+pub mod AcceptedReads

@@ -6,11 +6,11 @@ use lib.ListN.{length}
 use borrow.Author.Needs.{needs}
 use Rattle.lent.proofs.copies.copy.Statement.{statement}
 use Rattle.lent.proofs.copies.copy.Tie as tie
-use Rattle.lent.specs.Copies.{copied}
+use Rattle.lines.specs.Over.{over}
 use Rattle.lent.proofs.CopyLaws.{copying, copy-on, copy-all, copy-full}
 
 abbrev Inv-loop : tie.InvT-loop
-Inv-loop from to₀ n i₀ to i = (n ≡ length from) × (length to ≡ length to₀) × (copying i from to ≡ copied from to₀)
+Inv-loop from to₀ n i₀ to i = (n ≡ length from) × (length to ≡ length to₀) × (copying i from to ≡ over from to₀)
 
 abbrev μ-loop : tie.MeasureT-loop
 μ-loop from to₀ n i₀ to i = length to₀ - i

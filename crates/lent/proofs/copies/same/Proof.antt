@@ -5,11 +5,11 @@ use lib.ListN.{length, drop}
 use borrow.Author.Needs.{needs}
 use Rattle.lent.proofs.copies.same.Statement.{statement}
 use Rattle.lent.proofs.copies.same.Tie as tie
-use Rattle.lent.specs.Copies.{sameFront}
+use Rattle.text.specs.Words.{startsWith}
 use Rattle.lent.proofs.CopyLaws.{same-short, same-off, same-on, same-ends}
 
 abbrev Inv-loop : tie.InvT-loop
-Inv-loop s others n i₀ i = (n ≡ length others) × (sameFront (drop i s) (drop i others) ≡ sameFront s others)
+Inv-loop s others n i₀ i = (n ≡ length others) × (startsWith (drop i s) (drop i others) ≡ startsWith s others)
 
 abbrev μ-loop : tie.MeasureT-loop
 μ-loop s others n i₀ i = length s - i
