@@ -148,6 +148,7 @@ endsOf words =
     byNumber (decimalOf (firstWord words)) ends.Bad (λ a.
     byNumber (decimalOf (firstWord (behindWord words))) ends.Bad (λ b. ends.Asks a b))
 
+-- What goes on with them, or what is said of a line that is no case.
 abbrev pub byEnds : {A : Type 0} → Ends → A → (ℕ → ℕ → A) → A
 byEnds (ends.Asks a b) bad own = own a b
 byEnds ends.Bad bad own = bad

@@ -52,6 +52,7 @@ freshCall old tape count a e new =
     let behind = keptBehind (length old) (length new) e was (entries (readingOf new)) in
     withKept before behind (readAnswer new (length tape))
 
+-- The tape that a fresh reading of the new text leaves: its entries, zeros up to the old count, and what stood behind.
 unfoldable pub freshCallTape : List ℕ → ℕ → List ℕ → List ℕ
 freshCallTape tape count new = freshBy (readAnswer new (length tape)) tape count new
 

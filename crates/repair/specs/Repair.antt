@@ -54,10 +54,11 @@ keptOf old a text = leading (endsBefore (lastQuiet quietByte (take a text))) old
 
 -- ---- where the new reading joins the old entries
 
--- The old entry y, moved from b to e, starts before the place x, or at it; told without a difference, which would be cut off at 0.
+-- The old entry y, moved from b to e, starts before the place x; told without a difference, which would be cut off at 0.
 abbrev pub movedBefore : ℕ → ℕ → ℕ → Entry → Bool
 movedBefore b e x y = ltb (y .start + e) (x + b)
 
+-- It starts at the place x.
 abbrev pub movedAt : ℕ → ℕ → ℕ → Entry → Bool
 movedAt b e x y = eqb (y .start + e) (x + b)
 

@@ -7,6 +7,7 @@ use Rattle.words.specs.Digit.{isDigit}
 use Rattle.words.specs.declared.number.Decimal.{Decimal}
 use Rattle.words.specs.declared.number.Decimal.the-variants.{Value, Bad}
 
+-- every byte is a digit
 unfoldable pub allDigits : List ℕ → Bool
 allDigits [] = true
 allDigits (a ∷ s) = isDigit a && allDigits s

@@ -21,6 +21,7 @@ unfoldable pub items : List ℕ → List (List ℕ)
 items [] = [] ∷ []
 items (a ∷ s) = let ws = items s in cond (eqb a 44) ([] ∷ ws) (inFront a ws)
 
+-- what goes on behind an item that is a number; nothing behind one that is none
 abbrev pub onSmall : Small → (ℕ → List ℕ) → List ℕ
 onSmall (small.Value n) k = k n
 onSmall small.Bad k = []
@@ -30,6 +31,7 @@ unfoldable pub smalls : List (List ℕ) → List ℕ
 smalls [] = []
 smalls (w ∷ ws) = onSmall (smallOf w) (λ n. n ∷ smalls ws)
 
+-- the numbers that a word says
 abbrev pub numbersOf : List ℕ → List ℕ
 numbersOf s = smalls (items s)
 

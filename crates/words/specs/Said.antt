@@ -22,18 +22,20 @@ abbrev pub bySmall : {A : Type 0} → Small → A → (ℕ → A) → A
 bySmall (small.Value n) bad own = own n
 bySmall small.Bad bad own = bad
 
--- The same of a word in hex: its bytes, where there is room for them.
+-- The same by what a word in hex was found to be.
 abbrev pub byHex : {A : Type 0} → Hex → A → A → A
 byHex (hex.Bytes n) bad own = own
 byHex hex.Bad bad own = bad
 
+-- By a word in hex: what goes on with its bytes, where there is room for them.
 abbrev pub byBytes : {A : Type 0} → List ℕ → ℕ → A → (List ℕ → A) → A
 byBytes word room bad own = byHex (hexIn word room) bad (own (pairs word))
 
--- The same of a list: its numbers, where there is room for them.
+-- The same by what a list of numbers was found to be.
 abbrev pub byList : {A : Type 0} → Count → A → A → A
 byList (count.Stored n) bad own = own
 byList count.Bad bad own = bad
 
+-- By a list of numbers: what goes on with these, where there is room for them.
 abbrev pub byNumbers : {A : Type 0} → List ℕ → ℕ → A → (List ℕ → A) → A
 byNumbers word room bad own = byList (numbersIn word room) bad (own (numbersOf word))

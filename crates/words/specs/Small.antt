@@ -14,5 +14,6 @@ abbrev pub small : Decimal → Small
 small (decimal.Value n) = cond (ltb n (2 ^ 32)) (Value n) Bad
 small decimal.Bad = Bad
 
+-- the number below 2^32 that a word says
 unfoldable pub smallOf : List ℕ → Small
 smallOf s = small (decimalOf s)
