@@ -97,10 +97,10 @@ fn explain(o: &mut [u8], s: &[u8], tape: &mut [u32], links: &mut [u32]) -> usize
     }
 }
 
-// A byte more than a text may have is read, so that a longer one is refused; what stands behind is read into the output's buffer, which is still empty.
+// A byte more than a text may have is read, so that a longer one is refused.
 fn print(text: &mut [u8], tape: &mut [u32], links: &mut [u32], o: &mut [u8]) {
     let n = io::read_full(STDIN_FILENO, text);
-    input::drain(o);
+    input::drain();
     let end = explain(o, lines::part(&text[..], 0, n), tape, links);
     out::flush(&o[..], end);
 }

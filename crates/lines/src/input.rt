@@ -74,9 +74,17 @@ pub fn more(buf: &mut [u8], from: usize, to: usize) -> Input
     read_behind(buf, to - from)
 }
 
-// Reads on to the end of the input, so that whoever writes it is not cut off; the turns are counted down, since a proved loop has to end. Nothing is answered,
-// and what the lent bytes are afterwards is the system's alone.
-pub fn drain(rest: &mut [u8]) {
+// Reads on to the end of the input, so that whoever writes it is not cut off. The bytes go nowhere: nothing is lent, and nothing is answered.
+pub fn drain()
+    ensures { λ r. ⌜ r ≡ tt ⌝ }
+{
+    let mut space = io::buffer();
+    let rest: &mut [u8] = &mut space;
+    read_on(rest);
+}
+
+// The turns are counted down, since a proved loop has to end.
+fn read_on(rest: &mut [u8]) {
     let mut turns = u64::MAX;
     while 0 < turns {
         let n = io::read_full(STDIN_FILENO, rest);

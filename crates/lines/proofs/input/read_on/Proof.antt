@@ -1,8 +1,8 @@
 use mathlib.Core.Path.{_≡_}
 use lib.ListN.{length}
 use borrow.Author.Needs.{needs}
-use Rattle.lines.proofs.input.drain.Statement.{statement}
-use Rattle.lines.proofs.input.drain.Tie as tie
+use Rattle.lines.proofs.input.read_on.Statement.{statement}
+use Rattle.lines.proofs.input.read_on.Tie as tie
 
 abbrev Inv-loop : tie.InvT-loop
 Inv-loop rest₀ turns₀ rest turns = length rest ≡ length rest₀
@@ -37,8 +37,8 @@ same-length-2 c = search needs
 returns-2 : tie.Need-returns-2 Inv-loop μ-loop
 returns-2 c = search needs
 
-pub drain-spec : {M : Type 1} → statement M
-drain-spec =
+pub read-on-spec : {M : Type 1} → statement M
+read-on-spec =
     tie.close
     (tie.spec
     Inv-loop
