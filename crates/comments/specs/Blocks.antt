@@ -1,14 +1,21 @@
 -- Block comments (document 01, module 2): "Block comments nest."
--- A part of the text is the list of its bytes; a reader has to believe `markOf` and `Body`: that `blockEnd` finds exactly a body's end is proved in proofs/Nesting.antt.
-use Prim.Native.Nat.{ℕ, zero, suc, _+_}
+-- A part of the text is the list of its bytes; a reader has to believe `markOf` and `Body`: that the rule, and so `blockEnd`, finds exactly a body's end is proved in
+-- proofs/Nesting.antt.
+use Prim.Native.Nat.{ℕ, _+_, _-_}
 use mathlib.Core.Path.{_≡_}
 use mathlib.Core.List.{List, [], _∷_}
-use mathlib.Core.Bool.{cond}
+use mathlib.Core.Bool.{cond, _&&_}
 use lib.Dec.{eqb}
-use Rattle.comments.specs.declared.block.Mark.{Mark}
-use Rattle.comments.specs.declared.block.Mark.the-variants.{Opens, Closes, Neither}
+use Rattle.comments.specs.declared.block.Decision.{Decision}
+use Rattle.comments.specs.declared.block.Decision.the-variants.{Open, CloseLast, CloseInner, PassOn}
 use Rattle.comments.specs.declared.block.CommentEnd.{CommentEnd}
 use Rattle.comments.specs.declared.block.CommentEnd.the-variants.{Closed, Unclosed}
+
+-- A mark opens a block comment or closes one.
+pub data Mark : Type 0 where
+  Opens : Mark
+  Closes : Mark
+  Neither : Mark
 
 -- What two bytes in a row are: `/*`, `*/`, or neither.
 unfoldable pub markOf : ℕ → ℕ → Mark
@@ -20,22 +27,26 @@ pub data Body : List ℕ → List ℕ → Type 0 where
   nests : {a b : ℕ} {s u t : List ℕ} → markOf a b ≡ Opens → Body s u → Body u t → Body (a ∷ b ∷ s) t
   passes : {a b : ℕ} {s t : List ℕ} → markOf a b ≡ Neither → Body (b ∷ s) t → Body (a ∷ b ∷ s) t
 
--- The answer for each kind of mark.
-abbrev pub byMark : Mark → CommentEnd → CommentEnd → CommentEnd → CommentEnd
-byMark Opens opened closed on = opened
-byMark Closes opened closed on = closed
-byMark Neither opened closed on = on
+-- The rule of nesting, row by row as `decide` (src/block.rt) has it: what the bytes a and b do where `level` comments are open; 0x2f is `/`, and 0x2a is `*`.
+abbrev pub decisionOf : ℕ → ℕ → ℕ → Decision
+decisionOf a b level =
+    cond (eqb a 0x2f && eqb b 0x2a) Open
+    (cond (eqb a 0x2a && eqb b 0x2f && eqb level 1) CloseLast
+    (cond (eqb a 0x2a && eqb b 0x2f) CloseInner
+    PassOn))
 
--- Inside a block comment that stands in `outer` others, at the place `at`, with the bytes s in front: where the outermost ends.
+-- Where `level` comments are open, at the place `at`, with the bytes s in front: where the outermost ends, as `block_comment` goes on behind each decision.
 unfoldable pub blockFrom : List ℕ → ℕ → ℕ → CommentEnd
-blockFrom [] outer at = Unclosed
-blockFrom (a ∷ []) outer at = Unclosed
-blockFrom (a ∷ b ∷ s) outer at =
-    let opened = blockFrom s (suc outer) (at + 2) in
-    let closed : CommentEnd = elim outer [ zero ↦ Closed (at + 2) | suc k ↦ blockFrom s k (at + 2) ] in
-    let on = blockFrom (b ∷ s) outer (at + 1) in
-    byMark (markOf a b) opened closed on
+blockFrom [] level at = Unclosed
+blockFrom (a ∷ []) level at = Unclosed
+blockFrom (a ∷ b ∷ s) level at =
+    elim (decisionOf a b level) [
+      | Open ↦ blockFrom s (level + 1) (at + 2)
+      | CloseLast ↦ Closed (at + 2)
+      | CloseInner ↦ blockFrom s (level - 1) (at + 2)
+      | PassOn ↦ blockFrom (b ∷ s) level (at + 1)
+    ]
 
 -- s is what stands behind an opening mark: where its comment ends, counted from the front of s.
 unfoldable pub blockEnd : List ℕ → CommentEnd
-blockEnd s = blockFrom s 0 0
+blockEnd s = blockFrom s 1 0

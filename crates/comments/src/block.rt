@@ -1,13 +1,6 @@
 // Block comments, which nest.
 ghost use mathlib.Core.Path.{_≡_};
-ghost use Rattle.comments.specs.Blocks.{markOf, blockEnd};
-
-// What two bytes in a row are.
-pub enum Mark {
-    Opens,
-    Closes,
-    Neither,
-}
+ghost use Rattle.comments.specs.Blocks.{decisionOf, blockEnd};
 
 // Where a comment ends: behind the closing mark of a block comment, at the LF of a line comment, or nowhere.
 pub enum CommentEnd {
@@ -15,21 +8,31 @@ pub enum CommentEnd {
     Unclosed,
 }
 
-pub fn mark_at(a: u8, b: u8) -> Mark
-    ensures { λ r. ⌜ r ≡ markOf a b ⌝ }
+// What the two bytes at hand do to a block comment.
+pub enum Decision {
+    // One more comment is open.
+    Open,
+    // The last open comment is closed: here it all ends.
+    CloseLast,
+    // An inner comment is closed: one fewer is open.
+    CloseInner,
+    // No mark: one byte further.
+    PassOn,
+}
+
+// The two bytes at hand, and the level beside them: how many comments are open.
+struct AtHand(u8, u8, usize);
+
+// The rule of nesting, one decision: what the bytes a and b do where `level` comments are open.
+pub fn decide(a: u8, b: u8, level: usize) -> Decision
+    ensures { λ r. ⌜ r ≡ decisionOf a b level ⌝ }
 {
-    if a == b'/' {
-        if b == b'*' {
-            return Mark::Opens;
-        }
-        return Mark::Neither;
+    match AtHand(a, b, level) {
+        AtHand(b'/', b'*', _) => Decision::Open,
+        AtHand(b'*', b'/', 1) => Decision::CloseLast,
+        AtHand(b'*', b'/', _) => Decision::CloseInner,
+        _ => Decision::PassOn,
     }
-    if a == b'*' {
-        if b == b'/' {
-            return Mark::Closes;
-        }
-    }
-    Mark::Neither
 }
 
 // s is what stands behind the opening mark.
@@ -38,25 +41,27 @@ pub fn block_comment(s: &[u8]) -> CommentEnd
 {
     let mut level: usize = 1;
     let mut i: usize = 0;
-    while level > 0 {
-        let at = search::find_either(s, i, b'*', b'/');
-        if s.len() - at < 2 {
+    loop {
+        // On to the next byte that could begin a mark. It is here for speed: without it each byte before would be passed on by itself.
+        i = search::find_either(s, i, b'*', b'/');
+        if s.len() - i < 2 {
             return CommentEnd::Unclosed;
         }
-        let m = mark_at(s[at], s[at + 1]);
-        match m {
-            Mark::Opens => {
+        match decide(s[i], s[i + 1], level) {
+            Decision::Open => {
                 level += 1;
-                i = at + 2;
+                i += 2;
             }
-            Mark::Closes => {
+            Decision::CloseLast => {
+                return CommentEnd::Closed(i + 2);
+            }
+            Decision::CloseInner => {
                 level -= 1;
-                i = at + 2;
+                i += 2;
             }
-            Mark::Neither => {
-                i = at + 1;
+            Decision::PassOn => {
+                i += 1;
             }
         }
     }
-    CommentEnd::Closed(i)
 }
