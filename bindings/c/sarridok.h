@@ -105,7 +105,7 @@ enum sarridok_struct_type {
 enum sarridok_refusal {
     SARRIDOK_TOO_LONG = 1,                /* text over 65,536 bytes; 0 */
     SARRIDOK_NOT_UTF8 = 2,                /* not UTF-8; the first byte of the first bad sequence */
-    SARRIDOK_FOREIGN_CHAR = 3,            /* a character above U+007F where a name's is asked for; that character */
+                                          /* 3 is reserved: no call gives it */
     SARRIDOK_UNCLOSED_BLOCK_COMMENT = 4,  /* block comment not closed; end of text */
     SARRIDOK_UNEXPECTED_CHAR = 5,         /* unexpected character; behind it after `/`, at it where no token starts */
     SARRIDOK_EOF = 6,                     /* text ends where a character is needed; end of text */
@@ -148,7 +148,7 @@ static inline uint32_t sarridok_place(uint64_t answer) { return (uint32_t)answer
 
 /* Reads a text into a tape, SARRIDOK_ENTRY numbers to an entry. Whitespace and comments make no entry; a text has at most as many entries as bytes.
  * Accepted: the number of entries, which stand at the front of the tape; the rest of it is as it was.
- * Refused: 1, 2, then the first refusal of reading (3 to 21), and 22 last. */
+ * Refused: 1, 2, then the first refusal of reading (4 to 21), and 22 last. */
 uint64_t sarridok_read(const uint8_t *text, size_t text_len, uint32_t *tape, size_t tape_len);
 
 /* Joins the brackets of a tape: one link to an entry. `limit` is how many brackets may be open at once, 0 to 128.
@@ -166,7 +166,7 @@ uint64_t sarridok_repair(uint32_t *tape, size_t tape_len, size_t count, size_t o
 
 /* The integer at a place, in a width of enum sarridok_width; a byte literal is u8.
  * Accepted: minus * 2^32 + the place behind it; minus is 0 or 1. *magnitude is the number without its minus; there is no minus at 0.
- * Refused: 1, 2, 28 for a place or a width that is unfit, 3 and 6 to 15 of reading, 27 for another suffix. */
+ * Refused: 1, 2, 28 for a place or a width that is unfit, 6 to 15 of reading, 27 for another suffix. */
 uint64_t sarridok_integer(const uint8_t *text, size_t text_len, size_t place, uint32_t width, uint64_t *magnitude);
 
 /* The bytes inside the string or byte string that an entry names, where nothing in it was escaped.

@@ -61,6 +61,7 @@ const fn kind(name: &'static str, make: fn(&mut Random, usize) -> String) -> Kin
 pub const KINDS: &[Kind] = &[
     kind("canal network", |_, size| canal(size)),
     kind("names", |r, size| list(size, || name(r))),
+    kind("names with accents", |r, size| list(size, || accented(r))),
     kind("integers", |r, size| list(size, || integer(r))),
     kind("floats", |r, size| list(size, || float(r))),
     kind("hex", |r, size| list(size, || hex(r))),
@@ -105,6 +106,9 @@ pub const WORST: &[Kind] = &[
     kind("float digits", |_, size| filled("0.", "7", "", size)),
     kind("digits and letters", |_, size| filled("1", "e", "", size)),
     kind("one name", |_, size| filled("", "n", "", size)),
+    kind("one name of rare letters", |_, size| filled("", "ع", "", size)),
+    kind("names of one rare letter", |_, size| filled("", "ع ", "", size)),
+    kind("suffixes and rare letters", |_, size| filled("", "5u8ع ", "", size)),
     kind("names b and r", |_, size| filled("", "b r ", "", size)),
     kind("names like inf", |_, size| filled("", "inff3 NaNf6 ", "", size)),
     kind("attributes", |_, size| filled("", "#![enable(unwrap_newtypes)]", "", size)),
@@ -178,6 +182,13 @@ fn name(r: &mut Random) -> String {
     let length = r.between(2, 15);
     let tail = r.run("abcdefghijklmnopqrstuvwxyz_0123456789", length);
     format!("{}{tail}", r.of(&["a", "b", "c", "gate", "i", "lock_", "N", "r", "reach", "S", "w", "_"]))
+}
+
+/// Welsh words: one letter in three has an accent.
+fn accented(r: &mut Random) -> String {
+    let length = r.between(2, 12);
+    let tail = r.run("abcdefghilmnoprstuwyâêîôûŵŷëïáö_", length);
+    format!("{}{tail}", r.of(&["Dŵr", "Tŷ", "pŵer", "lôn", "Ŷ", "Ŵ", "gwŷr", "Llŷn", "ŵyn", "môr"]))
 }
 
 fn digits(r: &mut Random, most: u64) -> String {

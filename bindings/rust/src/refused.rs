@@ -12,7 +12,7 @@ use std::fmt;
 /// ```
 #[derive(Clone, Copy, Debug, PartialEq, Eq, Hash)]
 pub struct Refused {
-    /// 1 to 29.
+    /// 1 to 29, but for 3, which no call gives.
     pub number: u8,
     /// A byte of the text; for 24 and 25 an entry number, for 26 the number of entries.
     pub place: usize,
@@ -24,7 +24,6 @@ impl Refused {
         match self.number {
             1 => "text over 65,536 bytes",
             2 => "not UTF-8",
-            3 => "a character above U+007F where a name's is asked for",
             4 => "block comment not closed",
             5 => "unexpected character",
             6 => "text ends where a character is needed",

@@ -23,7 +23,7 @@ use Rattle.attributes.specs.declared.list.Item.the-variants.{Last, More,
 use Rattle.attributes.specs.declared.list.Listed.{Listed}
 use Rattle.attributes.specs.declared.list.Listed.the-variants.{Ended, Unlisted}
 use Rattle.attributes.specs.declared.list.OtherChar.{OtherChar}
-use Rattle.attributes.specs.declared.list.OtherChar.the-variants.{Ends, Foreign, Goes}
+use Rattle.attributes.specs.declared.list.OtherChar.the-variants.{Ends, Goes}
 use Rattle.attributes.specs.declared.steps.All.{All}
 use Rattle.attributes.specs.declared.steps.All.the-variants.{At, Failed}
 use Rattle.attributes.specs.declared.steps.Step.{Step}
@@ -35,19 +35,17 @@ use Rattle.comments.specs.Gaps.{gapOf}
 use Rattle.comments.specs.declared.gap.Gap.{Gap}
 use Rattle.comments.specs.declared.gap.Gap.the-variants.{Clear, InLine, Refused as NoGap}
 use Rattle.integers.proofs.WordStops.{fit}
-use Rattle.integers.specs.Words.{askedBehind}
 use Rattle.names.proofs.IdentifierLaws.{Within, identifier-within}
 use Rattle.names.specs.Identifiers.{identifierOf}
 use Rattle.names.specs.declared.Identifier.{Identifier}
-use Rattle.names.specs.declared.Identifier.the-variants.{Missing, Name, RawName, Refused as NoIdentifier}
+use Rattle.names.specs.declared.Identifier.the-variants.{Missing, Name, RawName}
 use Rattle.strings.proofs.Bounds.{Bounded-string, string-bounded}
 use Rattle.strings.proofs.Wholes.{none-here}
 use Rattle.strings.specs.Strings.{stringOf}
 use Rattle.strings.specs.declared.literal.LiteralAnswer.{LiteralAnswer}
 use Rattle.strings.specs.declared.literal.LiteralAnswer.the-variants.{Read as ReadString, Refused as NoString}
 use Rattle.text.proofs.Choices.{cond-cases}
-use Rattle.text.specs.Classes.{identNext, foreignAhead}
-use Rattle.text.specs.Refusals.{expectedAttribute, expectedAttributeEnd, foreignChar}
+use Rattle.text.specs.Refusals.{expectedAttribute, expectedAttributeEnd}
 use Rattle.text.specs.declared.refusal.Refusal.{Refusal}
 
 -- ---- steps
@@ -119,19 +117,10 @@ ItemIn t NoName = Unit {0}
 ItemIn t NoComma = Unit {0}
 ItemIn t (Spoilt r) = r .place ≤ length t
 
-foreign-at : (t : List ℕ) (at : ℕ) (r : Refusal) → otherChar t at ≡ Foreign r → r .place ≡ at
-unfolding otherChar
-foreign-at t at r =
-    cond-cases (λ (x : OtherChar). x ≡ Foreign r → r .place ≡ at) (foreignAhead (drop at t)) _ _
-    (λ f q. let z : foreignChar at ≡ r = cc in sym (ap (λ (x : Refusal). x .place) z))
-    (λ f. cond-cases (λ (x : OtherChar). x ≡ Foreign r → r .place ≡ at) (identNext (getD t at 0)) Goes Ends
-    (λ g q. let z : _≡_ {A = ℕ} 0 1 = cc in absurd (omega arith)) (λ g q. let z : _≡_ {A = ℕ} 0 1 = cc in absurd (omega arith)))
-
 other-in : (t : List ℕ) (e : Extension) (comma : Bool) (at : ℕ) (r : OtherChar) → otherChar t at ≡ r → 0 < at → at ≤ length t → ItemIn t (byOther r e comma at)
 other-in t e true at Goes q p h = (p, h)
 other-in t e false at Goes q p h = tt
 other-in t e comma at Ends q p h = (p, h)
-other-in t e comma at (Foreign r) q p h = omega (arith, foreign-at t at r q)
 
 comma-in : (t : List ℕ) (e : Extension) (n : ℕ) (r : All) → 0 < n → AllIn t n r → ItemIn t (byComma t e r)
 unfolding itemEnd
@@ -152,7 +141,6 @@ identifier-in : (t : List ℕ) (i : Identifier) → Within t i → ItemIn t (byI
 identifier-in t Missing w = tt
 identifier-in t (Name n) w = named-in t n (extensionOf t n) (w .0) (w .1)
 identifier-in t (RawName n) w = named-in t n (extensionOf (drop 2 t) (n - 2)) (omega (arith, w .0)) (w .1)
-identifier-in t (NoIdentifier r) w = w
 
 pub item-in : (t : List ℕ) → ItemIn t (itemOf t)
 unfolding itemOf
@@ -265,10 +253,9 @@ keyword-in s at h =
     let f = wordOf (drop at s) in
     let l : at + f .end ≤ length s = omega (arith, word-le (drop at s), length-drop at s) in
     cond-cases (λ (k : Keyword). AnswerIn s at (byKeyword s k)) (eqb (f .end) 0) _ _ (λ e. omega arith)
-    (λ e. cond-cases (λ (k : Keyword). AnswerIn s at (byKeyword s k)) (askedBehind f (drop at s)) _ _ (λ a. l)
-    (λ a. cond-cases (λ (k : Keyword). AnswerIn s at (byKeyword s k)) (eqb (f .code) 1) _ _
+    (λ e. cond-cases (λ (k : Keyword). AnswerIn s at (byKeyword s k)) (eqb (f .code) 1) _ _
     (λ c. answer-later s at (at + f .end) (enableFrom s (at + f .end)) (omega arith) (enable-in s (at + f .end) l))
-    (λ c. answer-later s at (at + f .end) (valueFrom s (at + f .end)) (omega arith) (value-in s (at + f .end) l))))
+    (λ c. answer-later s at (at + f .end) (valueFrom s (at + f .end)) (omega arith) (value-in s (at + f .end) l)))
 
 pub opened-in : (s : List ℕ) → AllIn s 0 (openedOf s)
 unfolding openedOf

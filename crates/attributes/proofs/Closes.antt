@@ -13,7 +13,7 @@ use borrow.Author.Tests.{eqb-true}
 use Rattle.attributes.proofs.Bounds.{AllIn, AnswerIn, EndsIn, ItemIn, StepIn, enable-in, item-in, list-ends, opened-in, sign-within, value-in}
 use Rattle.attributes.proofs.ListLaws.{list-more}
 use Rattle.attributes.proofs.StepLaws.{added-small, word-le}
-use Rattle.attributes.proofs.Stopping.{Good, GoodName, GoodRaw, GoodString, ahead-stopped, extension-good, extension-stopped, good-by, identifier-good, keyword-good, keyword-stopped, name-stopped, next-good, string-good}
+use Rattle.attributes.proofs.Stopping.{Good, GoodName, GoodRaw, GoodString, bracket-stopped, extension-good, extension-stopped, good-by, identifier-good, keyword-good, keyword-stopped, name-stopped, string-good}
 use Rattle.attributes.specs.Attributes.{attributeOf, byKeyword, byListed, byOpened, enableFrom, keywordFrom, openedOf, valueFrom}
 use Rattle.attributes.specs.Close.{answerAt, byBracket, byString, closeList, listEnd, noEnd, stringEnd, stringFrom}
 use Rattle.attributes.specs.Extensions.{addedTo, extensionOf}
@@ -30,24 +30,23 @@ use Rattle.attributes.specs.declared.list.Item.the-variants.{Last, More,
 use Rattle.attributes.specs.declared.list.Listed.{Listed}
 use Rattle.attributes.specs.declared.list.Listed.the-variants.{Ended, Unlisted}
 use Rattle.attributes.specs.declared.list.OtherChar.{OtherChar}
-use Rattle.attributes.specs.declared.list.OtherChar.the-variants.{Ends, Foreign, Goes}
+use Rattle.attributes.specs.declared.list.OtherChar.the-variants.{Ends, Goes}
 use Rattle.attributes.specs.declared.steps.All.{All}
 use Rattle.attributes.specs.declared.steps.All.the-variants.{At, Failed}
 use Rattle.attributes.specs.declared.steps.Step.{Step}
 use Rattle.attributes.specs.declared.steps.Step.the-variants.{Bad, On}
 use Rattle.attributes.specs.declared.words.Keyword.{Keyword}
-use Rattle.attributes.specs.declared.words.Keyword.the-variants.{Asked, Enable, NoKeyword, Text}
+use Rattle.attributes.specs.declared.words.Keyword.the-variants.{Enable, NoKeyword, Text}
 use Rattle.comments.proofs.GapWindow.{gap-window}
 use Rattle.comments.specs.Gaps.{byItem as byGapItem, gapFrom, gapOf, itemOf as gapItem}
 use Rattle.comments.specs.declared.gap.Gap.{Gap}
 use Rattle.comments.specs.declared.gap.Gap.the-variants.{Clear, InLine, Refused as NoGap}
 use Rattle.comments.specs.declared.gap.Item.{Item as GapItem}
 use Rattle.comments.specs.declared.gap.Item.the-variants.{Blank, BlockOpen, Ended as TextEnds, LineOpen, Other, Unexpected}
-use Rattle.integers.specs.Words.{askedBehind}
 use Rattle.names.proofs.IdentifierLaws.{Within, identifier-within}
 use Rattle.names.specs.Identifiers.{identifierOf}
 use Rattle.names.specs.declared.Identifier.{Identifier}
-use Rattle.names.specs.declared.Identifier.the-variants.{Missing, Name, RawName, Refused as NoIdentifier}
+use Rattle.names.specs.declared.Identifier.the-variants.{Missing, Name, RawName}
 use Rattle.strings.proofs.Closes.{Within-string, string-closed}
 use Rattle.strings.specs.Strings.{stringOf}
 use Rattle.strings.specs.declared.literal.LiteralAnswer.{LiteralAnswer}
@@ -55,8 +54,7 @@ use Rattle.strings.specs.declared.literal.LiteralAnswer.the-variants.{Read as R
 use Rattle.text.proofs.Choices.{cond-cases}
 use Rattle.text.proofs.Lists.{head-at}
 use Rattle.text.proofs.Stops.{Stopped}
-use Rattle.text.specs.Classes.{identNext, foreignAhead}
-use Rattle.text.specs.Refusals.{expectedAttributeEnd, foreignChar}
+use Rattle.text.specs.Refusals.{expectedAttributeEnd}
 use Rattle.text.specs.Utf8.Text.{none}
 
 -- ---- a `]` within the front
@@ -146,7 +144,6 @@ other-fine : (s : List ℕ) (q : ℕ) (r : OtherChar) (e : Extension) (comma : B
 other-fine s q Goes e true at f = f
 other-fine s q Goes e false at f = absurd f
 other-fine s q Ends e comma at f = f
-other-fine s q (Foreign r) e comma at f = absurd f
 
 comma-fine : (s : List ℕ) (q : ℕ) (e : Extension) (r : All) → FineItem s q (byComma s e r) → FineAll s q r
 unfolding itemEnd
@@ -222,7 +219,7 @@ module _ (u v v′ : List ℕ) (q : ℕ) (inside : q < length u) (is : getD u q 
   other-same : (at : ℕ) → at ≤ q → otherChar (u ++ v′) at ≡ otherChar (u ++ v) at
   unfolding otherChar
   other-same at h =
-      ap₂ (λ (f : Bool) (b : ℕ). cond f (Foreign (foreignChar at)) (cond (identNext b) Goes Ends)) (stopped-at ahead-stopped at h) (same-byte at h)
+      ap (λ (f : Bool). cond f Goes Ends) (stopped-at bracket-stopped at h)
 
   comma-same : (e : Extension) (r : All) → FineAll (u ++ v) q r → byComma (u ++ v′) e r ≡ byComma (u ++ v) e r
   unfolding itemEnd
@@ -251,31 +248,23 @@ module _ (u v v′ : List ℕ) (q : ℕ) (inside : q < length u) (is : getD u q 
   by-name-same Missing w f = absurd f
   by-name-same (Name n) w f = named-same n (extensionOf (u ++ v) n) (extensionOf (u ++ v′) n) (λ h. extension-same n) f
   by-name-same (RawName n) w f = named-same n (extensionOf (drop 2 (u ++ v)) (n - 2)) (extensionOf (drop 2 (u ++ v′)) (n - 2)) (λ h. stopped-at (extension-stopped (n - 2)) 2 (omega (arith, w .0))) f
-  by-name-same (NoIdentifier r) w f = absurd f
 
   pub item-same : FineItem (u ++ v) q (itemOf (u ++ v)) → itemOf (u ++ v′) ≡ itemOf (u ++ v)
   unfolding itemOf
   item-same f = ap (byIdentifier (u ++ v′)) (stopped-here name-stopped u v v′ q inside is) ∙ by-name-same (identifierOf (u ++ v)) (identifier-within (u ++ v)) f
 
--- an item begins with a good byte, and a name's character stands where one more begins
+-- an item begins with a good byte
 abbrev GoodItem : List ℕ → Item → Type 0
-GoodItem t (More n e) = Good (getD t 0 0) × Good (getD t n 0)
+GoodItem t (More n e) = Good (getD t 0 0)
 GoodItem t (Last n e) = Good (getD t 0 0)
 GoodItem t NoName = Unit {0}
 GoodItem t NoComma = Unit {0}
 GoodItem t (Spoilt r) = Unit {0}
 
-goes-next : (t : List ℕ) (at : ℕ) → otherChar t at ≡ Goes → Good (getD t at 0)
-unfolding otherChar
-goes-next t at =
-    cond-cases (λ (r : OtherChar). r ≡ Goes → Good (getD t at 0)) (foreignAhead (drop at t)) _ _ (λ a q. let z : _≡_ {A = ℕ} 0 1 = cc in absurd (omega arith))
-    (λ a. cond-cases (λ (r : OtherChar). r ≡ Goes → Good (getD t at 0)) (identNext (getD t at 0)) Goes Ends (λ b q. next-good (getD t at 0) b) (λ b q. let z : _≡_ {A = ℕ} 0 1 = cc in absurd (omega arith)))
-
 other-good : (t : List ℕ) (r : OtherChar) (e : Extension) (comma : Bool) (at : ℕ) → otherChar t at ≡ r → Good (getD t 0 0) → GoodItem t (byOther r e comma at)
-other-good t Goes e true at q g = (g, goes-next t at q)
+other-good t Goes e true at q g = g
 other-good t Goes e false at q g = tt
 other-good t Ends e comma at q g = g
-other-good t (Foreign r) e comma at q g = tt
 
 comma-good : (t : List ℕ) (e : Extension) (r : All) → Good (getD t 0 0) → GoodItem t (byComma t e r)
 unfolding itemEnd
@@ -295,7 +284,6 @@ identifier-item : (t : List ℕ) (i : Identifier) → GoodRaw t i → GoodItem t
 identifier-item t Missing g = tt
 identifier-item t (Name n) g = known-good t n (extensionOf t n) (extension-good t n)
 identifier-item t (RawName n) g = named-good t n (extensionOf (drop 2 t) (n - 2)) g
-identifier-item t (NoIdentifier r) g = tt
 
 item-good : (t : List ℕ) → GoodItem t (itemOf t)
 unfolding itemOf
@@ -325,7 +313,7 @@ list-by a t at sum r e = ap (λ (x : Item). byItem x (λ n e. listFrom t (pred n
 
 -- by the item in front, the rest being the same behind it
 by-item-same : (a : ℕ) (u v v′ : List ℕ) (q at sum : ℕ) → q < length (a ∷ u) → getD (a ∷ u) q 0 ≡ 0x5d
-    → ((n : ℕ) (e : Extension) → 0 < n → n ≤ q → FineList (drop n (a ∷ u) ++ v) (q - n) (at + n) (listFrom (drop n (a ∷ u) ++ v) 0 (at + n) (addedTo e sum)) → listFrom (drop n (a ∷ u) ++ v′) 0 (at + n) (addedTo e sum) ≡ listFrom (drop n (a ∷ u) ++ v) 0 (at + n) (addedTo e sum))
+    → ((n : ℕ) (e : Extension) → 0 < n → n ≤ q → FineList (drop n (a ∷ u) ++ v) (q - n) (at + n) (listFrom (drop n (a ∷ u) ++ v) 0 (at + n) (addedTo e sum)) → Good (getD (drop n (a ∷ u)) 0 0) × (listFrom (drop n (a ∷ u) ++ v′) 0 (at + n) (addedTo e sum) ≡ listFrom (drop n (a ∷ u) ++ v) 0 (at + n) (addedTo e sum)))
     → sum < 16 → (r : Item) → itemOf (a ∷ u ++ v) ≡ r → ItemIn (a ∷ u ++ v) r → GoodItem (a ∷ u ++ v) r
     → FineList (a ∷ u ++ v) q at (listFrom (a ∷ u ++ v) 0 at sum) → Good a × (listFrom (a ∷ u ++ v′) 0 at sum ≡ listFrom (a ∷ u ++ v) 0 at sum)
 by-item-same a u v v′ q at sum inside is rest small (More n e) i b g f =
@@ -339,11 +327,14 @@ by-item-same a u v v′ q at sum inside is rest small (More n e) i b g f =
     let d′ = drop-append-le n (a ∷ u) v′ l in
     let f3 = fine-behind (listFrom (drop n s) 0 (at + n) (addedTo e sum)) s q at n (at + n + length (drop n s)) h ends f2 in
     let f4 = subst (λ (x : List ℕ). FineList x (q - n) (at + n) (listFrom x 0 (at + n) (addedTo e sum))) d f3 in
-    let same : itemOf (a ∷ u ++ v′) ≡ More n e = item-same (a ∷ u) v v′ q inside is (subst (FineItem s q) (sym i) (h, g .1)) ∙ i in (
-      g .0,
+    let w = rest n e (b .0) h f4 in
+    let y : getD s n 0 ≡ getD (drop n (a ∷ u)) 0 0 = List·getD-append (a ∷ u) v 0 n (omega arith) ∙ sym (head-at (a ∷ u) n) in
+    let next : Good (getD s n 0) = good-by (getD s n 0) (getD (drop n (a ∷ u)) 0 0) y (w .0 .0) (w .0 .1) in
+    let same : itemOf (a ∷ u ++ v′) ≡ More n e = item-same (a ∷ u) v v′ q inside is (subst (FineItem s q) (sym i) (h, next)) ∙ i in (
+      g,
       list-more (a ∷ u ++ v′) at sum n e same (b .0) (omega (arith, length-append (a ∷ u) v′))
           ∙ ap (λ (x : List ℕ). listFrom x 0 (at + n) (addedTo e sum)) d′
-          ∙ rest n e (b .0) h f4
+          ∙ w .1
           ∙ sym (ap (λ (x : List ℕ). listFrom x 0 (at + n) (addedTo e sum)) d)
           ∙ sym m,
     )
@@ -365,7 +356,7 @@ list-fuel (suc fuel) [] v v′ q at sum k inside is small f = absurd (omega arit
 list-fuel zero (a ∷ u) v v′ q at sum k inside is small f = absurd (omega arith)
 list-fuel (suc fuel) (a ∷ u) v v′ q at sum k inside is small f =
     by-item-same a u v v′ q at sum inside is
-    (λ n e p h g. list-fuel fuel (drop n (a ∷ u)) v v′ (q - n) (at + n) (addedTo e sum) (omega (arith, length-drop n (a ∷ u))) (omega (arith, length-drop n (a ∷ u))) (bracket-behind (a ∷ u) q n h is) (added-small e sum small) g .1)
+    (λ n e p h g. list-fuel fuel (drop n (a ∷ u)) v v′ (q - n) (at + n) (addedTo e sum) (omega (arith, length-drop n (a ∷ u))) (omega (arith, length-drop n (a ∷ u))) (bracket-behind (a ∷ u) q n h is) (added-small e sum small) g)
     small (itemOf (a ∷ u ++ v)) refl (item-in (a ∷ u ++ v)) (item-good (a ∷ u ++ v)) f
 
 -- ---- the rest of an attribute
@@ -483,7 +474,6 @@ module _ (u v v′ : List ℕ) (q : ℕ) (inside : q < length u) (is : getD u q 
   GoodWord at (Enable p) = (at ≤ p) × (p ≤ length (u ++ v)) × Good (getD (u ++ v) at 0)
   GoodWord at (Text p) = (at ≤ p) × (p ≤ length (u ++ v)) × Good (getD (u ++ v) at 0)
   GoodWord at NoKeyword = Unit {0}
-  GoodWord at (Asked r) = Unit {0}
 
   word-at : (at : ℕ) → at ≤ length (u ++ v) → GoodWord at (keywordAt (u ++ v) at)
   unfolding keywordAt byWord
@@ -493,8 +483,7 @@ module _ (u v v′ : List ℕ) (q : ℕ) (inside : q < length u) (is : getD u q 
       cond-cases (GoodWord at) (eqb (wordOf t .end) 0) _ _ (λ e. tt)
       (λ e. let g = keyword-good t e in
       let b = good-by (getD (u ++ v) at 0) (getD t 0 0) (sym (head-at (u ++ v) at)) (g .0) (g .1) in
-      cond-cases (GoodWord at) (askedBehind (wordOf t) t) _ _ (λ a. tt)
-      (λ a. cond-cases (GoodWord at) (eqb (wordOf t .code) 1) _ _ (λ c. (omega arith, l, b)) (λ c. (omega arith, l, b))))
+      cond-cases (GoodWord at) (eqb (wordOf t .code) 1) _ _ (λ c. (omega arith, l, b)) (λ c. (omega arith, l, b)))
 
   keyword-at-same : (at : ℕ) → at ≤ q → keywordAt (u ++ v′) at ≡ keywordAt (u ++ v) at
   unfolding keywordAt
@@ -519,7 +508,6 @@ module _ (u v v′ : List ℕ) (q : ℕ) (inside : q < length u) (is : getD u q 
           let l : at ≤ q = omega (arith, g .0) in
           ((l, g .2), ap (byKeyword (u ++ v′)) (keyword-at-same at l ∙ e) ∙ value-same p (g .1) f)
       go NoKeyword e g f = absurd f
-      go (Asked r) e g f = absurd f
 
   opened-same : FineAll (u ++ v) q (openedOf (u ++ v)) → openedOf (u ++ v′) ≡ openedOf (u ++ v)
   unfolding openedOf
@@ -581,7 +569,6 @@ unfolding enableFrom valueFrom stringFrom
 keyword-last s (Enable at) = step-last s (signFrom 0x28 s at) (λ p. byListed s (listOf s p)) (λ p. listed-last s (listOf s p))
 keyword-last s (Text at) = step-last s (signFrom 0x3d s at) (λ p. byString s p (stringOf (drop p s))) (λ p. string-last s p (stringOf (drop p s)))
 keyword-last s NoKeyword = tt
-keyword-last s (Asked r) = tt
 
 attribute-last : (s : List ℕ) → LastBracket s (attributeOf s)
 unfolding attributeOf keywordFrom

@@ -5,7 +5,7 @@ use native.Mathlib.Omega.{arith}
 use mathlib.Core.Bool.{Bool, true}
 use mathlib.Core.List.{List, [], _∷_}
 use mathlib.Core.Path.{_∙_, _≡_, ap, refl, subst, sym}
-use lib.ListN.{List·getD-eq-default, drop, drop-of-length-le, getD, length, take}
+use lib.ListN.{List·getD-eq-default, drop, drop-of-length-le, getD, length, take, length-drop}
 use lib.Seq.{drop-drop}
 use Rattle.attributes.proofs.Bounds.{ItemIn, item-in}
 use Rattle.attributes.specs.Extensions.{addedTo}
@@ -22,14 +22,14 @@ use Rattle.names.proofs.IdentifierLaws.{Within, identifier-within}
 use Rattle.names.specs.Identifiers.{identifierOf}
 use Rattle.names.specs.declared.Identifier.{Identifier}
 use Rattle.text.proofs.Lists.{front, tail-part}
-use Rattle.text.specs.Classes.{digit, foreign, identNext, letter, within, foreignAhead}
+use Rattle.text.proofs.AheadLaws.{ahead-nil}
 use Rattle.text.specs.Refusals.{eof}
 
 -- ---- whether a name goes on
 
 pub other-out : (t : List ℕ) (at : ℕ) → length t ≤ at → Ends ≡ otherChar t at
-unfolding otherChar foreignAhead foreign identNext letter digit within
-other-out t at h = rw (drop-of-length-le t h, List·getD-eq-default t 0 {n = at} h)
+unfolding otherChar
+other-out t at h = rw (ahead-nil (drop at t) (omega (arith, length-drop at t)))
 
 module _ (t : List ℕ) (e : Extension) where
   pub other-by : (comma : Bool) (at : ℕ) (r : OtherChar) → r ≡ otherChar t at → byOther r e comma at ≡ itemEnd t e comma at

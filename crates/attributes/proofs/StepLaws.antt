@@ -19,11 +19,11 @@ use Rattle.attributes.specs.declared.steps.All.{All}
 use Rattle.attributes.specs.declared.steps.All.the-variants.{At}
 use Rattle.attributes.specs.declared.steps.Step.{Step}
 use Rattle.attributes.specs.declared.steps.Step.the-variants.{Bad, On}
-use Rattle.attributes.specs.declared.words.Keyword.the-variants.{Asked, Enable, NoKeyword, Text}
+use Rattle.attributes.specs.declared.words.Keyword.the-variants.{Enable, NoKeyword, Text}
 use Rattle.comments.proofs.GapLaws.{EndsBy, gap-bounded}
 use Rattle.comments.specs.Gaps.{gapFrom, gapOf}
 use Rattle.comments.specs.declared.gap.Gap.{Gap}
-use Rattle.integers.specs.Words.{askedBehind, firstOf, identOf}
+use Rattle.integers.specs.Words.{firstOf, identOf}
 use Rattle.integers.specs.declared.ident.Found.{Found}
 use Rattle.strings.proofs.Bounds.{Bounded-string, string-bounded}
 use Rattle.strings.proofs.Wholes.{none-here}
@@ -31,7 +31,7 @@ use Rattle.strings.specs.Strings.{stringOf}
 use Rattle.strings.specs.declared.literal.LiteralAnswer.{LiteralAnswer}
 use Rattle.text.proofs.Choices.{cond-cases}
 use Rattle.text.proofs.Lists.{tail-part}
-use Rattle.text.specs.Refusals.{expectedAttribute, expectedAttributeEnd, expectedString, foreignChar}
+use Rattle.text.specs.Refusals.{expectedAttribute, expectedAttributeEnd, expectedString}
 use Rattle.text.specs.Words.{startsWith}
 use Rattle.integers.proofs.Words.{first-le}
 
@@ -124,14 +124,13 @@ pub keyword-out : (s : List ℕ) (at : ℕ) → length s ≤ at → NoKeyword �
 unfolding keywordAt byWord wordOf firstOf identOf startsWith
 keyword-out s at h = rw (drop-of-length-le s h)
 
--- a word, by what the three tests say
-pub word-by : (t : List ℕ) (at : ℕ) (f : Found) (none asked first : Bool) → eqb (f .end) 0 ≡ none → askedBehind f t ≡ asked → eqb (f .code) 1 ≡ first
-    → byWord t at f ≡ cond none NoKeyword (cond asked (Asked (foreignChar (at + f .end))) (cond first (Enable (at + f .end)) (Text (at + f .end))))
+-- a word, by what the two tests say
+pub word-by : (at : ℕ) (f : Found) (none first : Bool) → eqb (f .end) 0 ≡ none → eqb (f .code) 1 ≡ first
+    → byWord at f ≡ cond none NoKeyword (cond first (Enable (at + f .end)) (Text (at + f .end)))
 unfolding byWord
-word-by t at f none asked first p q r =
-    ap (λ (x : Bool). cond x NoKeyword (cond (askedBehind f t) (Asked (foreignChar (at + f .end))) (cond (eqb (f .code) 1) (Enable (at + f .end)) (Text (at + f .end))))) p
-    ∙ ap (λ (x : Bool). cond none NoKeyword (cond x (Asked (foreignChar (at + f .end))) (cond (eqb (f .code) 1) (Enable (at + f .end)) (Text (at + f .end))))) q
-    ∙ ap (λ (x : Bool). cond none NoKeyword (cond asked (Asked (foreignChar (at + f .end))) (cond x (Enable (at + f .end)) (Text (at + f .end))))) r
+word-by at f none first p r =
+    ap (λ (x : Bool). cond x NoKeyword (cond (eqb (f .code) 1) (Enable (at + f .end)) (Text (at + f .end)))) p
+    ∙ ap (λ (x : Bool). cond none NoKeyword (cond x (Enable (at + f .end)) (Text (at + f .end)))) r
 
 -- a word lies within its part
 pub word-le : (t : List ℕ) → wordOf t .end ≤ length t
@@ -142,9 +141,9 @@ module _ (s : List ℕ) (at : ℕ) (f : Found) (e : f ≡ wordOf (take (length s
   pub word-fits : f .end ≤ length s - at
   word-fits = omega (arith, word-le (drop at s), length-drop at s, ap (λ (x : Found). x .end) (e ∙ ap wordOf (tail-part s at)))
 
-  pub keyword-by : byWord (drop at s) at f ≡ keywordAt s at
+  pub keyword-by : byWord at f ≡ keywordAt s at
   unfolding keywordAt
-  keyword-by = ap (byWord (drop at s) at) (e ∙ ap wordOf (tail-part s at))
+  keyword-by = ap (byWord at) (e ∙ ap wordOf (tail-part s at))
 
 -- ---- extensions
 

@@ -13,8 +13,8 @@ use Rattle.attributes.specs.declared.extensions.Extension.{Extension}
 use Rattle.attributes.specs.declared.extensions.Extension.the-variants.{ExplicitStructNames, ImplicitSome, UnwrapNewtypes, UnwrapVariantNewtypes}
 use Rattle.attributes.specs.declared.extensions.Named.{Named}
 use Rattle.attributes.specs.declared.extensions.Named.the-variants.{Known, Unknown}
-use Rattle.attributes.specs.declared.words.Keyword.the-variants.{Asked, Enable, NoKeyword, Text}
-use Rattle.integers.proofs.WordStops.{asked-stopped, first-stopped, fit}
+use Rattle.attributes.specs.declared.words.Keyword.the-variants.{Enable, NoKeyword, Text}
+use Rattle.integers.proofs.WordStops.{first-stopped, fit}
 use Rattle.integers.specs.Words.{Word, firstOf, identOf}
 use Rattle.integers.specs.declared.ident.Found.{Found}
 use Rattle.names.proofs.NameStops.{identifier-stopped, nameStop}
@@ -22,16 +22,17 @@ use Rattle.names.specs.Characters.{chars}
 use Rattle.names.specs.Identifiers.{identifierOf, nameLen, rawOf, strictOf}
 use Rattle.names.specs.Starts.{beginsRaw, beginsString}
 use Rattle.names.specs.declared.Identifier.{Identifier}
-use Rattle.names.specs.declared.Identifier.the-variants.{Missing, Name, RawName, Refused as NoIdentifier}
+use Rattle.names.specs.declared.Identifier.the-variants.{Missing, Name, RawName}
 use Rattle.strings.specs.Strings.{stringOf}
 use Rattle.strings.specs.declared.literal.LiteralAnswer.{LiteralAnswer}
 use Rattle.strings.specs.declared.literal.LiteralAnswer.the-variants.{Read as ReadString, Refused as NoString}
 use Rattle.text.proofs.Choices.{bool-cases, cond-cases, either, lt-or-le}
-use Rattle.text.proofs.ClassLaws.{allOf, next-wide}
+use Rattle.text.proofs.ClassLaws.{allOf}
 use Rattle.text.proofs.Stops.{Stopped, always, on, on₂}
-use Rattle.text.proofs.WordLaws.{foreign-stopped, starts-head, starts-stopped}
-use Rattle.text.specs.Classes.{digit, identNext, identRaw, letter, within, foreignAhead}
-use Rattle.text.specs.Refusals.{foreignChar}
+use Rattle.text.proofs.WordLaws.{starts-head, starts-stopped}
+use Rattle.text.specs.Classes.{asciiNext, asciiRaw, digit, identRaw, letter, within}
+use Rattle.text.specs.Ahead.{nextAhead}
+use Rattle.text.proofs.AheadLaws.{ahead-stopped}
 use Rattle.text.specs.Words.{startsWith}
 
 -- ---- words
@@ -62,11 +63,15 @@ extension-stopped n = named-stopped extensions n
 -- ---- names
 
 pub name-stopped : Stopped 0x5d identifierOf
-unfolding nameStop identRaw identNext letter digit within
+unfolding nameStop asciiRaw asciiNext letter digit within
 name-stopped = identifier-stopped 0x5d refl
 
-pub ahead-stopped : Stopped 0x5d foreignAhead
-ahead-stopped = foreign-stopped 0x5d (omega arith)
+no-next : asciiNext 0x5d ≡ false
+unfolding asciiNext letter digit within
+no-next = refl
+
+pub bracket-stopped : Stopped 0x5d nextAhead
+bracket-stopped = ahead-stopped 0x5d (omega arith) no-next
 
 -- ---- the word of an attribute
 
@@ -78,11 +83,11 @@ words-fit : fit letter keywords ≡ true
 unfolding letter within
 words-fit = refl
 
-pub keyword-stopped : (at : ℕ) → Stopped 0x5d (λ t. byWord t at (wordOf t))
+pub keyword-stopped : (at : ℕ) → Stopped 0x5d (λ t. byWord at (wordOf t))
 unfolding byWord wordOf
 keyword-stopped at =
-    on₂ (λ (f : Found) (asked : Bool). cond (eqb (f .end) 0) NoKeyword (cond asked (Asked (foreignChar (at + f .end))) (cond (eqb (f .code) 1) (Enable (at + f .end)) (Text (at + f .end)))))
-    (first-stopped letter 0x5d bracket-out keywords words-fit) (asked-stopped 0x5d (omega arith) letter bracket-out keywords words-fit)
+    on (λ (f : Found). cond (eqb (f .end) 0) NoKeyword (cond (eqb (f .code) 1) (Enable (at + f .end)) (Text (at + f .end))))
+    (first-stopped letter 0x5d (omega arith) no-next bracket-out keywords words-fit)
 
 -- ---- the byte that they begin with
 
@@ -132,7 +137,6 @@ abbrev pub GoodRaw : List ℕ → Identifier → Type 0
 GoodRaw t Missing = Unit {0}
 GoodRaw t (Name n) = Unit {0}
 GoodRaw t (RawName n) = Good (getD t 0 0)
-GoodRaw t (NoIdentifier r) = Unit {0}
 
 raw-good : (t : List ℕ) → beginsRaw t ≡ true → Good (getD t 0 0)
 unfolding beginsRaw
@@ -142,21 +146,17 @@ any-good : (t : List ℕ) (i : Identifier) → Good (getD t 0 0) → GoodRaw t i
 any-good t Missing g = tt
 any-good t (Name n) g = tt
 any-good t (RawName n) g = g
-any-good t (NoIdentifier r) g = tt
 
 strict-good : (t : List ℕ) → GoodRaw t (strictOf t)
 unfolding strictOf
 strict-good t =
-    cond-cases (GoodRaw t) (foreignAhead (drop (nameLen t) t)) _ _ (λ e. tt)
-    (λ e. cond-cases (GoodRaw t) (foreignAhead (drop (chars identRaw t) t)) _ _ (λ f. tt)
-    (λ f. cond-cases (GoodRaw t) (eqb (nameLen t) 0) _ _ (λ g. tt) (λ g. cond-cases (GoodRaw t) (ltb (nameLen t) (chars identRaw t)) _ _ (λ h. tt) (λ h. tt))))
+    cond-cases (GoodRaw t) (eqb (nameLen t) 0) _ _ (λ g. tt) (λ g. cond-cases (GoodRaw t) (ltb (nameLen t) (chars identRaw t)) _ _ (λ h. tt) (λ h. tt))
 
 pub identifier-good : (t : List ℕ) → GoodRaw t (identifierOf t)
 unfolding identifierOf
 identifier-good t =
-    cond-cases (GoodRaw t) (eqb (length t) 0) _ _ (λ e. tt)
-    (λ e. cond-cases (GoodRaw t) (beginsString t) _ _ (λ f. tt)
-    (λ f. cond-cases (GoodRaw t) (beginsRaw t) _ _ (λ g. any-good t (rawOf t) (raw-good t g)) (λ g. strict-good t)))
+    cond-cases (GoodRaw t) (beginsString t) _ _ (λ f. tt)
+    (λ f. cond-cases (GoodRaw t) (beginsRaw t) _ _ (λ g. any-good t (rawOf t) (raw-good t g)) (λ g. strict-good t))
 
 -- the words of an attribute begin with letters
 abbrev LettersFirst : List Word → Type 0
@@ -166,7 +166,7 @@ LettersFirst (w ∷ ws) = Begins (w .letters) × LettersFirst ws
 ident-good : (w t : List ℕ) → Begins w → eqb (identOf w t) 0 ≡ false → Good (getD t 0 0)
 unfolding identOf
 ident-good w t b =
-    cond-cases (λ (n : ℕ). eqb n 0 ≡ false → Good (getD t 0 0)) (startsWith w t) (cond (identNext (getD t (length w) 0)) 0 (length w)) 0
+    cond-cases (λ (n : ℕ). eqb n 0 ≡ false → Good (getD t 0 0)) (startsWith w t) (cond (nextAhead (drop (length w) t)) 0 (length w)) 0
     (λ e h. word-good w t b e) (λ e h. let z : _≡_ {A = ℕ} 0 1 = cc in absurd (omega arith))
 
 table-good : (ws : List Word) (t : List ℕ) → LettersFirst ws → eqb (firstOf ws t .end) 0 ≡ false → Good (getD t 0 0)
@@ -194,15 +194,3 @@ string-good t =
     either-way : (a : LiteralAnswer) → Good (getD t 0 0) → GoodString t a
     either-way (ReadString l) g = g
     either-way (NoString r) g = tt
-
--- a name's next character
-
-no-slash : identNext 0x2f ≡ false
-unfolding identNext letter digit within
-no-slash = refl
-
-not-both : (b : ℕ) → identNext b ≡ true → identNext b ≡ false → ⊥
-not-both b h i = let z : true ≡ false = sym h ∙ i in let k : _≡_ {A = ℕ} 0 1 = cc in omega arith
-
-pub next-good : (b : ℕ) → identNext b ≡ true → Good b
-next-good b h = either (lt-or-le b 0x80) (λ l. (l, ne-eqb b 0x2f (λ e. not-both b h (ap identNext e ∙ no-slash)))) (λ l. absurd (not-both b h (next-wide b l)))

@@ -11,7 +11,7 @@ use Rattle.attributes.specs.Close.{answerAt, closeList, stringFrom}
 use Rattle.attributes.specs.declared.steps.All.{All}
 use Rattle.attributes.specs.declared.steps.All.the-variants.{At, Failed}
 use Rattle.attributes.specs.declared.words.Keyword.{Keyword}
-use Rattle.attributes.specs.declared.words.Keyword.the-variants.{Enable, Text, NoKeyword, Asked}
+use Rattle.attributes.specs.declared.words.Keyword.the-variants.{Enable, Text, NoKeyword}
 use Rattle.attributes.specs.declared.list.Listed.{Listed}
 use Rattle.attributes.specs.declared.list.Listed.the-variants.{Ended, Unlisted}
 use Rattle.attributes.specs.declared.AttributeAnswer.{AttributeAnswer}
@@ -35,7 +35,6 @@ abbrev pub byKeyword : List ℕ → Keyword → AttributeAnswer
 byKeyword s (Enable at) = enableFrom s at
 byKeyword s (Text at) = valueFrom s at
 byKeyword s NoKeyword = Refused (expectedAttribute 0)
-byKeyword s (Asked r) = Refused r
 
 -- Behind `#`, `!` and `[`.
 unfoldable pub keywordFrom : List ℕ → ℕ → AttributeAnswer

@@ -2,12 +2,12 @@
 use Prim.Native.Nat.{ℕ, zero, suc, pred, _+_, _-_}
 use mathlib.Core.Bool.{Bool, true, cond}
 use mathlib.Core.List.{List, [], _∷_}
-use lib.ListN.{getD, drop}
-use Rattle.text.specs.Classes.{identNext, foreignAhead}
-use Rattle.text.specs.Refusals.{placedBehind, foreignChar, eof, noSuchExtension, expectedAttributeEnd}
+use lib.ListN.{drop}
+use Rattle.text.specs.Ahead.{nextAhead}
+use Rattle.text.specs.Refusals.{placedBehind, eof, noSuchExtension, expectedAttributeEnd}
 use Rattle.names.specs.Identifiers.{identifierOf}
 use Rattle.names.specs.declared.Identifier.{Identifier}
-use Rattle.names.specs.declared.Identifier.the-variants.{Missing, Name, RawName, Refused as NoIdentifier}
+use Rattle.names.specs.declared.Identifier.the-variants.{Missing, Name, RawName}
 use Rattle.attributes.specs.Steps.{skipFrom, allAt, consumeOf}
 use Rattle.attributes.specs.Extensions.{extensionOf, addedTo}
 use Rattle.attributes.specs.declared.steps.All.{All}
@@ -16,21 +16,20 @@ use Rattle.attributes.specs.declared.extensions.Extension.{Extension}
 use Rattle.attributes.specs.declared.extensions.Named.{Named}
 use Rattle.attributes.specs.declared.extensions.Named.the-variants.{Known, Unknown}
 use Rattle.attributes.specs.declared.list.OtherChar.{OtherChar}
-use Rattle.attributes.specs.declared.list.OtherChar.the-variants.{Goes, Ends, Foreign}
+use Rattle.attributes.specs.declared.list.OtherChar.the-variants.{Goes, Ends}
 use Rattle.attributes.specs.declared.list.Item.{Item}
 use Rattle.attributes.specs.declared.list.Item.the-variants.{More, Last, NoName, NoComma, Spoilt}
 use Rattle.attributes.specs.declared.list.Listed.{Listed}
 use Rattle.attributes.specs.declared.list.Listed.the-variants.{Ended, Unlisted}
 
--- Whether a name's character stands at a place; 3 where the one there is asked for.
+-- Whether a name's character stands at a place.
 unfoldable pub otherChar : List ℕ → ℕ → OtherChar
-otherChar t at = cond (foreignAhead (drop at t)) (Foreign (foreignChar at)) (cond (identNext (getD t at 0)) Goes Ends)
+otherChar t at = cond (nextAhead (drop at t)) Goes Ends
 
 -- An extension by what stands behind it and its comma, if there is one.
 abbrev pub byOther : OtherChar → Extension → Bool → ℕ → Item
 byOther Goes e comma at = cond comma (More at e) NoComma
 byOther Ends e comma at = Last at e
-byOther (Foreign r) e comma at = Spoilt r
 
 -- Behind an extension and its comma, if there is one.
 unfoldable pub itemEnd : List ℕ → Extension → Bool → ℕ → Item
@@ -55,7 +54,6 @@ abbrev pub byIdentifier : List ℕ → Identifier → Item
 byIdentifier t Missing = NoName
 byIdentifier t (Name n) = byNamed t n (extensionOf t n)
 byIdentifier t (RawName n) = byNamed t n (extensionOf (drop 2 t) (n - 2))
-byIdentifier t (NoIdentifier r) = Spoilt r
 
 -- The extension that a part begins with, and what stands behind it.
 unfoldable pub itemOf : List ℕ → Item

@@ -1,15 +1,13 @@
 -- The words of an attribute (document 01, module 7): "`enable` takes one or more .. `type` and `schema` take a string."
--- Refusal 3 is asked for behind each of them.
 use Prim.Native.Nat.{ℕ, _+_}
 use mathlib.Core.Bool.{cond}
 use mathlib.Core.List.{List, [], _∷_}
 use lib.ListN.{drop}
 use lib.Dec.{eqb}
-use Rattle.text.specs.Refusals.{foreignChar}
-use Rattle.integers.specs.Words.{Word, firstOf, askedBehind}
+use Rattle.integers.specs.Words.{Word, firstOf}
 use Rattle.integers.specs.declared.ident.Found.{Found}
 use Rattle.attributes.specs.declared.words.Keyword.{Keyword}
-use Rattle.attributes.specs.declared.words.Keyword.the-variants.{Enable, Text, NoKeyword, Asked}
+use Rattle.attributes.specs.declared.words.Keyword.the-variants.{Enable, Text, NoKeyword}
 
 -- `enable` is 1, `type` and `schema` are 2.
 abbrev pub keywords : List Word
@@ -23,12 +21,12 @@ keywords =
 unfoldable pub wordOf : List ℕ → Found
 wordOf t = firstOf keywords t
 
--- A word found in front of the part t from the place `at`.
-unfoldable pub byWord : List ℕ → ℕ → Found → Keyword
-byWord t at f =
+-- A word found at the place `at`.
+unfoldable pub byWord : ℕ → Found → Keyword
+byWord at f =
     let behind = at + f .end in
-    cond (eqb (f .end) 0) NoKeyword (cond (askedBehind f t) (Asked (foreignChar behind)) (cond (eqb (f .code) 1) (Enable behind) (Text behind)))
+    cond (eqb (f .end) 0) NoKeyword (cond (eqb (f .code) 1) (Enable behind) (Text behind))
 
 -- The word at a place, and the place behind it.
 unfoldable pub keywordAt : List ℕ → ℕ → Keyword
-keywordAt s at = byWord (drop at s) at (wordOf (drop at s))
+keywordAt s at = byWord at (wordOf (drop at s))

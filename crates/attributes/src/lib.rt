@@ -57,7 +57,6 @@ fn keyword(s: &[u8], at: usize) -> AttributeAnswer
         Keyword::Enable(behind) => enable(s, behind),
         Keyword::Text(behind) => value(s, behind),
         Keyword::NoKeyword => AttributeAnswer::Refused(Refusal::expected_attribute(0)),
-        Keyword::Asked(r) => AttributeAnswer::Refused(r),
     }
 }
 

@@ -8,9 +8,7 @@ use crate::steps::Step;
 use names::Identifier;
 use names::identifiers::identifier;
 use text::Refusal;
-use text::bytes::peek;
-use text::classes::is_foreign_ahead;
-use text::classes::is_ident_next_char;
+use text::ahead::is_next_ahead;
 use text::refusal::placed_behind;
 ghost use mathlib.Core.Path.{_≡_};
 ghost use Prim.Native.Nat.{_≤_};
@@ -21,8 +19,6 @@ ghost use Rattle.attributes.specs.List.{otherChar, itemEnd, behindName, 
 pub enum OtherChar {
     Goes,
     Ends,
-    // Refusal 3.
-    Foreign(Refusal),
 }
 
 // One extension with what stands behind it, and the bytes to where the next begins or the list ends.
@@ -48,10 +44,7 @@ fn check_other_char(t: &[u8], at: usize) -> OtherChar
     if t.len() <= at {
         return OtherChar::Ends;
     }
-    if is_foreign_ahead(&t[at..]) {
-        return OtherChar::Foreign(Refusal::foreign_char(at));
-    }
-    if is_ident_next_char(peek(t, at) as u32) {
+    if is_next_ahead(&t[at..]) {
         return OtherChar::Goes;
     }
     OtherChar::Ends
@@ -70,7 +63,6 @@ fn item_end(t: &[u8], e: Extension, comma: bool, at: usize) -> Item
             Item::NoComma
         }
         OtherChar::Ends => Item::Last(at, e),
-        OtherChar::Foreign(r) => Item::Spoilt(r),
     }
 }
 
@@ -108,7 +100,6 @@ fn next_item(t: &[u8]) -> Item
             let letters = n - 2;
             by_named(t, n, extensions::from_ident(&t[2..], letters))
         }
-        Identifier::Refused(r) => Item::Spoilt(r),
     }
 }
 

@@ -1,9 +1,7 @@
 // The words of an attribute.
 use integers::ident::Found;
 use integers::ident::check_ident;
-use integers::ident::is_asked_behind;
 use integers::ident::nothing;
-use text::Refusal;
 ghost use mathlib.Core.Path.{_≡_};
 ghost use Rattle.attributes.specs.Words.{wordOf, keywordAt};
 
@@ -13,8 +11,6 @@ pub enum Keyword {
     // `type` or `schema`.
     Text(usize),
     NoKeyword,
-    // Refusal 3 behind a word.
-    Asked(Refusal),
 }
 
 // Which word the part begins with: 1 for `enable`, 2 for the others.
@@ -53,9 +49,6 @@ pub fn keyword_at(s: &[u8], at: usize) -> Keyword
         return Keyword::NoKeyword;
     }
     let behind = at + word.end;
-    if is_asked_behind(&s[at..], word) {
-        return Keyword::Asked(Refusal::foreign_char(behind));
-    }
     if word.code == 1 {
         return Keyword::Enable(behind);
     }

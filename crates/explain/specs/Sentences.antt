@@ -10,13 +10,13 @@ unfoldable pub lineAt : ℕ → List ℕ → List ℕ
 lineAt zero s = take (findOf 10 s) s
 lineAt (suc n) s = lineAt n (drop (findOf 10 s + 1) s)
 
--- A line for each number from 0, which no refusal has, to 29; those that no text can bring about have theirs too.
+-- A line for each number from 0 to 29, empty for 0 and 3, which no refusal has; those that no text can bring about have theirs too.
 unfoldable pub sentences : List ℕ
 sentences =
     ascii "\n" ++
     ascii "the text is longer than 65,536 bytes\n" ++
     ascii "the text is not UTF-8 here\n" ++
-    ascii "this character cannot stand in a name\n" ++
+    ascii "\n" ++
     ascii "a block comment is not closed\n" ++
     ascii "an unexpected character stands here or just before\n" ++
     ascii "the text ends where a character is needed\n" ++

@@ -1,4 +1,5 @@
-// Each refusal number of the paper as a sentence. One text with a line for each: a match of as many arms takes far longer to prove.
+// Each refusal number of the paper as a sentence. One text with a line for each: a match of as many arms takes far longer to prove. 0 and 3 are given by
+// no call, so their lines are empty.
 use lines::out;
 use lines::past;
 use lines::until;
@@ -30,7 +31,7 @@ pub fn say(o: &mut [u8], at: usize, number: u8) -> usize
     let all = b"\n\
             the text is longer than 65,536 bytes\n\
             the text is not UTF-8 here\n\
-            this character cannot stand in a name\n\
+            \n\
             a block comment is not closed\n\
             an unexpected character stands here or just before\n\
             the text ends where a character is needed\n\

@@ -21,7 +21,7 @@ use Rattle.floats.specs.declared.state.State.the-variants.{Start}
 use Rattle.integers.proofs.Fronts.{sign-le}
 use Rattle.integers.proofs.Words.{first-le}
 use Rattle.integers.specs.Front.{signOf}
-use Rattle.integers.specs.Words.{Word, askedBehind, firstOf, identOf}
+use Rattle.integers.specs.Words.{Word, firstOf, identOf}
 use Rattle.integers.specs.declared.ident.Found.{Found}
 use Rattle.text.proofs.Choices.{and-true, bool-cases, either}
 use Rattle.text.proofs.Lists.{front}
@@ -47,15 +47,13 @@ judged-held s =
     either (bool-cases (ltb (wellTo s false) (length s))) (λ a. rw a (well-le s false)) λ a.
     either (bool-cases (accepts (stripped s) Start)) (λ b. rw (a, b) tt) (λ b. rw (a, b) tt)
 
-to-bounded : (code end n : ℕ) (asked : Bool) → 0 < end → end ≤ n → code ≤ 64 → FloatBounded n (floatTo code end asked)
-to-bounded code end n true z h w = h
-to-bounded code end n false z h w = (z, h, w)
+to-bounded : (code end n : ℕ) → 0 < end → end ≤ n → code ≤ 64 → FloatBounded n (floatTo code end)
+to-bounded code end n z h w = (z, h, w)
 
-behind-bounded : (code end n m : ℕ) (asked : Bool) (j : Judged) → Held m j → m ≤ end → 0 < m → end ≤ n → code ≤ 64 → FloatBounded n (behindJudged code end asked j)
-behind-bounded code end n m asked (Misplaced at) g l z h w = omega arith
-behind-bounded code end n m asked Fine g l z h w = to-bounded code end n asked (omega arith) h w
-behind-bounded code end n m true Unfit g l z h w = h
-behind-bounded code end n m false Unfit g l z h w = omega arith
+behind-bounded : (code end n m : ℕ) (j : Judged) → Held m j → m ≤ end → 0 < m → end ≤ n → code ≤ 64 → FloatBounded n (behindJudged code end j)
+behind-bounded code end n m (Misplaced at) g l z h w = omega arith
+behind-bounded code end n m Fine g l z h w = to-bounded code end n (omega arith) h w
+behind-bounded code end n m Unfit g l z h w = omega arith
 
 -- what a word of a table says is at most n
 abbrev saysTo : ℕ → List Word → Bool
@@ -69,31 +67,31 @@ first-says n (w ∷ ws) h t =
     let k = and-true (leb (w .says) n) (saysTo n ws) h in
     either (bool-cases (eqb (identOf (w .letters) t) 0)) (λ a. rw a (first-says n ws (k .1) t)) (λ a. rw a (leb-true (w .says) n (k .0)))
 
-split-bounded : (p rest : List ℕ) (f : Found) (n : ℕ) → length p + f .end ≤ n → f .code ≤ 64 → FloatBounded n (withFloatSuffix p rest f)
-split-bounded [] rest f n h w = omega arith
-split-bounded (x ∷ xs) rest f n h w =
+split-bounded : (p : List ℕ) (f : Found) (n : ℕ) → length p + f .end ≤ n → f .code ≤ 64 → FloatBounded n (withFloatSuffix p f)
+split-bounded [] f n h w = omega arith
+split-bounded (x ∷ xs) f n h w =
     let p : List ℕ = x ∷ xs in
     either (bool-cases (eqb (length p) 0)) (λ a. rw a (omega arith))
-    (λ a. rw a (behind-bounded (f .code) (length p + f .end) n (length p) (askedBehind f rest) (judgedOf p) (judged-held p) (omega arith) (omega arith) h w))
+    (λ a. rw a (behind-bounded (f .code) (length p + f .end) n (length p) (judgedOf p) (judged-held p) (omega arith) (omega arith) h w))
 
 run-bounded : (s : List ℕ) → FloatBounded (length s) (runAt s)
 unfolding runAt
 run-bounded s =
     let n : ℕ = floatRun s in
-    split-bounded (take n s) (drop n s) (firstOf floatSuffixes (drop n s)) (length s)
+    split-bounded (take n s) (firstOf floatSuffixes (drop n s)) (length s)
     (omega (arith, first-le floatSuffixes (drop n s), length-drop n s, length-take-le n s (floatRun-le s), floatRun-le s))
     (first-says 64 floatSuffixes refl (drop n s))
 
-signed-bounded : (front : ℕ) (l : Found) (asked : Bool) (other : AnyFloat) (n : ℕ) → l .code ≤ 64 → front + l .end ≤ n → FloatBounded n other → FloatBounded n (signedOr front l asked other)
-signed-bounded zero l asked other n w h o = o
-signed-bounded (suc front) l asked other n w h o =
+signed-bounded : (front : ℕ) (l : Found) (other : AnyFloat) (n : ℕ) → l .code ≤ 64 → front + l .end ≤ n → FloatBounded n other → FloatBounded n (signedOr front l other)
+signed-bounded zero l other n w h o = o
+signed-bounded (suc front) l other n w h o =
     either (bool-cases (eqb (suc front) 0)) (λ a. rw a o) λ a.
-    either (bool-cases (eqb (l .end) 0)) (λ b. rw (a, b) o) (λ b. rw (a, b) (to-bounded (l .code) (suc front + l .end) n asked (omega arith) h w))
+    either (bool-cases (eqb (l .end) 0)) (λ b. rw (a, b) o) (λ b. rw (a, b) (to-bounded (l .code) (suc front + l .end) n (omega arith) h w))
 
 pub float-bounded : (s : List ℕ) → FloatBounded (length s) (floatOf s)
 unfolding floatOf
 float-bounded s =
     let n : ℕ = signOf s .end in
-    signed-bounded n (firstOf specials (drop n s)) (askedBehind (firstOf specials (drop n s)) (drop n s)) (runAt s) (length s)
+    signed-bounded n (firstOf specials (drop n s)) (runAt s) (length s)
     (first-says 64 specials refl (drop n s))
     (omega (arith, first-le specials (drop n s), length-drop n s, sign-le s)) (run-bounded s)

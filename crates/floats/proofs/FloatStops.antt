@@ -12,15 +12,15 @@ use Rattle.floats.specs.Float.{behindJudged, floatOf, floatSuffixes, run
 use Rattle.floats.specs.Judged.{judgedOf}
 use Rattle.floats.specs.declared.float.AnyFloat.{AnyFloat}
 use Rattle.floats.specs.declared.float.AnyFloat.the-variants.{Refused}
-use Rattle.integers.proofs.IntegerStops.{Outside, out-digit, out-letter, out-underscore, out-sign, sign-reach}
-use Rattle.integers.proofs.WordStops.{asked-stopped, first-stopped}
+use Rattle.integers.proofs.IntegerStops.{Outside, out-digit, out-next, out-letter, out-underscore, out-sign, sign-reach}
+use Rattle.integers.proofs.WordStops.{first-stopped}
 use Rattle.integers.specs.Front.{signOf}
-use Rattle.integers.specs.Words.{askedBehind, firstOf}
+use Rattle.integers.specs.Words.{firstOf}
 use Rattle.integers.specs.declared.ident.Found.{Found}
 use Rattle.text.proofs.Choices.{or-left, or-right}
 use Rattle.text.proofs.ClassLaws.{inside}
-use Rattle.text.proofs.Stops.{Stopped, Reach, on₂, on₃, part, behind, run2-reach}
-use Rattle.text.specs.Classes.{digit, floatChar, identNext, identRaw, letter, within}
+use Rattle.text.proofs.Stops.{Stopped, Reach, on₂, part, behind, run2-reach}
+use Rattle.text.specs.Classes.{digit, floatChar, asciiNext, asciiRaw, letter, within}
 use Rattle.text.specs.Refusals.{expectedFloat}
 
 module _ (c : ℕ) (o : Outside c) where
@@ -44,30 +44,22 @@ module _ (c : ℕ) (o : Outside c) where
   float-reach = run2-reach floatGoes goes-out
 
   suffix-stopped : Stopped c (firstOf floatSuffixes)
-  unfolding identRaw identNext letter digit within
-  suffix-stopped = first-stopped identRaw c (o .raw) floatSuffixes refl
-
-  suffix-asked : Stopped c (λ t. askedBehind (firstOf floatSuffixes t) t)
-  unfolding identRaw identNext letter digit within
-  suffix-asked = asked-stopped c (o .low) identRaw (o .raw) floatSuffixes refl
+  unfolding asciiRaw asciiNext letter digit within
+  suffix-stopped = first-stopped asciiRaw c (o .low) (out-next o) (o .raw) floatSuffixes refl
 
   special-stopped : Stopped c (firstOf specials)
-  unfolding identRaw identNext letter digit within
-  special-stopped = first-stopped identRaw c (o .raw) specials refl
-
-  special-asked : Stopped c (λ t. askedBehind (firstOf specials t) t)
-  unfolding identRaw identNext letter digit within
-  special-asked = asked-stopped c (o .low) identRaw (o .raw) specials refl
+  unfolding asciiRaw asciiNext letter digit within
+  special-stopped = first-stopped asciiRaw c (o .low) (out-next o) (o .raw) specials refl
 
   run-stopped : Stopped c runAt
   unfolding runAt
   run-stopped =
-      on₃ (λ (p : List ℕ) (f : Found) (a : Bool). cond (eqb (length p) 0) (Refused (expectedFloat 0)) (behindJudged (f .code) (length p + f .end) a (judgedOf p)))
-      (part float-reach) (behind float-reach suffix-stopped) (behind float-reach suffix-asked)
+      on₂ (λ (p : List ℕ) (f : Found). cond (eqb (length p) 0) (Refused (expectedFloat 0)) (behindJudged (f .code) (length p + f .end) (judgedOf p)))
+      (part float-reach) (behind float-reach suffix-stopped)
 
-  -- inf and NaN at the front, and whether the character behind them is asked for
-  special-both : Stopped c (λ s. signedOr (signOf s .end) (firstOf specials (drop (signOf s .end) s)) (askedBehind (firstOf specials (drop (signOf s .end) s)) (drop (signOf s .end) s)))
-  special-both = on₃ signedOr (sign-reach c o .stopped) (behind (sign-reach c o) special-stopped) (behind (sign-reach c o) special-asked)
+  -- inf and NaN at the front
+  special-both : Stopped c (λ s. signedOr (signOf s .end) (firstOf specials (drop (signOf s .end) s)))
+  special-both = on₂ signedOr (sign-reach c o .stopped) (behind (sign-reach c o) special-stopped)
 
   pub float-stopped : Stopped c floatOf
   unfolding floatOf

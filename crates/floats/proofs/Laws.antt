@@ -18,7 +18,7 @@ use Rattle.floats.specs.declared.judge.Judged.the-variants.{Misplaced, F
 use Rattle.floats.specs.declared.state.State.{State}
 use Rattle.floats.specs.declared.state.State.the-variants.{Start}
 use Rattle.integers.specs.Front.{signOf}
-use Rattle.integers.specs.Words.{askedBehind, firstOf}
+use Rattle.integers.specs.Words.{firstOf}
 use Rattle.integers.specs.declared.front.Sign.{Sign}
 use Rattle.integers.specs.declared.ident.Found.{Found}
 use Rattle.text.proofs.Choices.{bool-cases, either}
@@ -70,12 +70,12 @@ pub run-none : (s : List ℕ) (n : ℕ) → n ≡ floatRun s → n ≡ 0 → Ref
 unfolding runAt
 run-none s n e z = rw (sym e ∙ z)
 
-pub run-judged : (s : List ℕ) (n : ℕ) (j : Judged) (f : Found) (a : Bool) → n ≡ floatRun s → (n ≡ 0 → ⊥) → j ≡ judgedOf (take n s) → f ≡ firstOf floatSuffixes (drop n s) → a ≡ askedBehind f (drop n s)
-    → behindJudged (f .code) (n + f .end) a j ≡ runAt s
+pub run-judged : (s : List ℕ) (n : ℕ) (j : Judged) (f : Found) → n ≡ floatRun s → (n ≡ 0 → ⊥) → j ≡ judgedOf (take n s) → f ≡ firstOf floatSuffixes (drop n s)
+    → behindJudged (f .code) (n + f .end) j ≡ runAt s
 unfolding runAt
-run-judged s n j f a e z ej ef ea =
+run-judged s n j f e z ej ef =
     let l : length (take n s) ≡ n = length-take-le n s (omega (arith, floatRun-le s)) in
-    rw (sym e, l, ne-eqb n 0 z, sym ef, sym ea, sym ej)
+    rw (sym e, l, ne-eqb n 0 z, sym ef, sym ej)
 
 module _ (s : List ℕ) (g : Sign) (eg : g ≡ signOf s) where
   pub float-plain : g .end ≡ 0 → runAt s ≡ floatOf s
@@ -87,6 +87,6 @@ module _ (s : List ℕ) (g : Sign) (eg : g ≡ signOf s) where
     unfolding floatOf
     float-none h = rw (sym eg, sym el, ne-eqb (g .end) 0 n, h)
 
-    pub float-signed : (l .end ≡ 0 → ⊥) → (a : Bool) → a ≡ askedBehind l (drop (g .end) s) → floatTo (l .code) (g .end + l .end) a ≡ floatOf s
+    pub float-signed : (l .end ≡ 0 → ⊥) → floatTo (l .code) (g .end + l .end) ≡ floatOf s
     unfolding floatOf
-    float-signed h a ea = rw (sym eg, sym el, ne-eqb (g .end) 0 n, ne-eqb (l .end) 0 h, ea, ne-eqb (l .end) 0 h)
+    float-signed h = rw (sym eg, sym el, ne-eqb (g .end) 0 n, ne-eqb (l .end) 0 h)

@@ -1,12 +1,11 @@
 -- Floats (document 01, module 6): a float run with the suffix f32 or f64, or inf or NaN behind a sign.
--- Refusal 3 is asked for behind a suffix that was found, after 12 and before 11, and behind inf and NaN.
 use Prim.Native.Nat.{ℕ, _+_}
 use mathlib.Core.List.{List, [], _∷_}
-use mathlib.Core.Bool.{Bool, cond}
+use mathlib.Core.Bool.{cond}
 use lib.ListN.{length, take, drop}
 use lib.Dec.{eqb}
-use Rattle.text.specs.Refusals.{foreignChar, expectedFloat, floatUnderscore}
-use Rattle.integers.specs.Words.{Word, firstOf, askedBehind}
+use Rattle.text.specs.Refusals.{expectedFloat, floatUnderscore}
+use Rattle.integers.specs.Words.{Word, firstOf}
 use Rattle.integers.specs.Front.{signOf}
 use Rattle.integers.specs.declared.ident.Found.{Found}
 use Rattle.floats.specs.Classes.{floatRun}
@@ -34,36 +33,35 @@ specials =
     ∷ record { letters = 0x4e ∷ 0x61 ∷ 0x4e ∷ 0x66 ∷ 0x36 ∷ 0x34 ∷ []; says = 64 }
     ∷ []
 
--- A float that ends at `end`, or 3 there.
-abbrev pub floatTo : (code end : ℕ) (asked : Bool) → AnyFloat
-floatTo code end asked = cond asked (Refused (foreignChar end)) (Read (record { len = end; suffix = code }))
+-- A float that ends at `end`.
+abbrev pub floatTo : (code end : ℕ) → AnyFloat
+floatTo code end = Read (record { len = end; suffix = code })
 
--- A judged run with the suffix behind it: 12 first, then 3, then 11 at the front.
-abbrev pub behindJudged : (code end : ℕ) (asked : Bool) → Judged → AnyFloat
-behindJudged code end asked (Misplaced at) = Refused (floatUnderscore at)
-behindJudged code end asked Fine = floatTo code end asked
-behindJudged code end asked Unfit = cond asked (Refused (foreignChar end)) (Refused (expectedFloat 0))
+-- A judged run with the suffix behind it: 12 first, then 11 at the front.
+abbrev pub behindJudged : (code end : ℕ) → Judged → AnyFloat
+behindJudged code end (Misplaced at) = Refused (floatUnderscore at)
+behindJudged code end Fine = floatTo code end
+behindJudged code end Unfit = Refused (expectedFloat 0)
 
 -- The run and the suffix behind it; 11 where no float character stands.
-abbrev pub withFloatSuffix : (part rest : List ℕ) → Found → AnyFloat
-withFloatSuffix part rest f =
-    cond (eqb (length part) 0) (Refused (expectedFloat 0)) (behindJudged (f .code) (length part + f .end) (askedBehind f rest) (judgedOf part))
+abbrev pub withFloatSuffix : (part : List ℕ) → Found → AnyFloat
+withFloatSuffix part f = cond (eqb (length part) 0) (Refused (expectedFloat 0)) (behindJudged (f .code) (length part + f .end) (judgedOf part))
 
 -- The float characters at the front of a part, and what is behind them.
 abbrev pub splitFloat : (n : ℕ) → List ℕ → AnyFloat
-splitFloat n s = withFloatSuffix (take n s) (drop n s) (firstOf floatSuffixes (drop n s))
+splitFloat n s = withFloatSuffix (take n s) (firstOf floatSuffixes (drop n s))
 
 -- A float without inf and NaN.
 unfoldable pub runAt : List ℕ → AnyFloat
 runAt s = splitFloat (floatRun s) s
 
 -- inf or NaN behind a sign, with or without a suffix, else the other.
-abbrev pub signedOr : (front : ℕ) → Found → (asked : Bool) → AnyFloat → AnyFloat
-signedOr front l asked other = cond (eqb front 0) other (cond (eqb (l .end) 0) other (floatTo (l .code) (front + l .end) asked))
+abbrev pub signedOr : (front : ℕ) → Found → AnyFloat → AnyFloat
+signedOr front l other = cond (eqb front 0) other (cond (eqb (l .end) 0) other (floatTo (l .code) (front + l .end)))
 
 -- The same behind so many bytes of a sign.
 abbrev pub behindFront : (front : ℕ) → (t : List ℕ) → AnyFloat → AnyFloat
-behindFront front t other = signedOr front (firstOf specials t) (askedBehind (firstOf specials t) t) other
+behindFront front t other = signedOr front (firstOf specials t) other
 
 -- A float.
 unfoldable pub floatOf : List ℕ → AnyFloat

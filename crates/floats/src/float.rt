@@ -5,7 +5,6 @@ use crate::judge::judge_run;
 use integers::front::sign_of;
 use integers::ident::Found;
 use integers::ident::check_ident;
-use integers::ident::is_asked_behind;
 use integers::ident::nothing;
 use text::Refusal;
 ghost use mathlib.Core.Path.{_≡_};
@@ -70,27 +69,17 @@ pub fn special(t: &[u8]) -> Found
     nothing()
 }
 
-// A run with its suffix: 12 before 3, and 3 before 11.
-fn behind_judged(judged: Judged, asked: bool, code: u8, end: usize) -> AnyFloat
-    ensures { λ r. ⌜ r ≡ behindJudged code end asked judged ⌝ }
+// A run with its suffix: 12 before 11.
+fn behind_judged(judged: Judged, code: u8, end: usize) -> AnyFloat
+    ensures { λ r. ⌜ r ≡ behindJudged code end judged ⌝ }
 {
     match judged {
         Judged::Misplaced(at) => AnyFloat::Refused(Refusal::float_underscore(at)),
-        Judged::Fine => {
-            if asked {
-                return AnyFloat::Refused(Refusal::foreign_char(end));
-            }
-            AnyFloat::Read(FloatSpan {
-                len: end,
-                suffix: code,
-            })
-        }
-        Judged::Unfit => {
-            if asked {
-                return AnyFloat::Refused(Refusal::foreign_char(end));
-            }
-            AnyFloat::Refused(Refusal::expected_float(0))
-        }
+        Judged::Fine => AnyFloat::Read(FloatSpan {
+            len: end,
+            suffix: code,
+        }),
+        Judged::Unfit => AnyFloat::Refused(Refusal::expected_float(0)),
     }
 }
 
@@ -104,8 +93,7 @@ fn run_at(s: &[u8]) -> AnyFloat
     let judged = judge_run(&s[..n]);
     let found = float_suffix(&s[n..]);
     let end = n + found.end;
-    let asked = is_asked_behind(&s[n..], found);
-    behind_judged(judged, asked, found.code, end)
+    behind_judged(judged, found.code, end)
 }
 
 pub fn float(s: &[u8]) -> AnyFloat
@@ -121,9 +109,6 @@ pub fn float(s: &[u8]) -> AnyFloat
         return run_at(s);
     }
     let end = front + found.end;
-    if is_asked_behind(&s[front..], found) {
-        return AnyFloat::Refused(Refusal::foreign_char(end));
-    }
     AnyFloat::Read(FloatSpan {
         len: end,
         suffix: found.code,

@@ -9,11 +9,10 @@ use lib.ListN.{drop, length}
 use borrow.Author.Tests.{ne-eqb, ltb-true, not-true}
 use Rattle.digits.specs.Digits.{runOf}
 use Rattle.integers.proofs.Fronts.{prefix-by-le, sign-by-le}
-use Rattle.integers.proofs.WordStops.{asked-stopped, first-stopped}
+use Rattle.integers.proofs.WordStops.{first-stopped}
 use Rattle.integers.specs.Front.{behindSign, frontOf, prefixOf, signOf}
 use Rattle.integers.specs.Integer.{anyAs, anyBehind, anyOf, behindRun, chosenOf, numeralOf, typedAs, typedBehind, typedOf}
 use Rattle.integers.specs.Width.{codeOf, limitAt, suffixOf, suffixWord, widest}
-use Rattle.integers.specs.Words.{askedBehind}
 use Rattle.integers.specs.declared.front.Front.{Front}
 use Rattle.integers.specs.declared.front.Prefix.{Prefix}
 use Rattle.integers.specs.declared.front.Sign.{Sign}
@@ -23,9 +22,9 @@ use Rattle.integers.specs.declared.integer.Integer.{Integer}
 use Rattle.integers.specs.declared.width.Width.{Width}
 use Rattle.text.proofs.Choices.{bool-cases, either, or-left, or-right, and-true}
 use Rattle.text.proofs.ClassLaws.{inside, within-true}
-use Rattle.text.proofs.Stops.{Stopped, Reach, on, on₂, on₃, bind, part, behind, sum, run-reach, empty-stopped}
-use Rattle.text.specs.Classes.{digit, hexDigit, identNext, identRaw, intChar, letter, within}
-use Rattle.text.specs.Refusals.{eof, foreignChar}
+use Rattle.text.proofs.Stops.{Stopped, Reach, on, on₂, bind, part, behind, sum, run-reach, empty-stopped}
+use Rattle.text.specs.Classes.{digit, hexDigit, asciiNext, asciiRaw, intChar, letter, within}
+use Rattle.text.specs.Refusals.{eof}
 use Rattle.text.specs.Runs.{run}
 use Rattle.integers.specs.declared.integer.Numeral.the-variants as numeral
 use Rattle.integers.specs.declared.integer.Integer.the-variants as integer
@@ -41,43 +40,43 @@ narrow lo hi lo′ hi′ c a b e =
     (λ p. p)
 
 pub record Outside (c : ℕ) : Type 0 where
-  pub raw : identRaw c ≡ false
+  pub raw : asciiRaw c ≡ false
   pub low : c < 0x80
 
 -- told by a test that computes
 abbrev pub outside : ℕ → Bool
-outside c = not (identRaw c) && ltb c 0x80
+outside c = not (asciiRaw c) && ltb c 0x80
 
 pub told-outside : (c : ℕ) → outside c ≡ true → Outside c
 told-outside c e =
-    let o = and-true (not (identRaw c)) (ltb c 0x80) e in
-    record { raw = not-true (identRaw c) (o .0); low = ltb-true c 0x80 (o .1) }
+    let o = and-true (not (asciiRaw c)) (ltb c 0x80) e in
+    record { raw = not-true (asciiRaw c) (o .0); low = ltb-true c 0x80 (o .1) }
 
 pub slash-outside : Outside 0x2f
-unfolding identRaw identNext letter digit within
+unfolding asciiRaw asciiNext letter digit within
 slash-outside = told-outside 0x2f refl
 
 module _ {c : ℕ} (o : Outside c) where
-  pub out-next : identNext c ≡ false
-  unfolding identRaw
-  out-next = or-right (eqb c 0x2e || (eqb c 0x2b || (eqb c 0x2d || false))) (identNext c) (o .raw)
+  pub out-next : asciiNext c ≡ false
+  unfolding asciiRaw
+  out-next = or-right (eqb c 0x2e || (eqb c 0x2b || (eqb c 0x2d || false))) (asciiNext c) (o .raw)
 
   pub out-letter : letter c ≡ false
-  unfolding identNext
+  unfolding asciiNext
   out-letter = or-left (letter c) (digit c || eqb c 0x5f) out-next
 
   pub out-digit : digit c ≡ false
-  unfolding identNext
+  unfolding asciiNext
   out-digit = or-left (digit c) (eqb c 0x5f) (or-right (letter c) (digit c || eqb c 0x5f) out-next)
 
   pub out-underscore : eqb c 0x5f ≡ false
-  unfolding identNext
+  unfolding asciiNext
   out-underscore = or-right (digit c) (eqb c 0x5f) (or-right (letter c) (digit c || eqb c 0x5f) out-next)
 
   pub out-sign : (eqb c 0x2e ≡ false) × (eqb c 0x2b ≡ false) × (eqb c 0x2d ≡ false)
-  unfolding identRaw
+  unfolding asciiRaw
   out-sign =
-      let s = or-left (eqb c 0x2e || (eqb c 0x2b || (eqb c 0x2d || false))) (identNext c) (o .raw) in
+      let s = or-left (eqb c 0x2e || (eqb c 0x2b || (eqb c 0x2d || false))) (asciiNext c) (o .raw) in
       let t = or-right (eqb c 0x2e) (eqb c 0x2b || (eqb c 0x2d || false)) s in
       (or-left (eqb c 0x2e) (eqb c 0x2b || (eqb c 0x2d || false)) s, or-left (eqb c 0x2b) (eqb c 0x2d || false) t, or-left (eqb c 0x2d) false (or-right (eqb c 0x2b) (eqb c 0x2d || false) t))
 
@@ -151,18 +150,14 @@ module _ (c : ℕ) (o : Outside c) where
   front-reach = sum sign-reach prefix-reach
 
   suffix-stopped : Stopped c suffixOf
-  unfolding suffixOf suffixWord identRaw identNext letter digit within
-  suffix-stopped = first-stopped identRaw c (o .raw) _ refl
-
-  suffix-asked : Stopped c (λ t. askedBehind (suffixOf t) t)
-  unfolding suffixOf suffixWord identRaw identNext letter digit within
-  suffix-asked = asked-stopped c (o .low) identRaw (o .raw) _ refl
+  unfolding suffixOf suffixWord asciiRaw asciiNext letter digit within
+  suffix-stopped = first-stopped asciiRaw c (o .low) (out-next o) (o .raw) _ refl
 
   numeral-stopped : (asked : ℕ) (minus : Bool) (base : ℕ) → Stopped c (numeralOf asked minus base)
   unfolding numeralOf
   numeral-stopped asked minus base =
-      on₃ (λ (p : List ℕ) (f : Found) (a : Bool). cond a (numeral.Refused (foreignChar (length p + f .end))) (behindRun (f .code) (length p + f .end) (runOf (limitAt (chosenOf (f .code) asked) minus) base p)))
-      (part int-reach) (behind int-reach suffix-stopped) (behind int-reach suffix-asked)
+      on₂ (λ (p : List ℕ) (f : Found). behindRun (f .code) (length p + f .end) (runOf (limitAt (chosenOf (f .code) asked) minus) base p))
+      (part int-reach) (behind int-reach suffix-stopped)
 
   -- ---- the whole
 

@@ -18,7 +18,6 @@ use Rattle.integers.proofs.Suffixes.{suffix-le}
 use Rattle.integers.specs.Front.{frontOf}
 use Rattle.integers.specs.Integer.{anyAs, anyOf, behindRun, chosenOf, numeralOf, typedAs, typedOf}
 use Rattle.integers.specs.Width.{codeOf, limitAt, suffixOf, widest}
-use Rattle.integers.specs.Words.{askedBehind}
 use Rattle.integers.specs.declared.front.Front.{Front}
 use Rattle.integers.specs.declared.ident.Found.{Found}
 use Rattle.integers.specs.declared.integer.Numeral.{Numeral}
@@ -27,7 +26,6 @@ use Rattle.text.proofs.Choices.{bool-cases, either}
 use Rattle.text.proofs.RunLaws.{run-le}
 use Rattle.text.proofs.Stops.{part}
 use Rattle.text.specs.Classes.{intChar}
-use Rattle.text.specs.Refusals.{foreignChar}
 use Rattle.text.specs.Runs.{run}
 use Rattle.integers.specs.declared.integer.Numeral.the-variants as numeral
 
@@ -40,14 +38,10 @@ module _ (asked : ℕ) (minus : Bool) (base : ℕ) (t : List ℕ) (n : ℕ) (f :
   held : length (take n t) ≡ n
   held = rw en (part-length t)
 
-  pub asked-said : askedBehind f (drop n t) ≡ true → numeral.Refused (foreignChar (n + f .end)) ≡ numeralOf asked minus base t
-  unfolding numeralOf
-  asked-said a = rw (sym en, sym ef, a, held)
-
-  pub judged-said : askedBehind f (drop n t) ≡ false → (r : Run) → r ≡ runOf (limitAt (chosenOf (f .code) asked) minus) base (take n t)
+  pub judged-said : (r : Run) → r ≡ runOf (limitAt (chosenOf (f .code) asked) minus) base (take n t)
       → behindRun (f .code) (n + f .end) r ≡ numeralOf asked minus base t
   unfolding numeralOf
-  judged-said a r er = rw (sym en, sym ef, a, held, er)
+  judged-said r er = rw (sym en, sym ef, held, er)
 
 -- ---- places
 
@@ -91,8 +85,7 @@ numeral-within asked minus base t =
     let n = run intChar t in
     let f : Found = suffixOf (drop n t) in
     let l : length (take n t) + f .end ≤ length t = omega (arith, part-length t, run-le intChar t, suffix-le (drop n t), length-drop n t) in
-    either (bool-cases (askedBehind f (drop n t))) (λ a. rw a l)
-    (λ a. rw a (behind-within (f .code) (length (take n t) + f .end) (length (take n t)) (length t) (runOf (limitAt (chosenOf (f .code) asked) minus) base (take n t)) (run-held (limitAt (chosenOf (f .code) asked) minus) base (take n t)) (omega arith) l))
+    behind-within (f .code) (length (take n t) + f .end) (length (take n t)) (length t) (runOf (limitAt (chosenOf (f .code) asked) minus) base (take n t)) (run-held (limitAt (chosenOf (f .code) asked) minus) base (take n t)) (omega arith) l
 
 -- ---- the whole
 

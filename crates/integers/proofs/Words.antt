@@ -4,12 +4,12 @@ use native.Mathlib.Omega.{arith}
 use mathlib.Core.List.{List, [], _∷_}
 use mathlib.Core.Path.{_≡_}
 use lib.Dec.{eqb}
-use lib.ListN.{length, getD}
+use lib.ListN.{length, getD, drop}
 use borrow.Author.Tests.{eq-eqb, ne-eqb}
 use Rattle.integers.specs.Words.{identOf, Word, firstOf}
 use Rattle.text.proofs.Choices.{bool-cases, either}
 use Rattle.text.proofs.WordLaws.{starts-le, starts-other}
-use Rattle.text.specs.Classes.{identNext}
+use Rattle.text.specs.Ahead.{nextAhead}
 use Rattle.text.specs.Words.{startsWith}
 
 -- ---- a word that stands at the front lies within the part
@@ -18,7 +18,7 @@ pub ident-le : (word t : List ℕ) → identOf word t ≤ length t
 unfolding identOf
 ident-le word t =
     either (bool-cases (startsWith word t)) (λ a.
-    either (bool-cases (identNext (getD t (length word) 0))) (λ b. rw (a, b) (omega arith)) (λ b. rw (a, b) (starts-le word t a)))
+    either (bool-cases (nextAhead (drop (length word) t))) (λ b. rw (a, b) (omega arith)) (λ b. rw (a, b) (starts-le word t a)))
     (λ a. rw a (omega arith))
 
 -- ---- tables of words

@@ -2,7 +2,11 @@
 use mathlib.Core.Bool.{true, false}
 use mathlib.Core.List.{List, [], _∷_}
 use mathlib.Core.Path.{_≡_, refl}
-use Rattle.text.specs.Classes.{within, blankWidth, blank1, blank2, blank3, foreign, digit, letter, hexDigit, intChar, identNext, foreignAhead}
+use Rattle.text.specs.Classes.{within, digit, letter, hexDigit, intChar, asciiNext, identNext}
+use Rattle.text.specs.Ahead.{charIf, nextAhead}
+use Rattle.text.specs.Utf8.{behindFour, behindThree, charLen, codeOf, codeOf4, secondByte, widthOf}
+use Rattle.xid.specs.Table.{table}
+use Rattle.xid.specs.Xid.{inRows, xidContinue}
 use Rattle.text.specs.Runs.{run}
 use Rattle.text.specs.Refusals.{refusal}
 use Rattle.text.specs.Words.{startsWith}
@@ -120,20 +124,20 @@ pub worked : answers ≡
     ∷ integer.Read (record { minus = false; magnitude = 9223372036854775807 }) 19
     ∷ integer.Refused (refusal 10 21)
     ∷ integer.Read (record { minus = false; magnitude = 5 }) 1
-    ∷ integer.Refused (refusal 3 3)
-    ∷ integer.Refused (refusal 3 5)
-    ∷ integer.Refused (refusal 3 6)
-    ∷ integer.Refused (refusal 3 4)
-    ∷ integer.Refused (refusal 3 5)
-    ∷ integer.Refused (refusal 3 5)
+    ∷ integer.Read (record { minus = false; magnitude = 5 }) 1
+    ∷ integer.Refused (refusal 10 3)
+    ∷ integer.Refused (refusal 10 4)
+    ∷ integer.Refused (refusal 7 2)
+    ∷ integer.Refused (refusal 8 2)
+    ∷ integer.Refused (refusal 9 2)
     ∷ integer.Read (record { minus = false; magnitude = 5 }) 3
     ∷ integer.Read (record { minus = false; magnitude = 5 }) 3
-    ∷ integer.Refused (refusal 3 3)
+    ∷ integer.Read (record { minus = false; magnitude = 5 }) 3
     ∷ integer.Read (record { minus = false; magnitude = 0 }) 1
     ∷ integer.Refused (refusal 7 1)
     ∷ integer.Refused (refusal 7 1)
     ∷ integer.Refused (refusal 7 2)
     ∷ integer.Read (record { minus = false; magnitude = 12 }) 2
     ∷ []
-unfolding within blankWidth blank1 blank2 blank3 foreign digit letter hexDigit intChar identNext run hexOf turnOf digitsFrom runOf startsWith identOf firstOf foreignAhead limitAt firstFit widthAt suffixWord suffixOf signOf prefixOf frontOf numeralOf typedOf
+unfolding within digit letter hexDigit intChar asciiNext identNext nextAhead charIf charLen codeOf codeOf4 widthOf behindThree behindFour secondByte xidContinue inRows table run hexOf turnOf digitsFrom runOf startsWith identOf firstOf limitAt firstFit widthAt suffixWord suffixOf signOf prefixOf frontOf numeralOf typedOf
 worked = refl

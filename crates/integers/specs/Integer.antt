@@ -8,7 +8,7 @@ use lib.ListN.{length, take, drop}
 use lib.Dec.{eqb}
 use Rattle.text.specs.Classes.{intChar}
 use Rattle.text.specs.Runs.{run}
-use Rattle.text.specs.Refusals.{placedBehind, foreignChar, eof, expectedInteger, underscoreAtBeginning, invalidIntegerDigit, integerOutOfBounds}
+use Rattle.text.specs.Refusals.{placedBehind, eof, expectedInteger, underscoreAtBeginning, invalidIntegerDigit, integerOutOfBounds}
 use Rattle.digits.specs.Digits.{runOf}
 use Rattle.digits.specs.declared.Run.{Run}
 use Rattle.digits.specs.declared.Run.the-variants.{Value, Empty, Underscore, NotDigit, Over}
@@ -22,7 +22,6 @@ use Rattle.integers.specs.declared.integer.Integer.{Integer}
 use Rattle.integers.specs.declared.integer.Integer.the-variants as integer
 use Rattle.integers.specs.declared.integer.AnyInteger.{AnyInteger}
 use Rattle.integers.specs.declared.integer.AnyInteger.the-variants as any
-use Rattle.integers.specs.Words.{askedBehind}
 use Rattle.integers.specs.Width.{codeOf, widthAt, limitAt, widest, firstFit, suffixOf}
 use Rattle.integers.specs.Front.{frontOf}
 
@@ -38,16 +37,13 @@ behindRun found end Underscore = numeral.Refused (underscoreAtBeginning 0)
 behindRun found end (NotDigit at) = numeral.Refused (invalidIntegerDigit at)
 behindRun found end Over = numeral.Refused (integerOutOfBounds end)
 
--- The run and the suffix behind it: 3 where the character behind the suffix is foreign, before the digits are judged.
-abbrev pub withSuffix : (asked : ℕ) (minus : Bool) (base : ℕ) → (part rest : List ℕ) → Found → Numeral
-withSuffix asked minus base part rest f =
-    let end = length part + f .end in
-    let judged = behindRun (f .code) end (runOf (limitAt (chosenOf (f .code) asked) minus) base part) in
-    cond (askedBehind f rest) (numeral.Refused (foreignChar end)) judged
+-- The run and the suffix behind it.
+abbrev pub withSuffix : (asked : ℕ) (minus : Bool) (base : ℕ) → (part : List ℕ) → Found → Numeral
+withSuffix asked minus base part f = behindRun (f .code) (length part + f .end) (runOf (limitAt (chosenOf (f .code) asked) minus) base part)
 
 -- The integer characters at the front of a part, and what is behind them.
 abbrev pub splitAt : (asked : ℕ) (minus : Bool) (base n : ℕ) → List ℕ → Numeral
-splitAt asked minus base n t = withSuffix asked minus base (take n t) (drop n t) (suffixOf (drop n t))
+splitAt asked minus base n t = withSuffix asked minus base (take n t) (suffixOf (drop n t))
 
 -- Digits and suffix, read at the width `asked`.
 unfoldable pub numeralOf : (asked : ℕ) (minus : Bool) (base : ℕ) → List ℕ → Numeral

@@ -1,17 +1,16 @@
 -- Words at the front of a part: the crate's `check_ident`, which "only returns true if the char after `ident` cannot belong to an identifier".
--- Refusal 3 (document 01): "a name's first or next character is asked for, and the one there is above U+007F and not whitespace".
 use Prim.Native.Nat.{ℕ}
 use mathlib.Core.List.{List, [], _∷_}
-use mathlib.Core.Bool.{Bool, false, cond}
-use lib.ListN.{length, getD, drop}
+use mathlib.Core.Bool.{cond}
+use lib.ListN.{length, drop}
 use lib.Dec.{eqb}
-use Rattle.text.specs.Classes.{identNext, foreignAhead}
+use Rattle.text.specs.Ahead.{nextAhead}
 use Rattle.text.specs.Words.{startsWith}
 use Rattle.integers.specs.declared.ident.Found.{Found}
 
 -- The word's length where it stands at the front and no name goes on behind it, else 0.
 unfoldable pub identOf : (word t : List ℕ) → ℕ
-identOf word t = cond (startsWith word t) (cond (identNext (getD t (length word) 0)) 0 (length word)) 0
+identOf word t = cond (startsWith word t) (cond (nextAhead (drop (length word) t)) 0 (length word)) 0
 
 -- A word, and the number that it stands for.
 pub record Word : Type 0 where
@@ -28,7 +27,3 @@ firstOf [] t = nothingFound
 firstOf (w ∷ ws) t =
     let rest = firstOf ws t in
     cond (eqb (identOf (w .letters) t) 0) rest (record { code = w .says; end = identOf (w .letters) t })
-
--- Behind a word that was found the next character is asked for, and it is above U+007F and not whitespace.
-abbrev pub askedBehind : Found → List ℕ → Bool
-askedBehind f t = cond (eqb (f .end) 0) false (foreignAhead (drop (f .end) t))

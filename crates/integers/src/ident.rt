@@ -1,11 +1,7 @@
 // Words at the front of a part, after the crate's `check_str` and `check_ident`.
-use text::bytes::peek;
-use text::classes::is_foreign_ahead;
-use text::classes::is_ident_next_char;
+use text::ahead::is_next_ahead;
 ghost use mathlib.Core.Path.{_≡_};
-ghost use Prim.Native.Nat.{_≤_};
-ghost use lib.ListN.{length};
-ghost use Rattle.integers.specs.Words.{identOf, askedBehind};
+ghost use Rattle.integers.specs.Words.{identOf};
 ghost use Rattle.text.specs.Words.{startsWith};
 
 // What the word found says, and its length; 0 and 0 where none was found.
@@ -43,22 +39,10 @@ pub fn check_ident(t: &[u8], word: &[u8]) -> usize
 {
     if check_str(t, word) {
         let n = word.len();
-        if is_ident_next_char(peek(t, n) as u32) {
+        if is_next_ahead(&t[n..]) {
             return 0;
         }
         return n;
     }
     0
-}
-
-// Behind a word that was found the next character is asked for, and it is above U+007F and not whitespace.
-pub fn is_asked_behind(t: &[u8], found: Found) -> bool
-    requires { ⌜ found .end ≤ length (now t) ⌝ }
-    ensures { λ r. ⌜ r ≡ askedBehind found (now (t .entry)) ⌝ }
-{
-    let n = found.end;
-    if n == 0 {
-        return false;
-    }
-    is_foreign_ahead(&t[n..])
 }

@@ -1,6 +1,5 @@
 // The integer itself: read at a width, or at the first that fits.
 use crate::front::front_of;
-use crate::ident::is_asked_behind;
 use crate::suffix::suffix_of;
 use crate::width::Width;
 use crate::width::code_of;
@@ -94,9 +93,6 @@ fn digits_and_suffix(t: &[u8], asked: u8, minus: bool, base: u64) -> Numeral
     let n = run_len(t);
     let found = suffix_of(&t[n..]);
     let end = n + found.end;
-    if is_asked_behind(&t[n..], found) {
-        return Numeral::Refused(Refusal::foreign_char(end));
-    }
     let code = chosen(found.code, asked);
     let run = parse_integer(&t[..n], minus, base, code);
     behind_run(run, found.code, end)

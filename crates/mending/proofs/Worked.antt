@@ -4,7 +4,7 @@ use mathlib.Core.List.{List, [], _∷_}
 use mathlib.Core.Path.{_≡_, refl}
 use Rattle.text.specs.Refusals.Told.{accepted, refused}
 use Rattle.text.specs.Refusals.{unclosedBlockComment}
-use Rattle.text.specs.Classes.{within, blank1, blank2, blank3, blankWidth, digit, hexDigit, intChar, floatChar, letter, foreign, foreignAhead}
+use Rattle.text.specs.Classes.{within, blank1, blank2, blank3, blankWidth, digit, hexDigit, intChar, floatChar, letter}
 use Rattle.text.specs.Runs.{run, run2}
 use Rattle.text.specs.Words.{startsWith}
 use Rattle.comments.specs.Blocks.{blockEnd, blockFrom, markOf}
@@ -38,7 +38,7 @@ tape =
     3 ∷ 0 ∷ 1 ∷ 0 ∷ 11 ∷ 1 ∷ 2 ∷ 5 ∷ 7 ∷ 2 ∷ 3 ∷ 0 ∷ 11 ∷ 4 ∷ 5 ∷ 5 ∷ 7 ∷ 5 ∷ 6 ∷ 0 ∷ 11 ∷ 7 ∷ 8 ∷ 5 ∷ 4 ∷ 8 ∷ 9 ∷ 0 ∷ 1 ∷ 2 ∷ 3 ∷ 4 ∷ []
 
 holds : readingOf list ≡ entriesOf 7 tape ▸ complete
-unfolding place tokensFrom ronToken gapOf gapFrom itemOf commentOf behindSlash blankWidth blank1 blank2 blank3 within run run2 tokenOf shapeOf markKind startsNumber behindB behindR numberOf floatAhead floatGoes floatChar digit hexDigit intChar letter anyOf numeralOf frontOf signOf prefixOf hexOf digitsFrom runOf turnOf firstFit limitAt suffixOf suffixWord widthAt firstOf foreignAhead identOf startsWith foreign entriesOf
+unfolding place tokensFrom ronToken gapOf gapFrom itemOf commentOf behindSlash blankWidth blank1 blank2 blank3 within run run2 tokenOf shapeOf markKind startsNumber behindB behindR numberOf floatAhead floatGoes floatChar digit hexDigit intChar letter anyOf numeralOf frontOf signOf prefixOf hexOf digitsFrom runOf turnOf firstFit limitAt suffixOf suffixWord widthAt firstOf identOf startsWith entriesOf
 holds = refl
 
 -- ---- the new text
@@ -48,12 +48,12 @@ changed = 0x5b ∷ 0x37 ∷ 0x2c ∷ 0x20 ∷ 0x2f ∷ 0x2a ∷ 0x38 ∷ 0x2c �
 
 -- five entries, three of them kept before and two behind
 pub worked : repairAnswerOf tape 7 9 4 6 changed ≡ accepted (record { count = 5; before = 3; behind = 2 })
-unfolding repairAnswerOf repairFits cutFits leading joins scanOf inOrder inOrderFrom orderly lastQuiet quietByte endOf place tokensFrom ronToken gapOf gapFrom itemOf commentOf behindSlash blockEnd blockFrom markOf blankWidth blank1 blank2 blank3 within run run2 tokenOf shapeOf markKind startsNumber behindB behindR numberOf floatAhead floatGoes floatChar digit hexDigit intChar letter anyOf numeralOf frontOf signOf prefixOf hexOf digitsFrom runOf turnOf firstFit limitAt suffixOf suffixWord widthAt firstOf foreignAhead identOf startsWith foreign entriesOf
+unfolding repairAnswerOf repairFits cutFits leading joins scanOf inOrder inOrderFrom orderly lastQuiet quietByte endOf place tokensFrom ronToken gapOf gapFrom itemOf commentOf behindSlash blockEnd blockFrom markOf blankWidth blank1 blank2 blank3 within run run2 tokenOf shapeOf markKind startsNumber behindB behindR numberOf floatAhead floatGoes floatChar digit hexDigit intChar letter anyOf numeralOf frontOf signOf prefixOf hexOf digitsFrom runOf turnOf firstFit limitAt suffixOf suffixWord widthAt firstOf identOf startsWith entriesOf
 worked = refl
 
 -- zeros up to the old count, and beyond it what stood there
 pub worked-tape : repairTapeOf tape 7 9 4 6 changed ≡ 3 ∷ 0 ∷ 1 ∷ 0 ∷ 11 ∷ 1 ∷ 2 ∷ 5 ∷ 7 ∷ 2 ∷ 3 ∷ 0 ∷ 11 ∷ 11 ∷ 12 ∷ 5 ∷ 4 ∷ 12 ∷ 13 ∷ 0 ∷ 0 ∷ 0 ∷ 0 ∷ 0 ∷ 0 ∷ 0 ∷ 0 ∷ 0 ∷ 1 ∷ 2 ∷ 3 ∷ 4 ∷ []
-unfolding repairTapeOf repairAnswerOf cleared laid flat entries repairFits cutFits leading joins scanOf inOrder inOrderFrom orderly lastQuiet quietByte endOf place tokensFrom ronToken gapOf gapFrom itemOf commentOf behindSlash blockEnd blockFrom markOf blankWidth blank1 blank2 blank3 within run run2 tokenOf shapeOf markKind startsNumber behindB behindR numberOf floatAhead floatGoes floatChar digit hexDigit intChar letter anyOf numeralOf frontOf signOf prefixOf hexOf digitsFrom runOf turnOf firstFit limitAt suffixOf suffixWord widthAt firstOf foreignAhead identOf startsWith foreign entriesOf
+unfolding repairTapeOf repairAnswerOf cleared laid flat entries repairFits cutFits leading joins scanOf inOrder inOrderFrom orderly lastQuiet quietByte endOf place tokensFrom ronToken gapOf gapFrom itemOf commentOf behindSlash blockEnd blockFrom markOf blankWidth blank1 blank2 blank3 within run run2 tokenOf shapeOf markKind startsNumber behindB behindR numberOf floatAhead floatGoes floatChar digit hexDigit intChar letter anyOf numeralOf frontOf signOf prefixOf hexOf digitsFrom runOf turnOf firstFit limitAt suffixOf suffixWord widthAt firstOf identOf startsWith entriesOf
 worked-tape = refl
 
 -- ---- an empty cut at 3, new bytes `/*`: 4 at 11
@@ -62,5 +62,5 @@ abbrev opened : List ℕ
 opened = 0x5b ∷ 0x37 ∷ 0x2c ∷ 0x2f ∷ 0x2a ∷ 0x20 ∷ 0x38 ∷ 0x2c ∷ 0x20 ∷ 0x39 ∷ 0x5d ∷ []
 
 pub worked-open : repairAnswerOf tape 7 9 3 3 opened ≡ refused (unclosedBlockComment 11)
-unfolding repairAnswerOf repairFits cutFits leading joins scanOf inOrder inOrderFrom orderly lastQuiet quietByte endOf place tokensFrom ronToken gapOf gapFrom itemOf commentOf behindSlash blockEnd blockFrom markOf blankWidth blank1 blank2 blank3 within run run2 tokenOf shapeOf markKind startsNumber behindB behindR numberOf floatAhead floatGoes floatChar digit hexDigit intChar letter anyOf numeralOf frontOf signOf prefixOf hexOf digitsFrom runOf turnOf firstFit limitAt suffixOf suffixWord widthAt firstOf foreignAhead identOf startsWith foreign entriesOf
+unfolding repairAnswerOf repairFits cutFits leading joins scanOf inOrder inOrderFrom orderly lastQuiet quietByte endOf place tokensFrom ronToken gapOf gapFrom itemOf commentOf behindSlash blockEnd blockFrom markOf blankWidth blank1 blank2 blank3 within run run2 tokenOf shapeOf markKind startsNumber behindB behindR numberOf floatAhead floatGoes floatChar digit hexDigit intChar letter anyOf numeralOf frontOf signOf prefixOf hexOf digitsFrom runOf turnOf firstFit limitAt suffixOf suffixWord widthAt firstOf identOf startsWith entriesOf
 worked-open = refl

@@ -1,33 +1,17 @@
 -- Laws of characters and of runs of them. Assumes nothing.
-use Prim.Native.Nat.{_+_, _<_, _≤_, suc, zero, ℕ}
+use Prim.Native.Nat.{_+_, _-_, _<_, _≤_, suc, zero, ℕ}
 use native.Mathlib.Nat.{le-of-suc-le-suc, not-suc-le-zero}
 use native.Mathlib.Omega.{arith}
-use mathlib.Core.Bool.{Bool, cond}
+use mathlib.Core.Bool.{Bool}
 use mathlib.Core.List.{List, [], _∷_}
-use mathlib.Core.Path.{_∙_, _≡_, ap, refl, subst}
-use lib.ListN.{drop, getD, length, length-drop}
+use mathlib.Core.Path.{_∙_, _≡_, ap, refl, subst, sym}
+use lib.ListN.{drop, getD, length, length-drop, take}
 use lib.Seq.{drop-drop}
-use Rattle.names.proofs.More.{code-ascii}
+use Rattle.text.proofs.AheadLaws.{char-le, char-nil}
+use Rattle.text.proofs.Lists.{tail-part}
 use Rattle.names.specs.Characters.{byCharWidth, charIf, chars, charsFrom}
-use Rattle.text.proofs.Choices.{cond-cases, cond-same}
-use Rattle.text.proofs.Utf8Agree.{charLen-le}
-use Rattle.text.proofs.Utf8Laws.{charLen-ascii, charLen-nil}
-use Rattle.text.specs.Utf8.{charLen, codeOf}
 
 module _ (p : ℕ → Bool) where
-  -- ---- the character at the front
-  pub char-nil : (s : List ℕ) → length s ≡ 0 → charIf p s ≡ 0
-  unfolding charIf
-  char-nil s h = rw (charLen-nil s h) (cond-same (p (codeOf s)) 0)
-
-  pub char-ascii : (s : List ℕ) → 0 < length s → getD s 0 0 < 0x80 → charIf p s ≡ cond (p (getD s 0 0)) 1 0
-  unfolding charIf
-  char-ascii s h k = rw (code-ascii s k, charLen-ascii s h k)
-
-  pub char-le : (s : List ℕ) → charIf p s ≤ length s
-  unfolding charIf
-  char-le s = cond-cases (λ (n : ℕ). n ≤ length s) (p (codeOf s)) (charLen s) 0 (λ e. charLen-le s) (λ e. omega arith)
-
   -- ---- runs
   chars-behind : (s : List ℕ) (n : ℕ) → n ≤ length s → charsFrom p s n ≡ n + chars p (drop n s)
   unfolding charsFrom chars
@@ -39,9 +23,9 @@ module _ (p : ℕ → Bool) where
   pub chars-first : (s : List ℕ) (n : ℕ) → charIf p s ≡ n → 0 < n → chars p s ≡ n + chars p (drop n s)
   unfolding charsFrom chars
   chars-first s zero e h = absurd (not-suc-le-zero h)
-  chars-first [] (suc n) e h = absurd (not-suc-le-zero (subst (λ (k : ℕ). k ≤ 0) e (char-le [])))
+  chars-first [] (suc n) e h = absurd (not-suc-le-zero (subst (λ (k : ℕ). k ≤ 0) e (char-le p [])))
   chars-first (a ∷ s) (suc n) e h =
-      let l : suc n ≤ suc (length s) = subst (λ (k : ℕ). k ≤ suc (length s)) e (char-le (a ∷ s)) in
+      let l : suc n ≤ suc (length s) = subst (λ (k : ℕ). k ≤ suc (length s)) e (char-le p (a ∷ s)) in
       let b = chars-behind s n (le-of-suc-le-suc l) in
       ap (λ (k : ℕ). byCharWidth k (λ (m : ℕ). suc (charsFrom p s m))) e ∙ omega arith
 
@@ -73,4 +57,11 @@ module _ (p : ℕ → Bool) where
     run-stops e = omega (arith, chars-none (drop i s) e)
 
     pub run-ends : length s ≤ i → i + chars p (drop i s) ≡ i
-    run-ends h = run-stops (char-nil (drop i s) (omega (arith, length-drop i s)))
+    run-ends h = run-stops (char-nil p (drop i s) (omega (arith, length-drop i s)))
+
+    -- what a reader of one character answers on the part from there, and that it lies within the text
+    pub part-char : (n : ℕ) → n ≡ charIf p (take (length s - i) (drop i s)) → charIf p (drop i s) ≡ n
+    part-char n e = ap (charIf p) (sym (tail-part s i)) ∙ sym e
+
+    pub part-fits : (n : ℕ) → n ≡ charIf p (take (length s - i) (drop i s)) → n ≤ length s - i
+    part-fits n e = omega (arith, part-char n e, char-le p (drop i s), length-drop i s)

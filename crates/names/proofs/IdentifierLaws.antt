@@ -7,16 +7,16 @@ use mathlib.Core.Path.{_≡_}
 use lib.Dec.{eqb, ltb}
 use lib.ListN.{drop, length, length-drop}
 use borrow.Author.Tests.{eqb-false}
-use Rattle.names.proofs.CharLaws.{char-le, chars-le}
+use Rattle.names.proofs.CharLaws.{chars-le}
+use Rattle.text.proofs.AheadLaws.{char-le}
 use Rattle.names.specs.Characters.{charIf, chars}
-use Rattle.names.specs.Identifiers.{nameLen, identifierOf, orAsked, plainOf, rawOf, skipIdentifierOf, strictOf}
+use Rattle.names.specs.Identifiers.{nameLen, identifierOf, plainOf, rawOf, skipIdentifierOf, strictOf}
 use Rattle.names.specs.Starts.{beginsRaw, beginsString}
 use Rattle.names.specs.declared.Identifier.{Identifier}
-use Rattle.names.specs.declared.Identifier.the-variants.{Missing, Name, RawName, Refused}
+use Rattle.names.specs.declared.Identifier.the-variants.{Missing, Name, RawName}
 use Rattle.text.proofs.Choices.{cond-cases}
 use Rattle.text.proofs.WordLaws.{starts-le}
-use Rattle.text.specs.Classes.{identFirst, identNext, identRaw, foreignAhead}
-use Rattle.text.specs.Refusals.{eof, foreignChar}
+use Rattle.text.specs.Classes.{identFirst, identNext, identRaw}
 
 pub name-le : (s : List ℕ) → nameLen s ≤ length s
 unfolding nameLen
@@ -37,16 +37,11 @@ abbrev pub Within : List ℕ → Identifier → Type 0
 Within s Missing = Unit {0}
 Within s (Name n) = (0 < n) × (n ≤ length s)
 Within s (RawName n) = (2 < n) × (n ≤ length s)
-Within s (Refused r) = r .place ≤ length s
-
-asked-within : (s : List ℕ) (n : ℕ) (i : Identifier) → n ≤ length s → Within s i → Within s (orAsked s n i)
-asked-within s n i h w = cond-cases (Within s) (foreignAhead (drop n s)) (Refused (foreignChar n)) i (λ e. h) (λ e. w)
 
 pub plain-within : (s : List ℕ) → Within s (plainOf s)
 unfolding plainOf
 plain-within s =
-    asked-within s (nameLen s) _ (name-le s)
-    (cond-cases (Within s) (eqb (nameLen s) 0) Missing (Name (nameLen s)) (λ e. tt) (λ e. (positive (nameLen s) e, name-le s)))
+    cond-cases (Within s) (eqb (nameLen s) 0) Missing (Name (nameLen s)) (λ e. tt) (λ e. (positive (nameLen s) e, name-le s))
   where
     positive : (n : ℕ) → eqb n 0 ≡ false → 0 < n
     positive n e = let h = eqb-false n 0 e in omega arith
@@ -56,18 +51,15 @@ unfolding rawOf
 raw-within s h =
     let n : ℕ = chars identRaw (drop 2 s) in
     let l : 2 + n ≤ length s = omega (arith, chars-le identRaw (drop 2 s), length-drop 2 s) in
-    asked-within s (2 + n) _ l
-    (cond-cases (Within s) (eqb n 0) Missing (RawName (2 + n)) (λ e. tt) (λ e. let z = eqb-false n 0 e in (omega arith, l)))
+    cond-cases (Within s) (eqb n 0) Missing (RawName (2 + n)) (λ e. tt) (λ e. let z = eqb-false n 0 e in (omega arith, l))
 
 pub strict-within : (s : List ℕ) → Within s (strictOf s)
 unfolding strictOf
 strict-within s =
     let n : ℕ = nameLen s in
     let raw : ℕ = chars identRaw s in
-    asked-within s n _ (name-le s)
-    (asked-within s raw _ (chars-le identRaw s)
-    (cond-cases (Within s) (eqb n 0) Missing (cond (ltb n raw) Missing (Name n)) (λ e. tt)
-    (λ e. cond-cases (Within s) (ltb n raw) Missing (Name n) (λ f. tt) (λ f. let z = eqb-false n 0 e in (omega arith, name-le s)))))
+    cond-cases (Within s) (eqb n 0) Missing (cond (ltb n raw) Missing (Name n)) (λ e. tt)
+    (λ e. cond-cases (Within s) (ltb n raw) Missing (Name n) (λ f. tt) (λ f. let z = eqb-false n 0 e in (omega arith, name-le s)))
 
 -- a raw name where `r#` stands, and else
 raw-or : (s : List ℕ) (i : Identifier) → Within s i → Within s (cond (beginsString s) Missing (cond (beginsRaw s) (rawOf s) i))
@@ -81,6 +73,4 @@ skip-within s = raw-or s (plainOf s) (plain-within s)
 
 pub identifier-within : (s : List ℕ) → Within s (identifierOf s)
 unfolding identifierOf
-identifier-within s =
-    cond-cases (Within s) (eqb (length s) 0) (Refused (eof 0)) (cond (beginsString s) Missing (cond (beginsRaw s) (rawOf s) (strictOf s)))
-    (λ e. omega arith) (λ e. raw-or s (strictOf s) (strict-within s))
+identifier-within s = raw-or s (strictOf s) (strict-within s)

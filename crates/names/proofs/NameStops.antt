@@ -7,25 +7,26 @@ use mathlib.Core.Path.{_∙_, _≡_, ap, ap₂, refl, sym}
 use lib.Dec.{eqb, ltb}
 use lib.ListN.{length, drop}
 use borrow.Author.Tests.{ltb-true, not-true}
-use Rattle.names.proofs.CharStops.{char-reach, chars-reach}
+use Rattle.names.proofs.CharStops.{chars-reach}
+use Rattle.text.proofs.AheadLaws.{char-reach}
 use Rattle.names.specs.Characters.{charIf, chars}
 use Rattle.names.specs.Classify.{beginsFloat, byIdentifier, floatWords, missing, named, suffixed, wordOf}
-use Rattle.names.specs.Identifiers.{identifierOf, nameLen, orAsked, plainOf, rawOf, skipIdentifierOf, strictOf}
+use Rattle.names.specs.Identifiers.{identifierOf, nameLen, plainOf, rawOf, skipIdentifierOf, strictOf}
 use Rattle.names.specs.Starts.{beginsRaw, beginsString, startsWithOne, stringStarts}
 use Rattle.names.specs.declared.Identifier.{Identifier}
-use Rattle.names.specs.declared.Identifier.the-variants.{Missing, Name, RawName, Refused}
+use Rattle.names.specs.declared.Identifier.the-variants.{Missing, Name, RawName}
 use Rattle.names.specs.declared.Word.{Word}
 use Rattle.names.specs.declared.Word.the-variants.{Float, Plain, Raw, Refused as NotName}
 use Rattle.text.proofs.Choices.{and-true, or-left, or-right, cond-cases}
-use Rattle.text.proofs.Stops.{behind, Stopped, always, on₂, Reach, bind, on, on₃, sum, empty-stopped}
-use Rattle.text.proofs.ClassLaws.{allOf}
-use Rattle.text.proofs.WordLaws.{differs, foreign-stopped, starts-past, starts-stopped}
-use Rattle.text.specs.Classes.{digit, identFirst, identNext, identRaw, letter, oneOf, within, foreignAhead}
-use Rattle.text.specs.Refusals.{eof, expectedString, foreignChar, unexpectedChar}
+use Rattle.text.proofs.Stops.{behind, Stopped, always, on₂, Reach, bind, on, sum, empty-stopped}
+use Rattle.text.proofs.ClassLaws.{allOf, first-ascii, next-ascii, raw-ascii}
+use Rattle.text.proofs.WordLaws.{differs, starts-past, starts-stopped}
+use Rattle.text.specs.Classes.{digit, asciiFirst, asciiNext, asciiRaw, identFirst, identNext, identRaw, letter, oneOf, within}
+use Rattle.text.specs.Refusals.{expectedString, unexpectedChar}
 
 -- a byte of ASCII that is no character of a name or raw name, no quote and no `#`
 unfoldable pub nameStop : ℕ → Bool
-nameStop c = ltb c 0x80 && not (oneOf (0x22 ∷ 0x23 ∷ 0x27 ∷ []) c || identRaw c)
+nameStop c = ltb c 0x80 && not (oneOf (0x22 ∷ 0x23 ∷ 0x27 ∷ []) c || asciiRaw c)
 
 -- any other byte
 abbrev pub kept : ℕ → Bool
@@ -39,21 +40,30 @@ module _ (c : ℕ) (is : nameStop c ≡ true) where
   -- ---- what such a byte is not
   pub stop-ascii : c < 0x80
   unfolding nameStop
-  stop-ascii = ltb-true c 0x80 (and-true (ltb c 0x80) (not (oneOf (0x22 ∷ 0x23 ∷ 0x27 ∷ []) c || identRaw c)) is .0)
+  stop-ascii = ltb-true c 0x80 (and-true (ltb c 0x80) (not (oneOf (0x22 ∷ 0x23 ∷ 0x27 ∷ []) c || asciiRaw c)) is .0)
+
+  raw-out : asciiRaw c ≡ false
+  unfolding nameStop
+  raw-out =
+      let q = and-true (ltb c 0x80) (not (oneOf (0x22 ∷ 0x23 ∷ 0x27 ∷ []) c || asciiRaw c)) is .1 in
+      or-right (oneOf (0x22 ∷ 0x23 ∷ 0x27 ∷ []) c) (asciiRaw c) (not-true (oneOf (0x22 ∷ 0x23 ∷ 0x27 ∷ []) c || asciiRaw c) q)
+
+  next-out : asciiNext c ≡ false
+  unfolding asciiRaw
+  next-out = or-right (oneOf (0x2e ∷ 0x2b ∷ 0x2d ∷ []) c) (asciiNext c) raw-out
+
+  first-out : asciiFirst c ≡ false
+  unfolding asciiFirst asciiNext
+  first-out = rw (or-left (letter c) (digit c || eqb c 0x5f) next-out) (or-right (digit c) (eqb c 0x5f) (or-right (letter c) (digit c || eqb c 0x5f) next-out))
 
   not-raw : identRaw c ≡ false
-  unfolding nameStop
-  not-raw =
-      let q = and-true (ltb c 0x80) (not (oneOf (0x22 ∷ 0x23 ∷ 0x27 ∷ []) c || identRaw c)) is .1 in
-      or-right (oneOf (0x22 ∷ 0x23 ∷ 0x27 ∷ []) c) (identRaw c) (not-true (oneOf (0x22 ∷ 0x23 ∷ 0x27 ∷ []) c || identRaw c) q)
+  not-raw = raw-ascii c stop-ascii ∙ raw-out
 
   not-next : identNext c ≡ false
-  unfolding identRaw
-  not-next = or-right (oneOf (0x2e ∷ 0x2b ∷ 0x2d ∷ []) c) (identNext c) not-raw
+  not-next = next-ascii c stop-ascii ∙ next-out
 
   not-first : identFirst c ≡ false
-  unfolding identFirst identNext
-  not-first = rw (or-left (letter c) (digit c || eqb c 0x5f) not-next) (or-right (digit c) (eqb c 0x5f) (or-right (letter c) (digit c || eqb c 0x5f) not-next))
+  not-first = first-ascii c stop-ascii ∙ first-out
 
   -- ---- words
   kept-out : kept c ≡ false
@@ -70,15 +80,15 @@ module _ (c : ℕ) (is : nameStop c ≡ true) where
       on₂ (λ (a b : Bool). a || b) (starts-stopped kept c kept-out w (no .0)) (one-stopped (x ∷ ws) (no .1))
 
   string-stopped : Stopped c beginsString
-  unfolding beginsString nameStop identRaw identNext letter digit within
+  unfolding beginsString nameStop asciiRaw asciiNext letter digit within
   string-stopped = one-stopped stringStarts refl
 
   raw-stopped : Stopped c beginsRaw
-  unfolding beginsRaw nameStop identRaw identNext letter digit within
+  unfolding beginsRaw nameStop asciiRaw asciiNext letter digit within
   raw-stopped = starts-stopped kept c kept-out (0x72 ∷ 0x23 ∷ []) refl
 
   no-raw : (u v : List ℕ) → length u < 2 → beginsRaw (u ++ c ∷ v) ≡ false
-  unfolding beginsRaw nameStop identRaw identNext letter digit within
+  unfolding beginsRaw nameStop asciiRaw asciiNext letter digit within
   no-raw u v l = starts-past kept c kept-out (0x72 ∷ 0x23 ∷ []) refl u v l
 
   -- ---- lengths
@@ -97,36 +107,26 @@ module _ (c : ℕ) (is : nameStop c ≡ true) where
   raw-reach : Reach c (chars identRaw)
   raw-reach = chars-reach c stop-ascii identRaw not-raw
 
-  -- ---- refusal 3 behind a length
-  asked-stopped : {n : List ℕ → ℕ} {f : List ℕ → Identifier} → Reach c n → Stopped c f → Stopped c (λ s. orAsked s (n s) (f s))
-  asked-stopped r e = on₃ (λ (t : Bool) (k : ℕ) (i : Identifier). cond t (Refused (foreignChar k)) i) (behind r (foreign-stopped c stop-ascii)) (r .stopped) e
-
+  -- ---- names
   plain-stopped : Stopped c plainOf
   unfolding plainOf
-  plain-stopped = asked-stopped name-reach (on (λ (n : ℕ). cond (eqb n 0) Missing (Name n)) (name-reach .stopped))
+  plain-stopped = on (λ (n : ℕ). cond (eqb n 0) Missing (Name n)) (name-reach .stopped)
 
   strict-stopped : Stopped c strictOf
   unfolding strictOf
-  strict-stopped =
-      asked-stopped name-reach (asked-stopped raw-reach
-      (on₂ (λ (n m : ℕ). cond (eqb n 0) Missing (cond (ltb n m) Missing (Name n))) (name-reach .stopped) (raw-reach .stopped)))
+  strict-stopped = on₂ (λ (n m : ℕ). cond (eqb n 0) Missing (cond (ltb n m) Missing (Name n))) (name-reach .stopped) (raw-reach .stopped)
 
   -- ---- a raw name, behind its `r#`
   behind-hash : List ℕ → Identifier
-  behind-hash t = let n = chars identRaw t in cond (foreignAhead (drop n t)) (Refused (foreignChar (2 + n))) (cond (eqb n 0) Missing (RawName (2 + n)))
+  behind-hash t = let n = chars identRaw t in cond (eqb n 0) Missing (RawName (2 + n))
 
   hash-is : (x y : ℕ) (t : List ℕ) → rawOf (x ∷ y ∷ t) ≡ behind-hash t
   unfolding rawOf behind-hash
-  hash-is x y t =
-      let n : ℕ = chars identRaw t in
-      let e : 2 + n ≡ suc (suc n) = omega arith in
-      ap (λ (k : ℕ). cond (foreignAhead (drop k (x ∷ y ∷ t))) (Refused (foreignChar (2 + n))) (cond (eqb n 0) Missing (RawName (2 + n)))) e
+  hash-is x y t = refl
 
   hash-stopped : Stopped c behind-hash
   unfolding behind-hash
-  hash-stopped =
-      on₂ (λ (t : Bool) (n : ℕ). cond t (Refused (foreignChar (2 + n))) (cond (eqb n 0) Missing (RawName (2 + n))))
-      (behind raw-reach (foreign-stopped c stop-ascii)) (raw-reach .stopped)
+  hash-stopped = on (λ (n : ℕ). cond (eqb n 0) Missing (RawName (2 + n))) (raw-reach .stopped)
 
   raw-or-same : {f : List ℕ → Identifier} → Stopped c f → (u v v′ : List ℕ)
       → cond (beginsRaw (u ++ c ∷ v)) (rawOf (u ++ c ∷ v)) (f (u ++ c ∷ v)) ≡ cond (beginsRaw (u ++ c ∷ v′)) (rawOf (u ++ c ∷ v′)) (f (u ++ c ∷ v′))
@@ -149,20 +149,19 @@ module _ (c : ℕ) (is : nameStop c ≡ true) where
 
   pub identifier-stopped : Stopped c identifierOf
   unfolding identifierOf
-  identifier-stopped =
-      on₂ (λ (t : Bool) (i : Identifier). cond t (Refused (eof 0)) i) (empty-stopped c) (raw-or-stopped strict-stopped)
+  identifier-stopped = raw-or-stopped strict-stopped
 
   -- ---- `inf` and `NaN`
   float-stopped : Stopped c beginsFloat
-  unfolding beginsFloat nameStop identRaw identNext letter digit within
+  unfolding beginsFloat nameStop asciiRaw asciiNext letter digit within
   float-stopped = one-stopped floatWords refl
 
   no-float : (u v : List ℕ) → length u < 3 → beginsFloat (u ++ c ∷ v) ≡ false
-  unfolding beginsFloat nameStop identRaw identNext letter digit within
+  unfolding beginsFloat nameStop asciiRaw asciiNext letter digit within
   no-float u v l = rw (starts-past kept c kept-out (0x69 ∷ 0x6e ∷ 0x66 ∷ []) refl u v l) (starts-past kept c kept-out (0x4e ∷ 0x61 ∷ 0x4e ∷ []) refl u v l)
 
   suffixed-stopped : (n : ℕ) → Stopped c (λ t. suffixed t n)
-  unfolding suffixed nameStop identRaw identNext letter digit within
+  unfolding suffixed nameStop asciiRaw asciiNext letter digit within
   suffixed-stopped n =
       on₂ (λ (a b : Bool). cond a (Float n 32) (cond b (Float n 64) (Plain n)))
       (starts-stopped kept c kept-out (0x66 ∷ 0x33 ∷ 0x32 ∷ []) refl) (starts-stopped kept c kept-out (0x66 ∷ 0x36 ∷ 0x34 ∷ []) refl)
@@ -181,7 +180,6 @@ module _ (c : ℕ) (is : nameStop c ≡ true) where
   by-stopped Missing = on (λ (t : Bool). NotName (cond t (expectedString 2) (unexpectedChar 0))) raw-stopped
   by-stopped (Name n) = record { same = named-same n }
   by-stopped (RawName n) = always (Raw n)
-  by-stopped (Refused r) = always (NotName r)
 
   -- ---- the token that begins as a name does
   pub word-stopped : Stopped c wordOf

@@ -10,7 +10,7 @@ use Rattle.names.specs.Classify.{beginsFloat, byIdentifier, missing, nam
 use Rattle.names.specs.Identifiers.{skipIdentifierOf}
 use Rattle.names.specs.Starts.{beginsRaw}
 use Rattle.names.specs.declared.Identifier.{Identifier}
-use Rattle.names.specs.declared.Identifier.the-variants.{Missing, Name, RawName, Refused}
+use Rattle.names.specs.declared.Identifier.the-variants.{Missing, Name, RawName}
 use Rattle.names.specs.declared.Word.{Word}
 use Rattle.names.specs.declared.Word.the-variants.{Float, Plain, Raw, Refused as NotName}
 use Rattle.text.proofs.Choices.{cond-cases}
@@ -46,7 +46,6 @@ by-bounded : (s : List ℕ) (i : Identifier) → Within s i → Bounded s (byIde
 by-bounded s Missing w = missing-bounded s
 by-bounded s (Name n) w = named-bounded s n (w .0) (w .1)
 by-bounded s (RawName n) w = (omega (arith, w .0), w .1)
-by-bounded s (Refused r) w = w
 
 pub bounded : (s : List ℕ) → Bounded s (wordOf s)
 unfolding wordOf

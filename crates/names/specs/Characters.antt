@@ -1,9 +1,12 @@
 -- Characters of a name, by code point and width (document 01, module 1): "Name: first a letter or `_`, then letters, digits, `_`; a raw name also takes `. + -`."
 use Prim.Native.Nat.{ℕ, zero, suc}
-use mathlib.Core.Bool.{Bool, cond}
+use mathlib.Core.Bool.{Bool, _&&_, _||_}
 use mathlib.Core.List.{List, [], _∷_}
-use Rattle.text.specs.Classes.{identFirst, identNext, identRaw}
-use Rattle.text.specs.Utf8.{charLen, codeOf}
+use lib.ListN.{getD}
+use lib.Dec.{ltb}
+use Rattle.xid.specs.Xid.{usual}
+use Rattle.text.specs.Classes.{asciiFirst, asciiNext, asciiRaw, identFirst, identNext, identRaw}
+unfoldable pub use Rattle.text.specs.Ahead.{charIf}
 use Rattle.names.specs.declared.Class.{Class}
 use Rattle.names.specs.declared.Class.the-variants.{First, Next, Raw}
 
@@ -13,9 +16,19 @@ identChar First = identFirst
 identChar Next = identNext
 identChar Raw = identRaw
 
--- The width of the character at the front where it is of the class, else 0.
-unfoldable pub charIf : (ℕ → Bool) → List ℕ → ℕ
-charIf p s = cond (p (codeOf s)) (charLen s) 0
+-- Its part up to U+007F.
+abbrev pub asciiChar : Class → ℕ → Bool
+asciiChar First = asciiFirst
+asciiChar Next = asciiNext
+asciiChar Raw = asciiRaw
+
+-- A code point is of the class, and that is told without the table: up to U+007F, or a usual letter.
+abbrev pub near : (ℕ → Bool) → ℕ → Bool
+near p c = (ltb c 0x80 || usual c) && p c
+
+-- A character above U+007F stands at the front.
+unfoldable pub wideAhead : List ℕ → Bool
+wideAhead s = ltb 0x7f (getD s 0 0)
 
 -- What stands behind a character's first byte, given its width; nothing where that is 0.
 abbrev pub byCharWidth : ℕ → (ℕ → ℕ) → ℕ

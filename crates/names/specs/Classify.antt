@@ -11,7 +11,7 @@ use Rattle.text.specs.Words.{startsWith}
 use Rattle.names.specs.Starts.{startsWithOne, beginsRaw}
 use Rattle.names.specs.Identifiers.{skipIdentifierOf}
 use Rattle.names.specs.declared.Identifier.{Identifier}
-use Rattle.names.specs.declared.Identifier.the-variants.{Missing, Name, RawName, Refused as Asked}
+use Rattle.names.specs.declared.Identifier.the-variants.{Missing, Name, RawName}
 use Rattle.names.specs.declared.Word.{Word}
 use Rattle.names.specs.declared.Word.the-variants.{Plain, Raw, Float, Refused}
 
@@ -40,7 +40,6 @@ abbrev pub byIdentifier : List ℕ → Identifier → Word
 byIdentifier s Missing = Refused (missing s)
 byIdentifier s (Name n) = named s n
 byIdentifier s (RawName n) = Raw n
-byIdentifier s (Asked r) = Refused r
 
 -- The token that begins as a name does.
 unfoldable pub wordOf : List ℕ → Word

@@ -69,6 +69,5 @@ pub fn word(s: &[u8]) -> Word
         Identifier::Missing => Word::Refused(missing(s)),
         Identifier::Name(n) => name(s, n),
         Identifier::RawName(n) => Word::Raw(n),
-        Identifier::Refused(r) => Word::Refused(r),
     }
 }

@@ -1,24 +1,52 @@
 // Names and raw names at the front of a part.
 use crate::Class;
 use crate::Identifier;
-use crate::characters::char_if;
+use crate::characters::is_wide_ahead;
+use crate::characters::near_if;
 use crate::characters::next_chars_while_len;
 use crate::starts::begins_raw;
 use crate::starts::begins_string;
-use text::Refusal;
-use text::classes::is_foreign_ahead;
+use crate::table_chars;
+use xid::table::table;
 ghost use mathlib.Core.Path.{_≡_};
 ghost use Prim.Native.Nat.{_≤_};
 ghost use lib.ListN.{length};
+ghost use Rattle.names.specs.Characters.{charIf, near};
+ghost use Rattle.text.specs.Classes.{identFirst};
+ghost use Rattle.xid.specs.Table.{table as rows};
 ghost use Rattle.names.specs.Identifiers.{nameLen, plainOf, rawOf, strictOf, skipIdentifierOf, identifierOf};
 
-// The length of the name at the front, 0 where none begins.
+// The length of the name at the front, 0 where none begins: by the table, which is lent.
+fn name_in(t: &[u32; 3234], s: &[u8]) -> usize
+    requires { ⌜ now t ≡ rows ⌝ }
+    ensures { λ r. ⌜ r ≡ nameLen (now (s .entry)) ⌝ }
+{
+    let n = table_chars::char_if(t, Class::First, s);
+    if n == 0 {
+        return 0;
+    }
+    let more = table_chars::chars_len(t, &s[n..], Class::Next);
+    n + more
+}
+
+// The same where no near character begins it. This builds the table, once.
+fn far_name_len(s: &[u8]) -> usize
+    requires { ⌜ charIf (near identFirst) (now s) ≡ 0 ⌝ }
+    ensures { λ r. ⌜ r ≡ nameLen (now (s .entry)) ⌝ }
+{
+    if !is_wide_ahead(s) {
+        return 0;
+    }
+    let t = table();
+    name_in(&t, s)
+}
+
 fn name_len(s: &[u8]) -> usize
     ensures { λ r. ⌜ r ≡ nameLen (now (s .entry)) ⌝ }
 {
-    let n = char_if(Class::First, s);
+    let n = near_if(Class::First, s);
     if n == 0 {
-        return 0;
+        return far_name_len(s);
     }
     let more = next_chars_while_len(&s[n..], Class::Next);
     n + more
@@ -28,9 +56,6 @@ fn plain(s: &[u8]) -> Identifier
     ensures { λ r. ⌜ r ≡ plainOf (now (s .entry)) ⌝ }
 {
     let n = name_len(s);
-    if is_foreign_ahead(&s[n..]) {
-        return Identifier::Refused(Refusal::foreign_char(n));
-    }
     if n == 0 {
         return Identifier::Missing;
     }
@@ -44,9 +69,6 @@ fn raw(s: &[u8]) -> Identifier
 {
     let n = next_chars_while_len(&s[2..], Class::Raw);
     let end = 2 + n;
-    if is_foreign_ahead(&s[end..]) {
-        return Identifier::Refused(Refusal::foreign_char(end));
-    }
     if n == 0 {
         return Identifier::Missing;
     }
@@ -70,13 +92,7 @@ fn strict(s: &[u8]) -> Identifier
     ensures { λ r. ⌜ r ≡ strictOf (now (s .entry)) ⌝ }
 {
     let n = name_len(s);
-    if is_foreign_ahead(&s[n..]) {
-        return Identifier::Refused(Refusal::foreign_char(n));
-    }
     let raw = next_chars_while_len(s, Class::Raw);
-    if is_foreign_ahead(&s[raw..]) {
-        return Identifier::Refused(Refusal::foreign_char(raw));
-    }
     if n == 0 {
         return Identifier::Missing;
     }
@@ -86,13 +102,10 @@ fn strict(s: &[u8]) -> Identifier
     Identifier::Name(n)
 }
 
-// What the list of an attribute asks for.
+// What the list of an attribute asks for, which tests for the end of the text itself.
 pub fn identifier(s: &[u8]) -> Identifier
     ensures { λ r. ⌜ r ≡ identifierOf (now (s .entry)) ⌝ }
 {
-    if s.len() == 0 {
-        return Identifier::Refused(Refusal::eof(0));
-    }
     if begins_string(s) {
         return Identifier::Missing;
     }

@@ -9,7 +9,7 @@ use Rattle.floats.specs.declared.float.AnyFloat.{AnyFloat}
 use Rattle.integers.proofs.Bounded.{AnyBounded, integer-bounded}
 use Rattle.integers.specs.Integer.{anyOf}
 use Rattle.integers.specs.declared.integer.AnyInteger.{AnyInteger}
-use Rattle.numbers.specs.Numbers.{floatAhead, isAsked, numberOf, ofFloat, orElse, orFloat}
+use Rattle.numbers.specs.Numbers.{floatAhead, numberOf, ofFloat, orElse, orFloat}
 use Rattle.numbers.specs.declared.Number.{Number}
 use Rattle.numbers.specs.declared.Number.the-variants.{Int, Float, Refused}
 use Rattle.text.proofs.Choices.{bool-cases, either}
@@ -27,12 +27,8 @@ of-float (float.Read f) n h = h
 of-float (float.Refused r) n h = h
 
 or-float : (r : Refusal) (f : AnyFloat) (n : ℕ) → r .place ≤ n → FloatBounded n f → NumberBounded n (orFloat r f)
-or-float r (float.Read f) n h k =
-    either (bool-cases (isAsked r)) (λ a. rw a h) λ a.
-    either (bool-cases (leb (r .place) (f .len))) (λ b. rw (a, b) k) (λ b. rw (a, b) h)
-or-float r (float.Refused q) n h k =
-    either (bool-cases (isAsked r)) (λ a. rw a h) λ a.
-    either (bool-cases (isAsked q)) (λ b. rw (a, b) k) (λ b. rw (a, b) h)
+or-float r (float.Read f) n h k = either (bool-cases (leb (r .place) (f .len))) (λ b. rw b k) (λ b. rw b h)
+or-float r (float.Refused q) n h k = h
 
 or-else : (i : AnyInteger) (f : AnyFloat) (n : ℕ) → AnyBounded n i → FloatBounded n f → NumberBounded n (orElse i f)
 or-else (integer.Read w l) f n h k = h

@@ -1,7 +1,11 @@
 -- Texts of document 01 and of the crate's odd corners, with the crate's answers for the number in front, computed of the definition. Assumes nothing.
 use mathlib.Core.List.{List, [], _∷_}
 use mathlib.Core.Path.{_≡_, refl}
-use Rattle.text.specs.Classes.{within, blankWidth, blank1, blank2, blank3, foreign, digit, letter, hexDigit, intChar, floatChar, identNext, foreignAhead}
+use Rattle.text.specs.Classes.{within, digit, letter, hexDigit, intChar, floatChar, asciiNext, identNext}
+use Rattle.text.specs.Ahead.{charIf, nextAhead}
+use Rattle.text.specs.Utf8.{behindFour, behindThree, charLen, codeOf, codeOf4, secondByte, widthOf}
+use Rattle.xid.specs.Table.{table}
+use Rattle.xid.specs.Xid.{inRows, xidContinue}
 use Rattle.text.specs.Runs.{run, run2}
 use Rattle.text.specs.Refusals.{refusal}
 use Rattle.text.specs.Words.{startsWith}
@@ -186,18 +190,18 @@ pub worked : answers ≡
     ∷ Refused (refusal 7 1)
     ∷ Float (record { len = 6; suffix = 32 })
     ∷ Float (record { len = 10; suffix = 64 })
-    ∷ Refused (refusal 3 6)
-    ∷ Refused (refusal 3 4)
-    ∷ Refused (refusal 3 4)
     ∷ Float (record { len = 3; suffix = 0 })
-    ∷ Refused (refusal 3 4)
-    ∷ Refused (refusal 3 7)
-    ∷ Refused (refusal 3 3)
+    ∷ Refused (refusal 11 0)
+    ∷ Float (record { len = 1; suffix = 0 })
+    ∷ Float (record { len = 3; suffix = 0 })
+    ∷ Refused (refusal 7 1)
+    ∷ Refused (refusal 7 1)
+    ∷ Int U8 1
     ∷ Refused (refusal 7 1)
     ∷ Refused (refusal 7 2)
     ∷ Refused (refusal 11 0)
     ∷ Int U8 3
     ∷ Float (record { len = 4; suffix = 0 })
     ∷ []
-unfolding within blankWidth blank1 blank2 blank3 foreign digit letter hexDigit intChar floatChar identNext run run2 hexOf turnOf digitsFrom runOf startsWith identOf firstOf foreignAhead limitAt firstFit widthAt suffixWord suffixOf signOf prefixOf frontOf numeralOf anyOf floatGoes stepOf accepts wellTo stripped judgedOf runAt floatOf floatAhead numberOf
+unfolding within digit letter hexDigit intChar floatChar asciiNext identNext nextAhead charIf charLen codeOf codeOf4 widthOf behindThree behindFour secondByte xidContinue inRows table run run2 hexOf turnOf digitsFrom runOf startsWith identOf firstOf limitAt firstFit widthAt suffixWord suffixOf signOf prefixOf frontOf numeralOf anyOf floatGoes stepOf accepts wellTo stripped judgedOf runAt floatOf floatAhead numberOf
 worked = refl

@@ -1,10 +1,10 @@
 -- Numbers (document 01, module 6): "A failed integer is tried as a float and taken if that reaches at least as far."
--- A token that begins with a digit, a sign or a point is a number; refusal 3 ends the reading wherever it is given.
+-- A token that begins with a digit, a sign or a point is a number.
 use Prim.Native.Nat.{ℕ}
 use mathlib.Core.List.{List}
 use mathlib.Core.Bool.{Bool, cond}
 use lib.ListN.{drop}
-use lib.Dec.{eqb, ltb, leb}
+use lib.Dec.{ltb, leb}
 use Rattle.text.specs.Classes.{intChar}
 use Rattle.text.specs.Runs.{run}
 use Rattle.text.specs.declared.refusal.Refusal.{Refusal}
@@ -32,18 +32,10 @@ abbrev pub ofFloat : AnyFloat → Number
 ofFloat (float.Read f) = Float f
 ofFloat (float.Refused r) = Refused r
 
--- 3: nothing is tried after it.
-abbrev pub isAsked : Refusal → Bool
-isAsked r = eqb (r .number) 3
-
--- A float is taken for an integer refused so where it reaches at least as far; else the integer's refusal stands, unless the float is refused with 3.
-abbrev pub rescued : Refusal → AnyFloat → Number
-rescued r (float.Read f) = cond (leb (r .place) (f .len)) (Float f) (Refused r)
-rescued r (float.Refused q) = cond (isAsked q) (Refused q) (Refused r)
-
--- An integer's refusal, or the float that stands for it.
+-- A float is taken for an integer refused so where it reaches at least as far; else the integer's refusal stands.
 abbrev pub orFloat : Refusal → AnyFloat → Number
-orFloat r f = cond (isAsked r) (Refused r) (rescued r f)
+orFloat r (float.Read f) = cond (leb (r .place) (f .len)) (Float f) (Refused r)
+orFloat r (float.Refused q) = Refused r
 
 -- An integer, or where it is refused what the float makes of it.
 abbrev pub orElse : AnyInteger → AnyFloat → Number

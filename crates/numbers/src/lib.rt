@@ -13,7 +13,7 @@ use integers::width::Width;
 use text::Refusal;
 ghost use mathlib.Core.Path.{_≡_};
 ghost use Rattle.floats.specs.Float.{floatOf};
-ghost use Rattle.numbers.specs.Numbers.{floatAhead, ofFloat, isAsked, orFloat, numberOf};
+ghost use Rattle.numbers.specs.Numbers.{floatAhead, ofFloat, orFloat, numberOf};
 
 // A number's case of the token: an integer's width and length, a float's span, or a refusal.
 pub enum Number {
@@ -46,20 +46,10 @@ fn of_float(f: AnyFloat) -> Number
     }
 }
 
-// 3: nothing is tried after it.
-fn is_asked(refusal: Refusal) -> bool
-    ensures { λ r. ⌜ r ≡ isAsked refusal ⌝ }
-{
-    refusal.number == 3
-}
-
 // A float is taken for a refused integer where it reaches at least as far.
 fn or_float(refusal: Refusal, s: &[u8]) -> Number
     ensures { λ r. ⌜ r ≡ orFloat refusal (floatOf (now (s .entry))) ⌝ }
 {
-    if is_asked(refusal) {
-        return Number::Refused(refusal);
-    }
     let f = float(s);
     match f {
         AnyFloat::Read(span) => {
@@ -68,12 +58,7 @@ fn or_float(refusal: Refusal, s: &[u8]) -> Number
             }
             Number::Refused(refusal)
         }
-        AnyFloat::Refused(other) => {
-            if is_asked(other) {
-                return Number::Refused(other);
-            }
-            Number::Refused(refusal)
-        }
+        AnyFloat::Refused(_) => Number::Refused(refusal),
     }
 }
 

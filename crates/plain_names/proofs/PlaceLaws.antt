@@ -13,24 +13,24 @@ use Rattle.text.proofs.Choices.{or-false}
 use Rattle.text.proofs.Lists.{head-at}
 use Rattle.text.proofs.RunLaws.{run-more}
 use Rattle.text.proofs.WordLaws.{starts-other}
-use Rattle.text.specs.Classes.{identFirst, identNext}
+use Rattle.text.specs.Classes.{asciiFirst, asciiNext}
 use Rattle.text.specs.Runs.{run}
 use Rattle.text.specs.Words.{startsWith}
 use Rattle.plain_names.specs.PlainNames.{plainName}
 use Rattle.plain_names.proofs.NameRuns.{first-next}
 
 -- where no first character of a name stands
-pub not-first : (s : List ℕ) (at : ℕ) → identFirst (getD s at 0) ≡ false → plainName (drop at s) ≡ 0
+pub not-first : (s : List ℕ) (at : ℕ) → asciiFirst (getD s at 0) ≡ false → plainName (drop at s) ≡ 0
 unfolding plainName
 not-first s at isn = rw (head-at s at, isn)
 
 -- and where one does, by the end of the run behind it
-pub from-first : (s : List ℕ) (at end : ℕ) → at < length s → identFirst (getD s at 0) ≡ true → end ≡ at + 1 + run identNext (drop (at + 1) s)
+pub from-first : (s : List ℕ) (at end : ℕ) → at < length s → asciiFirst (getD s at 0) ≡ true → end ≡ at + 1 + run asciiNext (drop (at + 1) s)
     → plainName (drop at s) ≡ cond (quietByte (getD s end 0) && not (beginsFloat (drop at s))) (end - at) 0
 unfolding plainName
 from-first s at end h is e =
-    let n : ℕ = run identNext (drop at s) in
-    let l : at + n ≡ end = omega (arith, run-more identNext s at h (first-next (getD s at 0) is)) in
+    let n : ℕ = run asciiNext (drop at s) in
+    let l : at + n ≡ end = omega (arith, run-more asciiNext s at h (first-next (getD s at 0) is)) in
     let q : getD (drop at s) n 0 ≡ getD s end 0 = getD-drop at s n 0 ∙ ap (λ (k : ℕ). getD s k 0) l in
     rw (head-at s at, is, q) (ap (λ (k : ℕ). cond (quietByte (getD s end 0) && not (beginsFloat (drop at s))) k 0) (omega arith))
 

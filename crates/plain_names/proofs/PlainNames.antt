@@ -10,17 +10,17 @@ use lib.ListN.{getD, length, drop}
 use lib.Seq.{getD-drop}
 use borrow.Author.Tests.{ltb-true, lt-ltb, le-ltb, lt-leb, ne-eqb, not-true}
 use Rattle.text.proofs.Choices.{and-false, and-true, either, lt-or-le, chosen, cond-same}
-use Rattle.text.proofs.ClassLaws.{above, below, blank-ascii}
+use Rattle.text.proofs.ClassLaws.{above, below, blank-ascii, first-ascii}
 use Rattle.text.proofs.Lists.{head-at}
 use Rattle.text.proofs.RunLaws.{run-le, run-more, run-holds}
 use Rattle.text.proofs.WordLaws.{starts-three, starts-two}
-use Rattle.text.specs.Classes.{blank1, blankWidth, digit, foreign, identFirst, identNext, letter, within, foreignAhead}
+use Rattle.text.specs.Classes.{asciiFirst, asciiNext, blank1, blankWidth, digit, identFirst, letter, within}
 use Rattle.text.specs.Runs.{run}
 use Rattle.text.specs.Words.{startsWith}
 use Rattle.comments.proofs.GapFronts.{clear-front, clearByte}
 use Rattle.comments.specs.Gaps.{gapOf}
 use Rattle.comments.specs.declared.gap.Gap.the-variants.{Clear}
-use Rattle.names.proofs.CharLaws.{char-ascii}
+use Rattle.text.proofs.AheadLaws.{char-ascii}
 use Rattle.names.specs.Characters.{charIf}
 use Rattle.names.specs.Classify.{beginsFloat, byIdentifier, named, wordOf}
 use Rattle.names.specs.Identifiers.{nameLen, plainOf, skipIdentifierOf}
@@ -40,42 +40,42 @@ use Rattle.tokens.specs.Token.{byShape, ofWord, tokenOf}
 use Rattle.tokens.specs.declared.shape.Shape.{Shape}
 use Rattle.tokens.specs.declared.shape.Shape.the-variants.{ByteStr, Word}
 use Rattle.plain_names.specs.PlainNames.{plainName}
-use Rattle.plain_names.proofs.NameRuns.{chars-run, first-next, next-ascii, unequal}
+use Rattle.plain_names.proofs.NameRuns.{below-80, chars-run, first-next, unequal}
 
 -- ---- the first byte of a name begins no gap, no mark and no number
 
-low : (a : ℕ) → identFirst a ≡ true → 0x41 ≤ a
-unfolding identFirst letter
+low : (a : ℕ) → asciiFirst a ≡ true → 0x41 ≤ a
+unfolding asciiFirst letter
 low a is =
     either (lt-or-le a 0x41)
-    (λ h. let e : identFirst a ≡ false = rw (below 0x41 0x5a a (omega arith), below 0x61 0x7a a (omega arith), ne-eqb a 0x5f (λ e. omega arith)) in
+    (λ h. let e : asciiFirst a ≡ false = rw (below 0x41 0x5a a (omega arith), below 0x61 0x7a a (omega arith), ne-eqb a 0x5f (λ e. omega arith)) in
     let z : _≡_ {A = Bool} true false = sym is ∙ e in
     let y : _≡_ {A = ℕ} 0 1 = cc in
     absurd (omega arith))
     (λ h. h)
 
-module _ (a : ℕ) (is : identFirst a ≡ true) where
-  first-ascii : a < 0x80
-  first-ascii = next-ascii a (first-next a is)
+module _ (a : ℕ) (is : asciiFirst a ≡ true) where
+  under-80 : a < 0x80
+  under-80 = below-80 a (first-next a is)
 
   first-clear : clearByte a ≡ true
   unfolding blank1
   first-clear =
       let l = low a is in
-      rw (lt-ltb a 0x80 first-ascii, above 0x09 0x0d a (omega arith), ne-eqb a 0x20 (λ e. omega arith), ne-eqb a 0x2f (λ e. omega arith))
+      rw (lt-ltb a 0x80 under-80, above 0x09 0x0d a (omega arith), ne-eqb a 0x20 (λ e. omega arith), ne-eqb a 0x2f (λ e. omega arith))
 
   no-mark : markKind a ≡ 0
-  unfolding markKind identFirst letter within
+  unfolding markKind asciiFirst letter within
   no-mark =
       simp (
-        unequal identFirst a 0x28 is refl,
-        unequal identFirst a 0x29 is refl,
-        unequal identFirst a 0x5b is refl,
-        unequal identFirst a 0x5d is refl,
-        unequal identFirst a 0x7b is refl,
-        unequal identFirst a 0x7d is refl,
-        unequal identFirst a 0x2c is refl,
-        unequal identFirst a 0x3a is refl,
+        unequal asciiFirst a 0x28 is refl,
+        unequal asciiFirst a 0x29 is refl,
+        unequal asciiFirst a 0x5b is refl,
+        unequal asciiFirst a 0x5d is refl,
+        unequal asciiFirst a 0x7b is refl,
+        unequal asciiFirst a 0x7d is refl,
+        unequal asciiFirst a 0x2c is refl,
+        unequal asciiFirst a 0x3a is refl,
       )
 
   no-number : startsNumber a ≡ false
@@ -92,25 +92,25 @@ module _ (a : ℕ) (is : identFirst a ≡ true) where
       rw (no-mark, ne-eqb a 0x23 (λ e. omega arith), ne-eqb a 0x22 (λ e. omega arith), ne-eqb a 0x27 (λ e. omega arith), eb, er, no-number)
       (rw (cond-same (eqb a 0x72) Word) (cond-same (eqb a 0x62) Word))
 
-gap-first : (s : List ℕ) → 0 < length s → identFirst (getD s 0 0) ≡ true → gapOf s ≡ Clear 0
+gap-first : (s : List ℕ) → 0 < length s → asciiFirst (getD s 0 0) ≡ true → gapOf s ≡ Clear 0
 gap-first s h is = clear-front s h (first-clear (getD s 0 0) is)
 
 -- ---- what the definition says
 
 pub record Found (s : List ℕ) : Type 0 where
-  pub some : 0 < run identNext s
-  pub len-is : plainName s ≡ run identNext s
-  pub first : identFirst (getD s 0 0) ≡ true
-  pub quiet : quietByte (getD s (run identNext s) 0) ≡ true
+  pub some : 0 < run asciiNext s
+  pub len-is : plainName s ≡ run asciiNext s
+  pub first : asciiFirst (getD s 0 0) ≡ true
+  pub quiet : quietByte (getD s (run asciiNext s) 0) ≡ true
   pub no-float : beginsFloat s ≡ false
 
 pub found : (s : List ℕ) → 0 < plainName s → Found s
 unfolding plainName
 found s h =
-    let first : Bool = identFirst (getD s 0 0) in
-    let quiet : Bool = quietByte (getD s (run identNext s) 0) in
+    let first : Bool = asciiFirst (getD s 0 0) in
+    let quiet : Bool = quietByte (getD s (run asciiNext s) 0) in
     let float : Bool = beginsFloat s in
-    let all = chosen (first && (quiet && not float)) (run identNext s) h in
+    let all = chosen (first && (quiet && not float)) (run asciiNext s) h in
     let here = and-true first (quiet && not float) (all .0) in
     let behind = and-true quiet (not float) (here .1) in
     record {
@@ -124,28 +124,28 @@ found s h =
 module _ (s : List ℕ) (f : Found s) where
   -- ---- no quote and no `#` stands in the name or behind it
   abbrev len : ℕ
-  len = run identNext s
+  len = run asciiNext s
 
-  apart : (w k : ℕ) → identNext w ≡ false → quietByte w ≡ false → k ≤ len → eqb (getD s k 0) w ≡ false
+  apart : (w k : ℕ) → asciiNext w ≡ false → quietByte w ≡ false → k ≤ len → eqb (getD s k 0) w ≡ false
   apart w k i q h =
       either (lt-or-le k len)
-      (λ l. unequal identNext (getD s k 0) w (run-holds identNext s k l) i)
+      (λ l. unequal asciiNext (getD s k 0) w (run-holds asciiNext s k l) i)
       (λ l. let e : k ≡ len = omega arith in unequal quietByte (getD s k 0) w (ap (λ (j : ℕ). quietByte (getD s j 0)) e ∙ f .quiet) q)
 
   no-tick : eqb (getD s 1 0) 0x27 ≡ false
-  unfolding identNext letter digit within quietByte
+  unfolding asciiNext letter digit within quietByte
   no-tick = apart 0x27 1 refl refl (f .some)
 
   no-quote : eqb (getD s 1 0) 0x22 ≡ false
-  unfolding identNext letter digit within quietByte
+  unfolding asciiNext letter digit within quietByte
   no-quote = apart 0x22 1 refl refl (f .some)
 
   no-hash : eqb (getD s 1 0) 0x23 ≡ false
-  unfolding identNext letter digit within quietByte
+  unfolding asciiNext letter digit within quietByte
   no-hash = apart 0x23 1 refl refl (f .some)
 
   -- nor behind a second byte `r`
-  behind-r : (w : ℕ) → identNext w ≡ false → quietByte w ≡ false → (eqb (getD s 1 0) 0x72 && eqb (getD s 2 0) w) ≡ false
+  behind-r : (w : ℕ) → asciiNext w ≡ false → quietByte w ≡ false → (eqb (getD s 1 0) 0x72 && eqb (getD s 2 0) w) ≡ false
   unfolding quietByte
   behind-r w i q =
       either (lt-or-le 1 len)
@@ -153,11 +153,11 @@ module _ (s : List ℕ) (f : Found s) where
       (λ l. let e : 1 ≡ len = omega (arith, f .some) in rw (unequal quietByte (getD s 1 0) 0x72 (ap (λ (j : ℕ). quietByte (getD s j 0)) e ∙ f .quiet) refl))
 
   no-r-quote : (eqb (getD s 1 0) 0x72 && eqb (getD s 2 0) 0x22) ≡ false
-  unfolding identNext letter digit within quietByte
+  unfolding asciiNext letter digit within quietByte
   no-r-quote = behind-r 0x22 refl refl
 
   no-r-hash : (eqb (getD s 1 0) 0x72 && eqb (getD s 2 0) 0x23) ≡ false
-  unfolding identNext letter digit within quietByte
+  unfolding asciiNext letter digit within quietByte
   no-r-hash = behind-r 0x23 refl refl
 
   -- ---- so it is no string and no raw name
@@ -197,29 +197,25 @@ module _ (s : List ℕ) (f : Found s) where
   quiet-ascii = ltb-true (getD s len 0) 0x80 (quiet-all (λ (b : ℕ). ltb b 0x80) (getD s len 0) refl (f .quiet))
 
   holds-one : 0 < length s
-  holds-one = omega (arith, f .some, run-le identNext s)
+  holds-one = omega (arith, f .some, run-le asciiNext s)
 
-  rest-is : len ≡ 1 + run identNext (drop 1 s)
-  rest-is = run-more identNext s 0 holds-one (first-next (getD s 0 0) (f .first))
+  rest-is : len ≡ 1 + run asciiNext (drop 1 s)
+  rest-is = run-more asciiNext s 0 holds-one (first-next (getD s 0 0) (f .first))
 
-  rest-ascii : getD (drop 1 s) (run identNext (drop 1 s)) 0 < 0x80
+  rest-ascii : getD (drop 1 s) (run asciiNext (drop 1 s)) 0 < 0x80
   rest-ascii =
-      let e : getD (drop 1 s) (run identNext (drop 1 s)) 0 ≡ getD s len 0 = getD-drop 1 s (run identNext (drop 1 s)) 0 ∙ ap (λ (k : ℕ). getD s k 0) (sym rest-is) in
+      let e : getD (drop 1 s) (run asciiNext (drop 1 s)) 0 ≡ getD s len 0 = getD-drop 1 s (run asciiNext (drop 1 s)) 0 ∙ ap (λ (k : ℕ). getD s k 0) (sym rest-is) in
       omega (arith, e, quiet-ascii)
 
   name-len : nameLen s ≡ len
   unfolding nameLen
   name-len =
-      let one : charIf identFirst s ≡ 1 = char-ascii identFirst s holds-one (first-ascii (getD s 0 0) (f .first)) ∙ ap (λ (t : Bool). cond t 1 0) (f .first) in
+      let one : charIf identFirst s ≡ 1 = char-ascii identFirst s holds-one (under-80 (getD s 0 0) (f .first)) ∙ ap (λ (t : Bool). cond t 1 0) (first-ascii (getD s 0 0) (under-80 (getD s 0 0) (f .first)) ∙ f .first) in
       rw one (ap (λ (n : ℕ). 1 + n) (chars-run (drop 1 s) rest-ascii) ∙ sym rest-is)
-
-  not-asked : foreignAhead (drop len s) ≡ false
-  unfolding foreignAhead foreign
-  not-asked = rw (head-at s len, lt-leb 0x80 (getD s len 0) quiet-ascii)
 
   name-is : skipIdentifierOf s ≡ Name len
   unfolding skipIdentifierOf plainOf
-  name-is = rw (no-string, no-raw, name-len, not-asked, ne-eqb len 0 (λ e. omega (arith, f .some)))
+  name-is = rw (no-string, no-raw, name-len, ne-eqb len 0 (λ e. omega (arith, f .some)))
 
   word-is : wordOf s ≡ Plain len
   unfolding wordOf named

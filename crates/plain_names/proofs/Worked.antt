@@ -3,7 +3,7 @@ use mathlib.Core.List.{[], _∷_}
 use mathlib.Core.Path.{_≡_, refl}
 use Rattle.names.specs.Classify.{beginsFloat}
 use Rattle.reading.specs.Owed.{quietByte}
-use Rattle.text.specs.Classes.{digit, identFirst, identNext, letter, within}
+use Rattle.text.specs.Classes.{digit, asciiFirst, asciiNext, letter, within}
 use Rattle.text.specs.Runs.{run}
 use Rattle.text.specs.Words.{startsWith}
 use Rattle.plain_names.specs.PlainNames.{plainName}
@@ -13,7 +13,7 @@ plain : (plainName (0x69 ∷ 0x64 ∷ 0x3a ∷ []) ≡ 2)
     × (plainName (0x5f ∷ 0x31 ∷ 0x2c ∷ []) ≡ 2)
     × (plainName (0x72 ∷ 0x28 ∷ []) ≡ 1)
     × (plainName (0x4e ∷ 0x61 ∷ 0x20 ∷ []) ≡ 2)
-unfolding plainName run identFirst identNext letter digit within quietByte beginsFloat startsWith
+unfolding plainName run asciiFirst asciiNext letter digit within quietByte beginsFloat startsWith
 plain = (refl, refl, refl, refl)
 
 -- `a`, `a.b,`, `1a,`, `inf,`, `NaNs,`, `b"`, `r#a,`: left to the token reader
@@ -24,5 +24,5 @@ not-plain : (plainName (0x61 ∷ []) ≡ 0)
     × (plainName (0x4e ∷ 0x61 ∷ 0x4e ∷ 0x73 ∷ 0x2c ∷ []) ≡ 0)
     × (plainName (0x62 ∷ 0x22 ∷ []) ≡ 0)
     × (plainName (0x72 ∷ 0x23 ∷ 0x61 ∷ 0x2c ∷ []) ≡ 0)
-unfolding plainName run identFirst identNext letter digit within quietByte beginsFloat startsWith
+unfolding plainName run asciiFirst asciiNext letter digit within quietByte beginsFloat startsWith
 not-plain = (refl, refl, refl, refl, refl, refl, refl)

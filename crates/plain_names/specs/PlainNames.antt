@@ -6,10 +6,10 @@ use mathlib.Core.List.{List}
 use lib.ListN.{getD}
 use Rattle.names.specs.Classify.{beginsFloat}
 use Rattle.reading.specs.Owed.{quietByte}
-use Rattle.text.specs.Classes.{identFirst, identNext}
+use Rattle.text.specs.Classes.{asciiFirst, asciiNext}
 use Rattle.text.specs.Runs.{run}
 
 -- The length of the plain name at the front: ASCII letters, digits and `_` with a quiet byte behind them, the first no digit, that do not begin with `inf` or `NaN`;
 -- 0 where there is none.
 unfoldable pub plainName : List ℕ → ℕ
-plainName s = let n = run identNext s in cond (identFirst (getD s 0 0) && (quietByte (getD s n 0) && not (beginsFloat s))) n 0
+plainName s = let n = run asciiNext s in cond (asciiFirst (getD s 0 0) && (quietByte (getD s n 0) && not (beginsFloat s))) n 0

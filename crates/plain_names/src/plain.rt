@@ -1,24 +1,24 @@
 // Plain names at a place of the text.
 use names::starts::starts_with3;
 use quiet::bytes::is_quiet;
-use text::classes::is_ident_first_char;
-use text::classes::is_ident_next_char;
+use text::classes::is_ascii_first;
+use text::classes::is_ascii_next;
 ghost use mathlib.Core.Path.{_≡_};
 ghost use Prim.Native.Nat.{_+_, _<_, _≤_};
 ghost use lib.ListN.{drop, length};
 ghost use Rattle.names.specs.Classify.{beginsFloat};
 ghost use Rattle.plain_names.specs.PlainNames.{plainName};
-ghost use Rattle.text.specs.Classes.{identNext};
+ghost use Rattle.text.specs.Classes.{asciiNext};
 ghost use Rattle.text.specs.Runs.{run};
 
 // The end of the letters, digits and `_` from `at` on.
 fn name_end(text: &[u8], at: usize) -> usize
     requires { ⌜ at ≤ length (now text) ⌝ }
-    ensures { λ r. ⌜ r ≡ at + run identNext (drop at (now (text .entry))) ⌝ }
+    ensures { λ r. ⌜ r ≡ at + run asciiNext (drop at (now (text .entry))) ⌝ }
 {
     let mut i = at;
     while i < text.len() {
-        if !is_ident_next_char(text[i] as u32) {
+        if !is_ascii_next(text[i] as u32) {
             return i;
         }
         i += 1;
@@ -45,7 +45,7 @@ pub fn plain_name(text: &[u8], at: usize) -> usize
     requires { ⌜ at < length (now text) ⌝ }
     ensures { λ r. ⌜ r ≡ plainName (drop at (now (text .entry))) ⌝ }
 {
-    if !is_ident_first_char(text[at] as u32) {
+    if !is_ascii_first(text[at] as u32) {
         return 0;
     }
     let end = name_end(text, at + 1);

@@ -225,7 +225,7 @@ module _ (s : List ℕ) (some : 0 < run digit (drop (signOf s .end) s)) (frac : 
       let fine : Fine ≡ judgedOf (take m s) = clean-fine (take m s) (rw em (text .1)) (rw em (text .0)) in
       let behind : quietByte (getD (drop m s) 0 0) ≡ true = ap quietByte (head-at s m ∙ ap (λ (k : ℕ). getD s k 0) em ∙ sym (getD-drop e s (n + f) 0)) ∙ whole-quiet t f some is in
       ap (λ (k : ℕ). Read (record { len = k; suffix = 0 })) (sym (add-zero m))
-      ∙ run-judged s m Fine nothingFound false long (λ z. omega arith) fine (no-float-suffix (drop m s) (quiet-not _ behind 0x66 loud)) refl
+      ∙ run-judged s m Fine nothingFound long (λ z. omega arith) fine (no-float-suffix (drop m s) (quiet-not _ behind 0x66 loud))
 
   ahead : floatAhead s ≡ true
   ahead =

@@ -140,9 +140,9 @@ module _ (s : List ℕ) where
       let code : ℕ = suffixIn s .code in
       let r = any-read minus (frontOf s .end) (numeralOf (widest minus) minus base (unprefixed s)) w len (behind-end w len h) in
       let n = numeral-read (widest minus) minus base (unprefixed s) (r .value) (r .code) (r .to) (r .numeral-is) in
-      let q = run-at code (r .value) (suffix-known (behindDigits s)) (n .1 .run-is) in
-      let is : widthFor code minus (r .value) ≡ w = ap (λ (c : ℕ). widthFor c minus (r .value)) (n .1 .code-is) ∙ r .width-is in (
-        is-written w s (r .value) (subst (λ (x : Width). (code ≡ 0) ⊎ (code ≡ codeOf x)) is (q .0)) (n .0)
+      let q = run-at code (r .value) (suffix-known (behindDigits s)) (n .run-is) in
+      let is : widthFor code minus (r .value) ≡ w = ap (λ (c : ℕ). widthFor c minus (r .value)) (n .code-is) ∙ r .width-is in (
+        is-written w s (r .value) (subst (λ (x : Width). (code ≡ 0) ⊎ (code ≡ codeOf x)) is (q .0))
             (subst (λ (x : Width). runOf (limitAt (chosenOf code (codeOf x)) minus) base (digitsIn s) ≡ Value (r .value)) is (q .1)) .0,
-        sym (r .len-is) ∙ ap (λ (k : ℕ). frontOf s .end + k) (sym (n .1 .end-is)),
+        sym (r .len-is) ∙ ap (λ (k : ℕ). frontOf s .end + k) (sym (n .end-is)),
       )

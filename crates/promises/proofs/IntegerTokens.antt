@@ -20,7 +20,7 @@ use Rattle.integers.specs.declared.integer.Integer.the-variants as integer
 use Rattle.integers.specs.declared.integer.Value.{Value}
 use Rattle.integers.specs.declared.width.Width.{Width}
 use Rattle.integers.specs.declared.width.Width.the-variants.{U8}
-use Rattle.numbers.specs.Numbers.{floatAhead, isAsked, numberOf, ofFloat, orElse, orFloat}
+use Rattle.numbers.specs.Numbers.{floatAhead, numberOf, ofFloat, orElse, orFloat}
 use Rattle.numbers.specs.declared.Number.{Number}
 use Rattle.numbers.specs.declared.Number.the-variants as number
 use Rattle.strings.specs.Chars.{byteOf}
@@ -46,11 +46,8 @@ of-integer w n (any.Refused r) f h = absurd (no-float f h)
   where
     no-float : (x : AnyFloat) → orFloat r x ≡ number.Int w n → ⊥
     no-float (float.Read g) =
-        cond-cases (λ (y : Number). y ≡ number.Int w n → ⊥) (isAsked r) _ _ (λ p q. (let z : _≡_ {A = ℕ} 0 1 = cc in omega arith))
-        (λ p. cond-cases (λ (y : Number). y ≡ number.Int w n → ⊥) (leb (r .place) (g .len)) _ _ (λ s q. (let z : _≡_ {A = ℕ} 0 1 = cc in omega arith)) (λ s q. (let z : _≡_ {A = ℕ} 0 1 = cc in omega arith)))
-    no-float (float.Refused d) =
-        cond-cases (λ (y : Number). y ≡ number.Int w n → ⊥) (isAsked r) _ _ (λ p q. (let z : _≡_ {A = ℕ} 0 1 = cc in omega arith))
-        (λ p. cond-cases (λ (y : Number). y ≡ number.Int w n → ⊥) (isAsked d) _ _ (λ s q. (let z : _≡_ {A = ℕ} 0 1 = cc in omega arith)) (λ s q. (let z : _≡_ {A = ℕ} 0 1 = cc in omega arith)))
+        cond-cases (λ (y : Number). y ≡ number.Int w n → ⊥) (leb (r .place) (g .len)) _ _ (λ s q. (let z : _≡_ {A = ℕ} 0 1 = cc in omega arith)) (λ s q. (let z : _≡_ {A = ℕ} 0 1 = cc in omega arith))
+    no-float (float.Refused d) = λ q. (let z : _≡_ {A = ℕ} 0 1 = cc in omega arith)
 
 not-float : (w : Width) (n : ℕ) (f : AnyFloat) → ofFloat f ≡ number.Int w n → ⊥
 not-float w n (float.Read g) h = let z : _≡_ {A = ℕ} 0 1 = cc in omega arith

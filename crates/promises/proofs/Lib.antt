@@ -8,4 +8,5 @@ pub mod IntegerTokens
 pub mod TokenKinds
 pub mod Decodable
 pub mod Retyped
+pub mod WideNames
 pub mod Promises

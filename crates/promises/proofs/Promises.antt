@@ -1,13 +1,13 @@
 -- What is promised. Each line is a theorem's statement; its proof only says where it is proved. What the calls promise themselves stands in their contracts,
 -- crates/sarridok/src: the answer, told in the paper's words, is what a definition says of the arguments, and so is each lent slice afterwards; none has a
 -- `requires`. Assumes nothing.
-use Prim.Native.Nat.{ℕ, _<_, _≤_}
+use Prim.Native.Nat.{ℕ, suc, _+_, _<_, _≤_}
 use mathlib.Core.Bool.{Bool, true, false}
 use mathlib.Core.List.{List, _++_}
 use mathlib.Core.Logic.{_↔_}
 use mathlib.Core.Path.{_≡_, ap, refl}
 use lib.ListN.{length, take, drop}
-use Rattle.text.specs.Refusals.{Told, accepted, noRoom, refused}
+use Rattle.text.specs.Refusals.{Told, accepted, noRoom, refused, unexpectedChar}
 use Rattle.text.specs.declared.refusal.Refusal.{Refusal}
 use Rattle.text.specs.Judged.{behindJudged, judgedOf, placeFits}
 use Rattle.text.specs.declared.judge.Judged.{Judged}
@@ -15,6 +15,17 @@ use Rattle.text.specs.declared.judge.Judged.the-variants.{Fit, Refused as NotFi
 use Rattle.text.specs.Utf8.{Encoded, Scalar, encode, utf8Of}
 use Rattle.text.specs.declared.utf8.Utf8Answer.the-variants.{Good, BadAt}
 use Rattle.text.proofs.Utf8Agree.{good-encoded, encoded-good, bad-means, means-bad}
+use Rattle.xid.specs.Table.{table}
+use Rattle.xid.specs.Rows.{Lies, Row, classAt, firstAt, lastAt}
+use Rattle.xid.specs.Xid.{continues, starts, xidContinue, xidStart}
+use Rattle.xid.proofs.TableLaws.{continue-lies, lies-continue, lies-start, start-continues, start-lies, table-apart, table-ranges, table-widest}
+use Rattle.comments.specs.Gaps.{gapOf}
+use Rattle.comments.specs.declared.gap.Gap.the-variants.{Clear}
+use Rattle.names.specs.Identifiers.{nameLen, rawOf}
+use Rattle.names.specs.Names.{IsName, IsRawName}
+use Rattle.names.specs.Starts.{beginsRaw}
+use Rattle.names.specs.declared.Identifier.the-variants.{RawName}
+use Rattle.names.proofs.Agree.{name-agrees, raw-agrees}
 use Rattle.comments.specs.Blocks.{Body, blockEnd}
 use Rattle.comments.specs.declared.block.CommentEnd.the-variants.{Closed, Unclosed}
 use Rattle.comments.proofs.Nesting.{ends-body, body-ends, unclosed}
@@ -28,7 +39,8 @@ use Rattle.floats.specs.declared.state.State.the-variants.{Start}
 use Rattle.floats.proofs.Decides.{decides}
 use Rattle.reading.specs.Owed.{Laws, quietByte}
 use Rattle.reading.specs.Kept.{keptBehind}
-use Rattle.reading.specs.Readings.{counted, entries}
+use Rattle.reading.specs.Readings.{_▸_, counted, entries, entry as then, readFrom}
+use Rattle.rows.specs.declared.Entry.{Entry}
 use Rattle.rows.specs.Order.{inOrder}
 use Rattle.rows.specs.Rows.{entriesOf, entryAt}
 use Rattle.promises.specs.Strings.{Handed, IsString}
@@ -37,6 +49,7 @@ use Rattle.promises.proofs.Walkable.{read-walkable}
 use Rattle.promises.proofs.Decodable.{read-decoded, read-too-long, read-contents, repair-decoded}
 use Rattle.promises.proofs.IntegerWritten.{accepted-byte, accepted-written, written-accepted}
 use Rattle.promises.proofs.Retyped.{read-integer}
+use Rattle.promises.proofs.WideNames.{read-nothing, starts-name}
 use Rattle.tokens.specs.Ron.{ronToken}
 use Rattle.tokens.proofs.RonLaws.{laws}
 use Rattle.read.specs.Read.{readAnswer, readTape, readingOf, laidBy, toldRead}
@@ -177,6 +190,45 @@ walk-document = document-accepted
 
 pub walk-links : (tape : List ℕ) (count limit : ℕ) (out : List ℕ) → walkOf tape count limit (length out) ≡ accepted tt → Links tape count limit out
 walk-links = accepted-links
+
+-- ---- names (change request 5)
+
+-- The table's rows are ranges, sorted and apart: none shares a character with another, and none that touch are of one class.
+pub rows-range : (j : ℕ) → Row table j → firstAt table j ≤ lastAt table j
+rows-range = table-ranges
+
+pub rows-apart : (i j : ℕ) → i < j → Row table j → lastAt table i < firstAt table j
+rows-apart = table-apart
+
+pub rows-widest : (j : ℕ) → Row table (suc j) → firstAt table (suc j) ≡ suc (lastAt table j) → classAt table (suc j) ≡ classAt table j → ⊥
+rows-widest = table-widest
+
+-- Every start character is also a continue character.
+pub start-goes-on : (c : ℕ) → xidStart c ≡ true → xidContinue c ≡ true
+start-goes-on = start-continues
+
+-- The lookup equals membership: the code's tests answer `xidStart` and `xidContinue` (crates/xid/src/search.rt), and these hold exactly of what lies in a row of the class.
+pub start-member : (c : ℕ) → (xidStart c ≡ true) ↔ ((j : ℕ) × Lies starts table c j)
+start-member c = (start-lies c, λ w. lies-start c (w .0) (w .1))
+
+pub continue-member : (c : ℕ) → (xidContinue c ≡ true) ↔ ((j : ℕ) × Lies continues table c j)
+continue-member c = (continue-lies c, λ w. lies-continue c (w .0) (w .1))
+
+-- A name is `_` or a character of XID_Start, and as many of XID_Continue as stand behind it; a raw name likewise behind `r#`.
+pub name-written : (s : List ℕ) (n : ℕ) → 0 < n → (nameLen s ≡ n) ↔ IsName s n
+name-written = name-agrees
+
+pub raw-name-written : (s : List ℕ) (n : ℕ) → ((beginsRaw s ≡ true) × (rawOf s ≡ RawName n)) ↔ IsRawName s n
+raw-name-written = raw-agrees
+
+-- A character above U+007F, behind a gap, that starts a name is read as one; one that starts nothing is 5 at its place.
+pub name-read : (c : ℕ) (t : List ℕ) → Scalar c → 0x80 ≤ c → (text : List ℕ) (at g : ℕ) → gapOf (drop at text) ≡ Clear g → drop g (drop at text) ≡ encode c ++ t → xidStart c ≡ true
+    → (n : ℕ) × IsName (encode c ++ t) n × (readFrom ronToken text at ≡ then (record { kind = 9; start = at + g; end = at + (g + n); detail = 0 }) (readFrom ronToken text (at + (g + n))))
+name-read = starts-name
+
+pub nothing-read : (c : ℕ) (t : List ℕ) → Scalar c → 0x80 ≤ c → (text : List ℕ) (at g : ℕ) → gapOf (drop at text) ≡ Clear g → drop g (drop at text) ≡ encode c ++ t → (es : List Entry) (numbers : ℕ)
+    → judgedOf text ≡ Fit → readingOf text ≡ es ▸ readFrom ronToken text at → xidStart c ≡ false → readAnswer text numbers ≡ refused (unexpectedChar (at + g))
+nothing-read = read-nothing
 
 -- ---- demand 3: a repair is a fresh reading
 

@@ -12,7 +12,7 @@ use borrow.Author.Tests.{eq-eqb, eqb-true, ne-eqb, not-false}
 use Rattle.text.proofs.Choices.{bool-cases, either}
 use Rattle.text.proofs.RunLaws.{run-le}
 use Rattle.text.specs.Classes.{intChar}
-use Rattle.text.specs.Refusals.{accepted, eof, foreignChar}
+use Rattle.text.specs.Refusals.{accepted, eof}
 use Rattle.text.specs.Runs.{run}
 use Rattle.digits.specs.Digits.{runOf}
 use Rattle.digits.specs.declared.Run.{Run}
@@ -23,7 +23,6 @@ use Rattle.integers.specs.Front.{frontOf}
 use Rattle.integers.specs.Integer.{behindRun, chosenOf, numeralOf, otherSuffix, typedAs, typedOf, valueOf}
 use Rattle.integers.specs.Range.{Reads, signedOf}
 use Rattle.integers.specs.Width.{codeOf, limitAt, limitOf, suffixOf, widthAt}
-use Rattle.integers.specs.Words.{askedBehind}
 use Rattle.integers.specs.declared.ident.Found.{Found}
 use Rattle.integers.specs.declared.integer.Integer.the-variants as integer
 use Rattle.integers.specs.declared.integer.Numeral.{Numeral}
@@ -32,7 +31,7 @@ use Rattle.integers.specs.declared.integer.Value.{Value as Number}
 use Rattle.integers.specs.declared.width.Width.{Width}
 use Rattle.integers.specs.declared.width.Width.the-variants.{I8, I16, I32, I64, U8, U16, U32, U64}
 use Rattle.sarridok.specs.Typed.{numberOf}
-use Rattle.promises.specs.Written.{IsWritten, behindDigits, bitsOf, digitsIn, isSigned, magnitudeIn, suffixIn, unprefixed, written, writtenLen}
+use Rattle.promises.specs.Written.{IsWritten, bitsOf, digitsIn, isSigned, magnitudeIn, suffixIn, unprefixed, written, writtenLen}
 
 -- ---- widths and signs
 
@@ -105,16 +104,13 @@ by-run found end Over v code to h = let z : _≡_ {A = ℕ} 0 1 = cc in absurd (
 
 module _ (asked : ℕ) (minus : Bool) (base : ℕ) (t : List ℕ) where
   pub numeral-read : (v code to : ℕ) → numeralOf asked minus base t ≡ numeral.Read v code to
-      → (askedBehind (suffixOf (drop (run intChar t) t)) (drop (run intChar t) t) ≡ false)
-      × Read-numeral (suffixOf (drop (run intChar t) t) .code) (length (take (run intChar t) t) + suffixOf (drop (run intChar t) t) .end)
+      → Read-numeral (suffixOf (drop (run intChar t) t) .code) (length (take (run intChar t) t) + suffixOf (drop (run intChar t) t) .end)
       (runOf (limitAt (chosenOf (suffixOf (drop (run intChar t) t) .code) asked) minus) base (take (run intChar t) t)) v code to
   unfolding numeralOf
   numeral-read v code to h =
       let n : ℕ = run intChar t in
       let f : Found = suffixOf (drop n t) in
-      either (bool-cases (askedBehind f (drop n t)))
-      (λ p. let q : numeral.Refused (foreignChar (length (take n t) + f .end)) ≡ numeral.Read v code to = rw p at h in let z : _≡_ {A = ℕ} 0 1 = cc in absurd (omega arith))
-      (λ p. (p, by-run (f .code) (length (take n t) + f .end) (runOf (limitAt (chosenOf (f .code) asked) minus) base (take n t)) v code to (rw p at h)))
+      by-run (f .code) (length (take n t) + f .end) (runOf (limitAt (chosenOf (f .code) asked) minus) base (take n t)) v code to h
 
 -- ---- a typed read
 
@@ -151,15 +147,15 @@ module _ (width : Width) (s : List ℕ) where
   limit-is code own = ap (λ (c : ℕ). limitAt c (frontOf s .minus)) (suffix-own code (codeOf width) own .1) ∙ width-limit width (frontOf s .minus)
 
   -- a run that reads at the width, with its suffix
-  pub is-written : (v : ℕ) → (suffixIn s .code ≡ 0) ⊎ (suffixIn s .code ≡ codeOf width) → askedBehind (suffixIn s) (behindDigits s) ≡ false
+  pub is-written : (v : ℕ) → (suffixIn s .code ≡ 0) ⊎ (suffixIn s .code ≡ codeOf width)
       → runOf (limitAt (chosenOf (suffixIn s .code) (codeOf width)) (frontOf s .minus)) (frontOf s .base) (digitsIn s) ≡ Value v → IsWritten width s × (magnitudeIn s ≡ v)
-  is-written v own asked h =
+  is-written v own h =
       let minus : Bool = frontOf s .minus in
       let base : ℕ = frontOf s .base in
       let reads : Reads (isSigned width) (bitsOf width) minus base (digitsIn s) v =
       reads-exactly (isSigned width) (bitsOf width) minus base (front-base s .0) (digitsIn s) v .0
       (ap (λ (l : ℕ). runOf l base (digitsIn s)) (sym (limit-is (suffixIn s .code) own)) ∙ h) in
-      (record { digits = subst (Reads (isSigned width) (bitsOf width) minus base (digitsIn s)) (sym (reads .value)) reads; suffix = own; behind = asked }, reads .value)
+      (record { digits = subst (Reads (isSigned width) (bitsOf width) minus base (digitsIn s)) (sym (reads .value)) reads; suffix = own }, reads .value)
 
   -- what a typed read accepts is written
   pub typed-written : (number : Number) (len : ℕ) → typedOf width s ≡ integer.Read number len → IsWritten width s × (numberOf number ≡ written s) × (len ≡ writtenLen s)
@@ -168,11 +164,11 @@ module _ (width : Width) (s : List ℕ) where
       let minus : Bool = frontOf s .minus in
       let r = typed-read asked minus (frontOf s .end) (numeralOf asked minus (frontOf s .base) (unprefixed s)) number len (behind-end number len h) in
       let n = numeral-read asked minus (frontOf s .base) (unprefixed s) (r .value) (r .code) (r .to) (r .numeral-is) in
-      let own : (suffixIn s .code ≡ 0) ⊎ (suffixIn s .code ≡ asked) = subst (λ (c : ℕ). (c ≡ 0) ⊎ (c ≡ asked)) (sym (n .1 .code-is)) (r .own) in
-      let w = is-written (r .value) own (n .0) (n .1 .run-is) in (
+      let own : (suffixIn s .code ≡ 0) ⊎ (suffixIn s .code ≡ asked) = subst (λ (c : ℕ). (c ≡ 0) ⊎ (c ≡ asked)) (sym (n .code-is)) (r .own) in
+      let w = is-written (r .value) own (n .run-is) in (
         w .0,
         ap numberOf (sym (r .number-is)) ∙ number-signed minus (r .value) ∙ ap (signedOf minus) (sym (w .1)),
-        sym (r .len-is) ∙ ap (λ (k : ℕ). frontOf s .end + k) (sym (n .1 .end-is)),
+        sym (r .len-is) ∙ ap (λ (k : ℕ). frontOf s .end + k) (sym (n .end-is)),
       )
 
   some : IsWritten width s → length s ≡ 0 → ⊥
@@ -189,4 +185,4 @@ module _ (width : Width) (s : List ℕ) where
       let reads : runOf (limitAt (chosenOf (suffixIn s .code) (codeOf width)) minus) base (digitsIn s) ≡ Value (magnitudeIn s) =
       ap (λ (l : ℕ). runOf l base (digitsIn s)) (limit-is (suffixIn s .code) (w .suffix))
       ∙ reads-exactly (isSigned width) (bitsOf width) minus base (front-base s .0) (digitsIn s) (magnitudeIn s) .1 (w .digits) in
-      rw (ne-eqb (length s) 0 (some w), w .behind, reads, suffix-own (suffixIn s .code) (codeOf width) (w .suffix) .0)
+      rw (ne-eqb (length s) 0 (some w), reads, suffix-own (suffixIn s .code) (codeOf width) (w .suffix) .0)

@@ -3,7 +3,9 @@ use Prim.Native.Nat.{ℕ}
 use mathlib.Core.List.{List, [], _∷_}
 use mathlib.Core.Path.{_≡_, refl}
 use lib.IntN.{pos, negℤ}
-use Rattle.text.specs.Classes.{digit, hexDigit, identNext, intChar, letter, within}
+use Rattle.text.specs.Ahead.{charIf, nextAhead}
+use Rattle.text.specs.Utf8.{charLen, codeOf, codeOf4, widthOf}
+use Rattle.text.specs.Classes.{asciiNext, digit, hexDigit, identNext, intChar, letter, within}
 use Rattle.text.specs.Runs.{run}
 use Rattle.text.specs.Words.{startsWith}
 use Rattle.digits.specs.Digits.{hexOf}
@@ -26,13 +28,13 @@ decimal : List ℕ
 decimal = 0x2b ∷ 0x31 ∷ 0x5f ∷ 0x30 ∷ 0x30 ∷ 0x30 ∷ []
 
 hex-worked : (written hex ≡ negℤ (pos 16)) × (writtenLen hex ≡ 9)
-unfolding hex within digit letter hexDigit identNext intChar run hexOf valueFrom signOf prefixOf frontOf startsWith identOf firstOf suffixWord suffixOf
+unfolding hex within digit letter hexDigit asciiNext identNext nextAhead charIf charLen codeOf codeOf4 widthOf intChar run hexOf valueFrom signOf prefixOf frontOf startsWith identOf firstOf suffixWord suffixOf
 hex-worked = (refl, refl)
 
 binary-worked : (written binary ≡ pos 5) × (writtenLen binary ≡ 5)
-unfolding binary within digit letter hexDigit identNext intChar run hexOf valueFrom signOf prefixOf frontOf startsWith identOf firstOf suffixWord suffixOf
+unfolding binary within digit letter hexDigit asciiNext identNext nextAhead charIf charLen codeOf codeOf4 widthOf intChar run hexOf valueFrom signOf prefixOf frontOf startsWith identOf firstOf suffixWord suffixOf
 binary-worked = (refl, refl)
 
 decimal-worked : (written decimal ≡ pos 1000) × (writtenLen decimal ≡ 6)
-unfolding decimal within digit letter hexDigit identNext intChar run hexOf valueFrom signOf prefixOf frontOf startsWith identOf firstOf suffixWord suffixOf
+unfolding decimal within digit letter hexDigit asciiNext identNext nextAhead charIf charLen codeOf codeOf4 widthOf intChar run hexOf valueFrom signOf prefixOf frontOf startsWith identOf firstOf suffixWord suffixOf
 decimal-worked = (refl, refl)

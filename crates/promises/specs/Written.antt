@@ -14,7 +14,6 @@ use Rattle.digits.specs.Value.{valueOf}
 use Rattle.integers.specs.Front.{frontOf}
 use Rattle.integers.specs.Range.{InWidth, Reads, signedOf}
 use Rattle.integers.specs.Width.{codeOf, suffixOf}
-use Rattle.integers.specs.Words.{askedBehind}
 use Rattle.integers.specs.declared.ident.Found.{Found}
 use Rattle.integers.specs.declared.width.Width.{Width}
 use Rattle.integers.specs.declared.width.Width.the-variants.{I8, I16, I32, I64, U8, U16, U32, U64}
@@ -72,11 +71,10 @@ written s = signedOf (frontOf s .minus) (magnitudeIn s)
 abbrev pub writtenLen : List ℕ → ℕ
 writtenLen s = frontOf s .end + (length (digitsIn s) + suffixIn s .end)
 
--- A number of the width is written: its digits read and it fits, no other suffix stands behind it, and behind a suffix no character that 3 is given for.
+-- A number of the width is written: its digits read and it fits, and no other suffix stands behind it.
 pub record IsWritten (width : Width) (s : List ℕ) : Type 0 where
   pub digits : Reads (isSigned width) (bitsOf width) (frontOf s .minus) (frontOf s .base) (digitsIn s) (magnitudeIn s)
   pub suffix : (suffixIn s .code ≡ 0) ⊎ (suffixIn s .code ≡ codeOf width)
-  pub behind : askedBehind (suffixIn s) (behindDigits s) ≡ false
 
 -- The number that is answered for a part at a place: the one written there, a number of the width; the place behind it is behind its digits and its suffix.
 pub record AsWritten (width : Width) (s : List ℕ) (place : ℕ) (t : Typed) : Type 0 where

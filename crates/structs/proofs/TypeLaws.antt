@@ -30,13 +30,11 @@ abbrev pub NameFits : ℕ → ℕ → Identifier → Type 0
 NameFits size at name.Missing = Unit {0}
 NameFits size at (name.Name n) = at + n ≤ size
 NameFits size at (name.RawName n) = at + n ≤ size
-NameFits size at (name.Refused r) = at + r .place ≤ size
 
 name-by : (size at : ℕ) (s : List ℕ) (x : Identifier) → at + length s ≤ size → Named-within s x → NameFits size at x
 name-by size at s name.Missing h w = tt
 name-by size at s (name.Name n) h w = omega (arith, w .1)
 name-by size at s (name.RawName n) h w = omega (arith, w .1)
-name-by size at s (name.Refused r) h w = omega arith
 
 pub name-at : (s : List ℕ) (at : ℕ) (x : Identifier) → at ≤ length s → skipIdentifierOf (drop at s) ≡ x → NameFits (length s) at x
 name-at s at x h e = name-by (length s) at (drop at s) x (omega (arith, length-drop at s)) (subst (Named-within (drop at s)) e (skip-within (drop at s)))
@@ -70,7 +68,6 @@ module _ (s : List ℕ) where
   by-name tuple at name.Missing h f = undecided-within tuple at h
   by-name tuple at (name.Name n) h f = name-within tuple (at + n) f
   by-name tuple at (name.RawName n) h f = name-within tuple (at + n) f
-  by-name tuple at (name.Refused r) h f = f
 
   contents-within : (tuple : TupleMode) (at : ℕ) → at ≤ length s → Within (length s) (contentsOf tuple s at)
   unfolding contentsOf

@@ -43,12 +43,11 @@ decided tuple s i =
 unfoldable pub afterName : TupleMode → List ℕ → ℕ → StructAnswer
 afterName tuple s at = reached (pastGap s (passed.To at)) (decided tuple s)
 
--- What a name, raw or not, or its absence comes to; refusal 3 where the crate asks.
+-- What a name, raw or not, or its absence comes to.
 abbrev pub byName : Identifier → TupleMode → List ℕ → ℕ → StructAnswer
 byName name.Missing tuple s at = undecidedOf tuple s at
 byName (name.Name n) tuple s at = afterName tuple s (at + n)
 byName (name.RawName n) tuple s at = afterName tuple s (at + n)
-byName (name.Refused r) tuple s at = Refused (placedBehind at r)
 
 -- The contents, which begin at `at`.
 unfoldable pub contentsOf : TupleMode → List ℕ → ℕ → StructAnswer

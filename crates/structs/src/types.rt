@@ -11,7 +11,6 @@ use crate::scan::scan_value;
 use names::Identifier;
 use names::identifiers::skip_identifier;
 use text::bytes::peek;
-use text::refusal::placed_behind;
 ghost use mathlib.Core.Path.{_≡_};
 ghost use Prim.Native.Nat.{_≤_};
 ghost use lib.ListN.{length};
@@ -62,7 +61,6 @@ fn contents(s: &[u8], at: usize, tuple: TupleMode) -> StructAnswer
         Identifier::Missing => undecided(s, at, tuple),
         Identifier::Name(n) => behind_name(s, at + n, tuple),
         Identifier::RawName(n) => behind_name(s, at + n, tuple),
-        Identifier::Refused(refusal) => StructAnswer::Refused(placed_behind(refusal, at)),
     }
 }
 

@@ -6,30 +6,17 @@ use mathlib.Core.List.{List, [], _∷_}
 use mathlib.Core.Bool.{Bool, true, false, cond, _&&_, _||_}
 use lib.ListN.{length, getD}
 use lib.Dec.{leb, eqb, lit≤}
-use borrow.Author.Tests.{leb-true, le-leb, lt-leb, ne-eqb, eqb-true}
-use Rattle.text.specs.Classes.{within, blank1, blank2, blank3, blankWidth, digit, identNext, letter, oneOf}
+use borrow.Author.Tests.{leb-true, le-leb, lt-leb, lt-ltb, ne-eqb, eqb-true}
+use Rattle.text.specs.Classes.{within, blank1, blank2, blank3, blankWidth, digit, asciiFirst, asciiNext, asciiRaw, identFirst, identNext, identRaw, letter, oneOf}
 use Rattle.text.specs.Utf8.{In}
+pub use Rattle.xid.proofs.Ranges.{inside, below, above}
+use Rattle.xid.proofs.Ranges.{above-first, below-last}
 use Rattle.text.proofs.Choices.{cond-cases, and-false, and-true, bool-cases, either}
 
 -- ---- ranges
 
-pub inside : (lo hi x : ℕ) → lo ≤ x → x ≤ hi → within lo hi x ≡ true
-unfolding within
-inside lo hi x p q = simp (le-leb lo x p, le-leb x hi q)
-
-pub below : (lo hi x : ℕ) → x < lo → within lo hi x ≡ false
-unfolding within
-below lo hi x p = simp (lt-leb lo x p)
-
-pub above : (lo hi x : ℕ) → hi < x → within lo hi x ≡ false
-unfolding within
-above lo hi x p = rw (lt-leb x hi p) (and-false (leb lo x))
-
 pub within-true : (lo hi x : ℕ) → within lo hi x ≡ true → In lo hi x
-unfolding within
-within-true lo hi x e =
-    let p : (leb lo x ≡ true) × (leb x hi ≡ true) = and-true (leb lo x) (leb x hi) e in
-    (leb-true lo x (p .0), leb-true x hi (p .1))
+within-true lo hi x e = (above-first lo hi x e, below-last lo hi x e)
 
 pub in-within : (lo hi x : ℕ) → In lo hi x → within lo hi x ≡ true
 in-within lo hi x h = inside lo hi x (h .0) (h .1)
@@ -48,11 +35,23 @@ one-of-all p (a ∷ l) c h e =
     (λ is. ap p (eqb-true c a is) ∙ both .0)
     (λ isn. one-of-all p l c (both .1) (sym (ap (λ (t : Bool). t || oneOf l c) isn) ∙ e))
 
--- ---- the characters of a name are ASCII
+-- ---- the characters of a name up to U+007F
 
-pub next-wide : (c : ℕ) → 0x80 ≤ c → identNext c ≡ false
-unfolding identNext letter digit
-next-wide c h = rw (above 0x41 0x5a c (omega arith), above 0x61 0x7a c (omega arith), above 0x30 0x39 c (omega arith), ne-eqb c 0x5f (λ e. omega arith))
+pub ascii-wide : (c : ℕ) → 0x80 ≤ c → asciiNext c ≡ false
+unfolding asciiNext letter digit
+ascii-wide c h = rw (above 0x41 0x5a c (omega arith), above 0x61 0x7a c (omega arith), above 0x30 0x39 c (omega arith), ne-eqb c 0x5f (λ e. omega arith))
+
+pub first-ascii : (c : ℕ) → c < 0x80 → identFirst c ≡ asciiFirst c
+unfolding identFirst
+first-ascii c h = rw (lt-ltb c 0x80 h)
+
+pub next-ascii : (c : ℕ) → c < 0x80 → identNext c ≡ asciiNext c
+unfolding identNext
+next-ascii c h = rw (lt-ltb c 0x80 h)
+
+pub raw-ascii : (c : ℕ) → c < 0x80 → identRaw c ≡ asciiRaw c
+unfolding identRaw
+raw-ascii c h = rw (lt-ltb c 0x80 h)
 
 -- ---- whitespace by its first byte
 

@@ -1,6 +1,7 @@
 pub mod Lists
 pub mod Choices
 pub mod ClassLaws
+pub mod NameClasses
 pub mod RunLaws
 pub mod Stops
 pub mod WordLaws
@@ -10,3 +11,5 @@ pub mod Utf8Agree
 pub mod BlankLaws
 pub mod JudgeLaws
 pub mod Cuts
+pub mod CharFronts
+pub mod AheadLaws

@@ -8,7 +8,6 @@ use lib.Dec.{eqb, leb}
 use lib.ListN.{length, getD, drop, drop-of-length-le}
 use lib.Seq.{drop-cons}
 use borrow.Author.Tests.{eq-eqb, eqb-true, le-leb, lt-leb, ne-eqb}
-use Rattle.text.specs.Classes.{blank2, blank3, blankWidth, foreign, foreignAhead}
 use Rattle.text.specs.Words.{startsWith}
 use Rattle.text.proofs.Choices.{and-false, and-one, and-true, bool-cases, either}
 use Rattle.text.proofs.ClassLaws.{allOf}
@@ -98,16 +97,3 @@ module _ (p : ℕ → Bool) (c : ℕ) (out : p c ≡ false) where
   pub starts-past : (word : List ℕ) → allOf p word ≡ true → (u v : List ℕ) → length u < length word → startsWith word (u ++ c ∷ v) ≡ false
   starts-past word h u v l =
       either (bool-cases (startsWith word (u ++ c ∷ v))) (λ e. absurd (omega (arith, starts-short word h u v e))) (λ e. e)
-
--- ---- a foreign character is told from three bytes, none of them behind a byte up to U+007F
-
-module _ (c : ℕ) (low : c < 0x80) where
-  foreign-same : (u v v′ : List ℕ) → foreignAhead (u ++ c ∷ v) ≡ foreignAhead (u ++ c ∷ v′)
-  unfolding foreignAhead foreign blankWidth blank2 blank3
-  foreign-same [] v v′ = rw (lt-leb 0x80 c low)
-  foreign-same (x ∷ []) v v′ = rw (ne-eqb c 0x85 (λ e. omega arith), ne-eqb c 0x80 (λ e. omega arith))
-  foreign-same (x ∷ y ∷ []) v v′ = refl
-  foreign-same (x ∷ y ∷ z ∷ u) v v′ = refl
-
-  pub foreign-stopped : Stopped c foreignAhead
-  foreign-stopped = record { same = foreign-same }

@@ -5,12 +5,9 @@
 use Prim.Native.Nat.{ℕ}
 use mathlib.Core.List.{List, [], _∷_}
 use mathlib.Core.Bool.{Bool, false, cond, _&&_, _||_}
-use lib.ListN.{getD}
-use lib.Dec.{leb, eqb}
-
--- c is one of lo to hi.
-unfoldable pub within : ℕ → ℕ → ℕ → Bool
-within lo hi c = leb lo c && leb c hi
+use lib.Dec.{ltb, eqb}
+use Rattle.xid.specs.Xid.{xidStart, xidContinue}
+unfoldable pub use Rattle.xid.specs.Xid.{within}
 
 -- c is one of those listed.
 abbrev pub oneOf : List ℕ → ℕ → Bool
@@ -37,14 +34,6 @@ blank3 a b c = eqb a 0xe2 && (eqb b 0x80 && (within 0x8e 0x8f c || within 0xa8 0
 unfoldable pub blankWidth : ℕ → ℕ → ℕ → ℕ
 blankWidth a b c = cond (blank1 a) 1 (cond (blank2 a b) 2 (cond (blank3 a b c) 3 0))
 
--- Three bytes in a row begin with a character above U+007F that is not whitespace.
-unfoldable pub foreign : ℕ → ℕ → ℕ → Bool
-foreign a b c = leb 0x80 a && eqb (blankWidth a b c) 0
-
--- The character at the front is such a one; behind the end of the text stands none.
-unfoldable pub foreignAhead : List ℕ → Bool
-foreignAhead s = foreign (getD s 0 0) (getD s 1 0) (getD s 2 0)
-
 -- Digits.
 unfoldable pub digit : ℕ → Bool
 digit c = within 0x30 0x39 c
@@ -65,17 +54,27 @@ intChar c = hexDigit c || eqb c 0x5f
 unfoldable pub floatChar : ℕ → Bool
 floatChar c = digit c || oneOf (0x65 ∷ 0x45 ∷ 0x2e ∷ 0x2b ∷ 0x2d ∷ 0x5f ∷ []) c
 
--- A name's first character: a letter or `_`.
-unfoldable pub identFirst : ℕ → Bool
-identFirst c = letter c || eqb c 0x5f
+-- Characters of a name up to U+007F: first a letter or `_`, then letters, digits, `_`; a raw name's also `. + -`.
+unfoldable pub asciiFirst : ℕ → Bool
+asciiFirst c = letter c || eqb c 0x5f
 
--- A name's next characters: letters, digits, `_`.
+unfoldable pub asciiNext : ℕ → Bool
+asciiNext c = letter c || (digit c || eqb c 0x5f)
+
+unfoldable pub asciiRaw : ℕ → Bool
+asciiRaw c = oneOf (0x2e ∷ 0x2b ∷ 0x2d ∷ []) c || asciiNext c
+
+-- A name's first character: `_` or one of XID_Start (CR 5). That this is so up to U+007F too is proved (proofs/NameClasses.antt).
+unfoldable pub identFirst : ℕ → Bool
+identFirst c = cond (ltb c 0x80) (asciiFirst c) (xidStart c)
+
+-- A name's next characters: XID_Continue.
 unfoldable pub identNext : ℕ → Bool
-identNext c = letter c || (digit c || eqb c 0x5f)
+identNext c = cond (ltb c 0x80) (asciiNext c) (xidContinue c)
 
 -- A raw name's characters: also `. + -`.
 unfoldable pub identRaw : ℕ → Bool
-identRaw c = oneOf (0x2e ∷ 0x2b ∷ 0x2d ∷ []) c || identNext c
+identRaw c = cond (ltb c 0x80) (asciiRaw c) (xidContinue c)
 
 -- Continuation whitespace: space, tab, LF, CR.
 unfoldable pub continuationBlank : ℕ → Bool

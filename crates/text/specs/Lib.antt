@@ -4,3 +4,4 @@ pub mod Runs
 pub mod Words
 pub mod Utf8
 pub mod Judged
+pub mod Ahead

@@ -23,9 +23,7 @@ tooLong = refusal 1 0
 abbrev pub notUtf8 : ℕ → Refusal
 notUtf8 p = refusal 2 p
 
--- 3: a name's first or next character is asked for, and the one there is above U+007F and not whitespace; that character.
-abbrev pub foreignChar : ℕ → Refusal
-foreignChar p = refusal 3 p
+-- 3 was a character above U+007F where a name's is asked for. Since CR 5 it is no longer given, and the number stays reserved.
 
 -- 4: block comment not closed; end of text.
 abbrev pub unclosedBlockComment : ℕ → Refusal

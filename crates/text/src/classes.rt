@@ -1,8 +1,10 @@
 // Classes of characters, after the crate's functions of the same names.
-use crate::bytes::peek;
+use xid::search::is_xid_continue;
+use xid::search::is_xid_start;
 ghost use mathlib.Core.Path.{_≡_};
 ghost use Prim.Native.Nat.{_≤_};
-ghost use Rattle.text.specs.Classes.{within, blankWidth, foreign, foreignAhead, digit, letter, floatChar, identFirst, identNext, identRaw, continuationBlank};
+ghost use Rattle.xid.specs.Table.{table};
+ghost use Rattle.text.specs.Classes.{within, blankWidth, digit, letter, floatChar, asciiFirst, asciiNext, asciiRaw, identFirst, identNext, identRaw, continuationBlank};
 
 // One of lo to hi.
 pub fn is_within(lo: u8, hi: u8, b: u8) -> bool
@@ -59,27 +61,6 @@ fn wide_blank_width(a: u8, b: u8, c: u8) -> usize
     0
 }
 
-// Three bytes in a row begin with a character above U+007F that is not whitespace.
-pub fn is_foreign(a: u8, b: u8, c: u8) -> bool
-    ensures { λ r. ⌜ r ≡ foreign a b c ⌝ }
-{
-    if a < 0x80 {
-        return false;
-    }
-    blank_width(a, b, c) == 0
-}
-
-// The character at the front is such a one: its first byte decides nearly always.
-pub fn is_foreign_ahead(s: &[u8]) -> bool
-    ensures { λ r. ⌜ r ≡ foreignAhead (now (s .entry)) ⌝ }
-{
-    let a = peek(s, 0);
-    if a < 0x80 {
-        return false;
-    }
-    is_foreign(a, peek(s, 1), peek(s, 2))
-}
-
 pub fn is_digit(b: u8) -> bool
     ensures { λ r. ⌜ r ≡ digit b ⌝ }
 {
@@ -132,9 +113,8 @@ fn is_letter(c: u32) -> bool
     is_between(0x61, 0x7a, c)
 }
 
-// A name's first character, by its code point.
-pub fn is_ident_first_char(c: u32) -> bool
-    ensures { λ r. ⌜ r ≡ identFirst c ⌝ }
+pub fn is_ascii_first(c: u32) -> bool
+    ensures { λ r. ⌜ r ≡ asciiFirst c ⌝ }
 {
     if is_letter(c) {
         return true;
@@ -142,9 +122,8 @@ pub fn is_ident_first_char(c: u32) -> bool
     c == 0x5f
 }
 
-// A name's next characters.
-pub fn is_ident_next_char(c: u32) -> bool
-    ensures { λ r. ⌜ r ≡ identNext c ⌝ }
+pub fn is_ascii_next(c: u32) -> bool
+    ensures { λ r. ⌜ r ≡ asciiNext c ⌝ }
 {
     if is_letter(c) {
         return true;
@@ -155,9 +134,8 @@ pub fn is_ident_next_char(c: u32) -> bool
     c == 0x5f
 }
 
-// A raw name's characters.
-pub fn is_ident_raw_char(c: u32) -> bool
-    ensures { λ r. ⌜ r ≡ identRaw c ⌝ }
+pub fn is_ascii_raw(c: u32) -> bool
+    ensures { λ r. ⌜ r ≡ asciiRaw c ⌝ }
 {
     if c == 0x2e {
         return true;
@@ -168,7 +146,40 @@ pub fn is_ident_raw_char(c: u32) -> bool
     if c == 0x2d {
         return true;
     }
-    is_ident_next_char(c)
+    is_ascii_next(c)
+}
+
+// A name's first character, by its code point. The table is lent: whoever asks of many characters builds it once.
+pub fn is_ident_first_char(t: &[u32; 3234], c: u32) -> bool
+    requires { ⌜ now t ≡ table ⌝ }
+    ensures { λ r. ⌜ r ≡ identFirst c ⌝ }
+{
+    if c < 0x80 {
+        return is_ascii_first(c);
+    }
+    is_xid_start(t, c)
+}
+
+// A name's next characters.
+pub fn is_ident_next_char(t: &[u32; 3234], c: u32) -> bool
+    requires { ⌜ now t ≡ table ⌝ }
+    ensures { λ r. ⌜ r ≡ identNext c ⌝ }
+{
+    if c < 0x80 {
+        return is_ascii_next(c);
+    }
+    is_xid_continue(t, c)
+}
+
+// A raw name's characters.
+pub fn is_ident_raw_char(t: &[u32; 3234], c: u32) -> bool
+    requires { ⌜ now t ≡ table ⌝ }
+    ensures { λ r. ⌜ r ≡ identRaw c ⌝ }
+{
+    if c < 0x80 {
+        return is_ascii_raw(c);
+    }
+    is_xid_continue(t, c)
 }
 
 pub fn is_string_continuation_whitespace(b: u8) -> bool

@@ -1,7 +1,7 @@
-// The refusals of the paper, each made here and nowhere else: a name for every number, after the crate's errors where it has one.
+// The refusals of the paper, each made here and nowhere else: a name for every number, after the crate's errors where it has one. 3 is no longer given (CR 5).
 ghost use mathlib.Core.Path.{_≡_};
 ghost use Prim.Native.Nat.{_+_, _^_, _<_};
-ghost use Rattle.text.specs.Refusals.{refusal, placedBehind, tooLong, notUtf8, foreignChar, unclosedBlockComment, unexpectedChar, eof, expectedInteger, underscoreAtBeginning, invalidIntegerDigit, integerOutOfBounds, expectedFloat, floatUnderscore, invalidEscape, expectedChar, expectedByteLiteral, expectedString, expectedStringEnd, expectedByteString, expectedAttribute, expectedAttributeEnd, noSuchExtension, noRoom, notInOrder, depthLimitPassed, notAllowedHere, tapeEndsEarly, otherKind, unfit, holdsEscape};
+ghost use Rattle.text.specs.Refusals.{refusal, placedBehind, tooLong, notUtf8, unclosedBlockComment, unexpectedChar, eof, expectedInteger, underscoreAtBeginning, invalidIntegerDigit, integerOutOfBounds, expectedFloat, floatUnderscore, invalidEscape, expectedChar, expectedByteLiteral, expectedString, expectedStringEnd, expectedByteString, expectedAttribute, expectedAttributeEnd, noSuchExtension, noRoom, notInOrder, depthLimitPassed, notAllowedHere, tapeEndsEarly, otherKind, unfit, holdsEscape};
 
 // A refused call's number and place; inside a part of the text the place is counted from the part's front.
 pub struct Refusal {
@@ -34,12 +34,6 @@ impl Refusal {
         ensures { λ r. ⌜ r ≡ notUtf8 place ⌝ }
     {
         at(2, place)
-    }
-
-    pub fn foreign_char(place: usize) -> Refusal
-        ensures { λ r. ⌜ r ≡ foreignChar place ⌝ }
-    {
-        at(3, place)
     }
 
     pub fn unclosed_block_comment(place: usize) -> Refusal

@@ -9,7 +9,7 @@ use lib.ListN.{getD, length}
 use borrow.Author.Tests.{ltb-true}
 use Rattle.text.proofs.Choices.{cond-cases}
 use Rattle.names.proofs.NameStops.{nameStop, not-byte}
-use Rattle.text.specs.Classes.{digit, identNext, identRaw, letter, within}
+use Rattle.text.specs.Classes.{digit, asciiNext, asciiRaw, letter, within}
 use Rattle.tokens.specs.Shapes.{markKind, behindB, behindR, shapeOf, startsNumber}
 use Rattle.tokens.specs.declared.shape.Shape.{Shape}
 use Rattle.tokens.specs.declared.shape.Shape.the-variants.{Mark, Attribute, Str, Char, Byte, ByteStr, Number, Word}
@@ -81,19 +81,19 @@ token-by s a b c k k′ ea eb ec e f = rw (← ea, ← eb, ← ec, ← e, f)
 
 module _ (c : ℕ) (is : nameStop c ≡ true) where
   no-tick : eqb c 0x27 ≡ false
-  unfolding nameStop identRaw identNext letter digit within
+  unfolding nameStop asciiRaw asciiNext letter digit within
   no-tick = not-byte c is 0x27 refl
 
   no-quote : eqb c 0x22 ≡ false
-  unfolding nameStop identRaw identNext letter digit within
+  unfolding nameStop asciiRaw asciiNext letter digit within
   no-quote = not-byte c is 0x22 refl
 
   no-hash : eqb c 0x23 ≡ false
-  unfolding nameStop identRaw identNext letter digit within
+  unfolding nameStop asciiRaw asciiNext letter digit within
   no-hash = not-byte c is 0x23 refl
 
   no-r : eqb c 0x72 ≡ false
-  unfolding nameStop identRaw identNext letter digit within
+  unfolding nameStop asciiRaw asciiNext letter digit within
   no-r = not-byte c is 0x72 refl
 
   b-same : (x y : ℕ) → behindB c x ≡ behindB c y

@@ -35,7 +35,7 @@ use Rattle.strings.specs.declared.chars.ByteAnswer.the-variants as byte
 use Rattle.strings.specs.declared.literal.LiteralAnswer.{LiteralAnswer}
 use Rattle.strings.specs.declared.literal.LiteralAnswer.the-variants as literal
 use Rattle.text.proofs.Stops.{Stopped}
-use Rattle.text.specs.Classes.{digit, identNext, identRaw, letter, within}
+use Rattle.text.specs.Classes.{digit, asciiNext, asciiRaw, letter, within}
 use Rattle.tokens.proofs.ShapeLaws.{Marked, shape-marked, shapeAt, shape-same}
 use Rattle.tokens.specs.Lexemes.{lexemeOf, numberLexeme}
 use Rattle.tokens.specs.Token.{ofWord, ofChar, ofByte, ofString, ofByteString, ofAttribute, byShape, tokenOf}
@@ -136,11 +136,11 @@ fits-byte n (byte.Read l c) h = h
 fits-byte n (byte.Refused r) h = h
 
 quiet-stop : (c : ℕ) → quietByte c ≡ true → nameStop c ≡ true
-unfolding nameStop identRaw identNext letter digit within
+unfolding nameStop asciiRaw asciiNext letter digit within
 quiet-stop c q = quiet-all nameStop c refl q
 
 number-same : (c : ℕ) → quietByte c ≡ true → Stopped c numberOf
-unfolding identRaw identNext letter digit within
+unfolding asciiRaw asciiNext letter digit within
 number-same c q = number-stopped c (told-outside c (quiet-all outside c refl q))
 
 module _ (c : ℕ) (q : quietByte c ≡ true) (u v v′ : List ℕ) where

@@ -1,6 +1,7 @@
 -- The starred worked texts hold, all of them. Each is computed. Assumes nothing.
 use mathlib.Core.Path.{refl}
-use Rattle.text.specs.Classes.{within, blank, blank1, blank2, blank3, blankWidth, foreign, digit, letter, hexDigit, intChar, floatChar, identFirst, identNext, identRaw, continuationBlank, foreignAhead}
+use Rattle.text.specs.Classes.{within, blank, blank1, blank2, blank3, blankWidth, digit, letter, hexDigit, intChar, floatChar, identFirst, identNext, identRaw, continuationBlank, asciiFirst, asciiNext, asciiRaw}
+use Rattle.text.specs.Ahead.{nextAhead}
 use Rattle.text.specs.Judged.{judgedOf as judgedOf·text, placeFits, behindFront}
 use Rattle.floats.specs.Judged.{judgedOf as judgedOf·floats, wellTo, stripped}
 use Rattle.text.specs.Runs.{run, run2, asciiFor}
@@ -60,5 +61,5 @@ use Rattle.worked.specs.Texts.{AllHold, texts}
 
 -- document 01, "Worked texts"
 pub worked : AllHold texts
-unfolding within blank blank1 blank2 blank3 blankWidth foreign digit letter hexDigit intChar floatChar identFirst identNext identRaw continuationBlank judgedOf·text judgedOf·floats placeFits behindFront run run2 asciiFor encode secondByte behindThree behindFour widthOf charLen utf8From utf8Of codeOf4 codeOf scalar encodedLen encodeAnswer encodedInto markOf blockFrom blockEnd behindSlash commentOf itemOf·comments itemOf·attributes gapFrom gapOf lineFrom lineEnd·comments lineEnd·strings hexOf secondDigit twoDigits closeOf digitsOf unicodeEscape nextByte moreBytes hexEscape simpleOf escapeOf orderly inOrderFrom inOrder entryAt entriesOf written flat laid anyQuiet countOf keptBefore lastQuiet isMoved areMoved allBehind areKept largest keptBehind quietByte place entries counted endOf tokensFrom charIf charsFrom chars foreignAhead beginsFloat suffixed named missing wordOf·names wordOf·attributes nameLen plainOf rawOf·names rawOf·strings skipIdentifierOf strictOf identifierOf startsWith beginsString beginsRaw turnOf digitsFrom runOf valueFrom·digits valueFrom·attributes signOf prefixOf frontOf numeralOf typedOf anyOf widthAt limitAt firstFit suffixWord suffixOf identOf firstOf floatGoes runAt floatOf stepOf·floats stepOf·structs accepts wellTo stripped floatAhead numberOf charEnds charOf byteEnds byteOf unquoted plain behindBackslash pieceOf decodedLen bodyFrom bodyOf decodedOf measured quotedOf rawEnd rawContents stringOf byteStringOf stringDecoded byteStringDecoded enableFrom keywordFrom openedOf attributeOf noEnd listEnd closeList stringEnd stringFrom isWord firstNamed extensionOf addedTo otherChar itemEnd behindName listFrom listOf skipFrom consumeFrom signAt signFrom byWord keywordAt ronToken markKind startsNumber behindB behindR shapeOf tokenOf readAnswer readTape cutFits repairFits leading joins scanOf·repair scanOf·structs repairAnswerOf cleared repairTapeOf repairOf repairedTape laidAt byKind insideOf namedOf pastGap pastChar pastString pastByteString markedBy pastSpurious afterComma scanFrom decided afterName contentsOf·structs contentsOf·sarridok unlessEmpty parenthesized insideNewtype structTypeOf decodedAnswer decodedOut skipOf structKindOf integerAt integerOf behindWalkFront walkOf linksAfter
+unfolding within blank blank1 blank2 blank3 blankWidth digit letter hexDigit intChar floatChar asciiFirst asciiNext asciiRaw nextAhead identFirst identNext identRaw continuationBlank judgedOf·text judgedOf·floats placeFits behindFront run run2 asciiFor encode secondByte behindThree behindFour widthOf charLen utf8From utf8Of codeOf4 codeOf scalar encodedLen encodeAnswer encodedInto markOf blockFrom blockEnd behindSlash commentOf itemOf·comments itemOf·attributes gapFrom gapOf lineFrom lineEnd·comments lineEnd·strings hexOf secondDigit twoDigits closeOf digitsOf unicodeEscape nextByte moreBytes hexEscape simpleOf escapeOf orderly inOrderFrom inOrder entryAt entriesOf written flat laid anyQuiet countOf keptBefore lastQuiet isMoved areMoved allBehind areKept largest keptBehind quietByte place entries counted endOf tokensFrom charIf charsFrom chars beginsFloat suffixed named missing wordOf·names wordOf·attributes nameLen plainOf rawOf·names rawOf·strings skipIdentifierOf strictOf identifierOf startsWith beginsString beginsRaw turnOf digitsFrom runOf valueFrom·digits valueFrom·attributes signOf prefixOf frontOf numeralOf typedOf anyOf widthAt limitAt firstFit suffixWord suffixOf identOf firstOf floatGoes runAt floatOf stepOf·floats stepOf·structs accepts wellTo stripped floatAhead numberOf charEnds charOf byteEnds byteOf unquoted plain behindBackslash pieceOf decodedLen bodyFrom bodyOf decodedOf measured quotedOf rawEnd rawContents stringOf byteStringOf stringDecoded byteStringDecoded enableFrom keywordFrom openedOf attributeOf noEnd listEnd closeList stringEnd stringFrom isWord firstNamed extensionOf addedTo otherChar itemEnd behindName listFrom listOf skipFrom consumeFrom signAt signFrom byWord keywordAt ronToken markKind startsNumber behindB behindR shapeOf tokenOf readAnswer readTape cutFits repairFits leading joins scanOf·repair scanOf·structs repairAnswerOf cleared repairTapeOf repairOf repairedTape laidAt byKind insideOf namedOf pastGap pastChar pastString pastByteString markedBy pastSpurious afterComma scanFrom decided afterName contentsOf·structs contentsOf·sarridok unlessEmpty parenthesized insideNewtype structTypeOf decodedAnswer decodedOut skipOf structKindOf integerAt integerOf behindWalkFront walkOf linksAfter
 worked = ((refl, refl), ((refl, refl), ((refl, refl), ((refl, refl), ((refl, refl), (refl, (refl, (refl, (refl, (refl, ((refl, refl), (refl, ((refl, refl), tt)))))))))))))

@@ -18,7 +18,7 @@ const SKIP: Alphabet =
 const INTEGER: Alphabet = Alphabet {
     pieces: &[
         "0", "1", "2", "5", "9", "a", "f", "_", "-", "+", ".", "0x", "0b", "0o", "b'", "'", "\\", "u8", "i8", "u16",
-        "i64", "u", "6", "é",
+        "i64", "u", "6", "é", "·", "×",
     ],
     longest: 5,
 };
@@ -34,7 +34,7 @@ const CONTENTS: Alphabet = Alphabet {
 const STRUCT: Alphabet = Alphabet {
     pieces: &[
         "(", ")", ",", ":", "a", "1", "\"", "'", "\\", "r", "b", "#", "/*", "*/", "/", "//", "\n", " ", "[", "}", "é",
-        "\"a\"", "'a'",
+        "·", "×", "\"a\"", "'a'",
     ],
     longest: 5,
 };
@@ -42,7 +42,7 @@ const STRUCT: Alphabet = Alphabet {
 const READ: Alphabet = Alphabet {
     pieces: &[
         "(", ",", ":", "]", "\"", "'", "\\", "#", "r", "b", "r#", "/", "*", " ", "\n", "0", "1", "x", "e", "f32", "u8",
-        "_", "-", "+", ".", "a", "inf", "NaN", "é", "\u{85}", "implicit_some",
+        "_", "-", "+", ".", "a", "inf", "NaN", "é", "\u{301}", "×", "\u{85}", "implicit_some",
     ],
     longest: 5,
 };
@@ -50,6 +50,7 @@ const READ: Alphabet = Alphabet {
 const WALK: Alphabet = Alphabet {
     pieces: &[
         "(", ")", "[", "]", "{", "}", ",", ":", "a", "r#a", "1", " ", "\"s\"", "#![type=\"s\"]", "inf", "a:", "1,",
+        "é", "·", "×",
     ],
     longest: 5,
 };
@@ -58,7 +59,7 @@ const WALK: Alphabet = Alphabet {
 const EDITED: Alphabet = Alphabet {
     pieces: &[
         "a", "b", "r", "e5", "_", "1", "300", ".5", "-1", "0x1", "u8", "inf", "'c'", "\"s\"", "\"a b\"", "r#a", " ",
-        "\n", "\u{85}", ",", ":", "(", "]", "//\n", "/**/", "/*,*/", "\"\\\"\"", "\"é\"",
+        "\n", "\u{85}", ",", ":", "(", "]", "//\n", "/**/", "/*,*/", "\"\\\"\"", "\"é\"", "é", "·", "×",
     ],
     longest: 5,
 };

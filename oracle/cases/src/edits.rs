@@ -23,14 +23,14 @@ const MILD: &[&str] = &[
     "//", "//\n", "/**/", "/* , */", "\"\"", "\" \"", "r\"\"", "'\"'", "(", ")", "[", "{", "]", "()", ",", ":", ", ",
     ",,", " ", " ", "\t", "\n", "\n", "\r\n", "\r", "\u{b}", "\u{85}", "\u{2028}", "0", "1", "9", "25", "300", "_",
     ".", "e", "e5", "f", "a", "b", "r", "x", "u8", "f32", "inf", "NaN", "implicit_some", "Lock(id: 7)", "\"s\", ",
-    " 8,", "1.5 ", " r#a ",
+    " 8,", "1.5 ", " r#a ", "é", "ŵ", "字", "𐌰", "Tŷ", " dŵr ", "r#·é ",
 ];
 
 /// What mostly ends the reading where it stands outside a string or a comment: their marks, and halves of tokens.
 const SHARP: &[&str] = &[
     "/*", "/*", "/*", "*/", "*/", "\"", "\"", "\"", "'", "/", "*", "r\"", "r#\"", "\"#", "b\"", "br#\"", "b'", "\\",
-    "\\\"", "\\n", "\\x4", "\\xC3", "\\u{", "}", "#", "r#", "##", "#![", "0x", "0b", "-", "+", "i16", "é", "𝄞", "@",
-    "\0",
+    "\\\"", "\\n", "\\x4", "\\xC3", "\\u{", "}", "#", "r#", "##", "#![", "0x", "0b", "-", "+", "i16", "\u{301}", "·",
+    "×", "𝄞", "@", "\0",
 ];
 
 /// What is put around a part of the text.
@@ -106,12 +106,15 @@ pub fn of_short_text(r: &mut Random, number: u64) -> Edit {
     Edit { text, from, to, put }
 }
 
-/// An edit of this text; one in sixteen may part characters.
+/// An edit of this text; one in sixteen may part characters, one in eight is at a character above U+007F.
 pub fn of_text(r: &mut Random, text: Vec<u8>) -> Edit {
-    if r.once_in(16) {
-        if let Some((from, to, put)) = inside_characters(r, &text) {
-            return Edit { text, from, to, put };
-        }
+    let special = match r.below(16) {
+        0 => inside_characters(r, &text),
+        1 | 2 => at_wide_character(r, &text),
+        _ => None,
+    };
+    if let Some((from, to, put)) = special {
+        return Edit { text, from, to, put };
     }
     let whole = !r.once_in(16);
     let settled = |place: usize| if whole { behind_character(&text, place) } else { place };
@@ -220,6 +223,29 @@ fn inside_characters(r: &mut Random, text: &[u8]) -> Option<(usize, usize, Vec<u
         (2, Some(other)) => Some((last, behind_character(text, other), vec![text[last]])),
         _ => Some((last, last + 1, vec![0x80 | r.below(64) as u8])),
     }
+}
+
+/// What parts a name at such a character, joins it with another, or changes the character.
+const AT_WIDE: &[&str] = &[
+    " ", ",", ":", "\u{85}", ".", "-", "/**/", "\u{301}", "\u{301}", "·", "\u{200d}", "×", "€", "e", "é", "ŷ", "字",
+    "𐌰", "1", "e\u{301}", "_", "#", "\"", "'",
+];
+
+/// A cut before, behind or of the next character above U+007F, or of what stands between two of them.
+fn at_wide_character(r: &mut Random, text: &[u8]) -> Option<(usize, usize, Vec<u8>)> {
+    let from = next_inside(text, r.below(text.len() + 1))? - 1;
+    let to = behind_character(text, from + 1);
+    let other = next_inside(text, to).map_or(text.len(), |inside| inside - 1);
+    let put = r.pick(AT_WIDE).as_bytes().to_vec();
+    Some(match r.below(8) {
+        0 => (from, from, put),
+        1 => (to, to, put),
+        2 | 3 => (from, to, put),
+        4 => (from, to, Vec::new()),
+        5 => (to, other.min(to + 3), Vec::new()),
+        6 => (from.saturating_sub(1), from, Vec::new()),
+        _ => (from, other, put),
+    })
 }
 
 /// The second byte of the next character that has one.

@@ -97,12 +97,13 @@ fn skipped(r: &mut Random, text: &mut Vec<u8>) -> usize {
 /// Something at a place with something before and behind it.
 fn placed(r: &mut Random, text: &mut Vec<u8>, make: fn(&mut Random, &mut Vec<u8>)) -> usize {
     if r.once_in(3) {
-        text.extend_from_slice(r.pick(&["é", "(", "a: ", "[\"", "/**/ ", "r", "b", "-"]).as_bytes());
+        text.extend_from_slice(r.pick(&["é", "·", "(", "a: ", "[\"", "/**/ ", "r", "b", "-"]).as_bytes());
     }
     let place = text.len();
     make(r, text);
     if r.once_in(3) {
-        text.extend_from_slice(r.pick(&["é", ")", ", 1", "\"", "#", "'", "u8", "_", ".5", "\u{85}"]).as_bytes());
+        let behind = ["é", "\u{301}", "×", ")", ", 1", "\"", "#", "'", "u8", "_", ".5", "\u{85}"];
+        text.extend_from_slice(r.pick(&behind).as_bytes());
     }
     place
 }
@@ -119,6 +120,7 @@ fn typed(r: &mut Random, text: &mut Vec<u8>) {
 fn strung(r: &mut Random, text: &mut Vec<u8>) {
     match r.below(12) {
         0 => strings::quoted(r, text),
+        1 if r.once_in(3) => names::name(r, text),
         1..=4 => strings::byte_string(r, text),
         _ => strings::string(r, text),
     }

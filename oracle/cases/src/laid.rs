@@ -1,5 +1,6 @@
 //! Texts that are read without refusal, laid out together with their tape.
 use crate::random::Random;
+use crate::wide;
 
 /// Kind, detail and bytes of tokens.
 const TOKENS: &[(u32, u32, &str)] = &[
@@ -12,8 +13,14 @@ const TOKENS: &[(u32, u32, &str)] = &[
     (9, 0, "e5"),
     (9, 0, "_x1"),
     (9, 0, "infx"),
+    (9, 0, "Tŷ"),
+    (9, 0, "dŵr"),
+    (9, 0, "aé\u{301}b"),
+    (9, 0, "字"),
+    (9, 0, "𐌰𐌱"),
     (10, 0, "r#a"),
     (10, 0, "r#a.b-1"),
+    (10, 0, "r#·é"),
     (11, 5, "7"),
     (11, 5, "255"),
     (11, 6, "256"),
@@ -116,6 +123,9 @@ impl Laid {
     fn token(&mut self, r: &mut Random) {
         if self.is_open() {
             self.gap(r);
+        }
+        if r.once_in(12) {
+            return self.entry(9, 0, wide::letters(r).as_bytes());
         }
         let (kind, detail, token) = TOKENS[r.below(TOKENS.len())];
         self.entry(kind, detail, token.as_bytes());

@@ -1,15 +1,17 @@
 //! Number texts: integers in all bases, floats, suffixes, underscores, edges of widths.
 use crate::random::Random;
+use crate::wide;
 
 const SUFFIXES: &[&str] = &["i8", "i16", "i32", "i64", "u8", "u16", "u32", "u64"];
 
 const ODD_SUFFIXES: &[&str] = &[
-    "i128", "u128", "u9", "u", "i", "u8x", "u8_", "i8é", "u8\u{85}", "u6", "u644", "usize", "f32", "f64", "f", "f16",
-    "f32x", "f32é", "f64\u{2028}",
+    "i128", "u128", "u9", "u", "i", "u8x", "u8_", "i8é", "u8\u{301}", "u8·", "u8×", "u8\u{85}", "u6", "u644", "usize",
+    "f32", "f64", "f", "f16", "f32x", "f32é", "f32\u{301}", "f64×", "f64\u{2028}", "é", "×",
 ];
 
 const SPECIAL: &[&str] = &[
-    "inf", "NaN", "inff32", "inff64", "NaNf32", "NaNf64", "infx", "inf_", "infinity", "NaNf32x", "infé", "nan", "Inf",
+    "inf", "NaN", "inff32", "inff64", "NaNf32", "NaNf64", "infx", "inf_", "infinity", "NaNf32x", "infé", "inf\u{301}",
+    "NaN×", "inff64ŷ", "nan", "Inf",
 ];
 
 const ODD: &[&str] = &[
@@ -39,6 +41,7 @@ fn sign(r: &mut Random, text: &mut Vec<u8>) {
 fn special(r: &mut Random, text: &mut Vec<u8>) {
     sign(r, text);
     text.extend_from_slice(r.pick(SPECIAL).as_bytes());
+    wide::once_in(r, 8, text);
 }
 
 /// An integer, mostly with digits of its base.
@@ -57,6 +60,7 @@ pub fn integer(r: &mut Random, text: &mut Vec<u8>) {
     };
     text.extend_from_slice(digits.as_bytes());
     suffix(r, text);
+    wide::once_in(r, 16, text);
 }
 
 fn prefix(base: u32) -> &'static str {
@@ -127,4 +131,5 @@ fn float(r: &mut Random, text: &mut Vec<u8>) {
         2 => text.extend_from_slice(r.pick(ODD_SUFFIXES).as_bytes()),
         _ => {}
     }
+    wide::once_in(r, 16, text);
 }

@@ -41,6 +41,11 @@ impl Random {
         from[self.below(from.len())]
     }
 
+    pub fn character(&mut self, from: &str) -> char {
+        let nth = self.below(from.chars().count());
+        from.chars().nth(nth).expect("there are that many")
+    }
+
     pub fn number(&mut self, from: &[u64]) -> u64 {
         from[self.below(from.len())]
     }

@@ -54,7 +54,6 @@ fn tell(line: &[u8], store: &mut Store, out: &mut Vec<u8>) {
 }
 
 fn main() -> io::Result<()> {
-    run::listen();
     let mut input = BufReader::with_capacity(1 << 20, io::stdin().lock());
     let mut output = BufWriter::with_capacity(1 << 20, io::stdout().lock());
     let (mut line, mut store, mut out) = (Vec::new(), Store::default(), Vec::new());

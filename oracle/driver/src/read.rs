@@ -82,7 +82,7 @@ fn token(parser: &mut Parser, start: usize) -> Answer<(u32, usize)> {
         string(parser)
     } else if starts(parser, &["'"]) {
         run(parser, |p| p.char()).map(|c| (13, c as usize))
-    } else if run(parser, |p| Ok(p.check_any_number_start()))? {
+    } else if parser.check_any_number_start() {
         number(parser, start)
     } else if starts(parser, &["b\"", "br\"", "br#"]) {
         byte_string(parser)
@@ -143,7 +143,7 @@ fn float_suffix(float: &str) -> usize {
 /// A name, a raw name, 16 behind an `r#` that begins none, or 5 at what begins nothing.
 fn name(parser: &mut Parser, start: usize) -> Answer<(u32, usize)> {
     let raw = parser.check_str("r#");
-    match run(parser, |p| Ok(p.skip_identifier()))? {
+    match parser.skip_identifier() {
         Some(_) => Ok((if raw { 10 } else { 9 }, 0)),
         None if raw => string(parser),
         None => Err(Refusal::new(5, start)),

@@ -26,9 +26,6 @@ enum-told c = search needs
 expected-attribute-requires : tie.Need-expected-attribute-requires
 expected-attribute-requires c κs = search needs
 
-enum-known-found-3 : tie.Need-enum-known-found-3
-enum-known-found-3 c = search needs
-
 returns : tie.Need-returns
 unfolding keywordFrom
 returns c = c .enable .ensures ∙ ap (byKeyword (c .before .before .before .before .before .before .args .s .now)) (sym (c .before .before .found .given .1) ∙ c .before .before .before .before .keyword-at .ensures)
@@ -41,10 +38,6 @@ returns-3 : tie.Need-returns-3
 unfolding keywordFrom
 returns-3 c = ap Refused (c .expected-attribute .ensures) ∙ ap (byKeyword (c .before .before .before .before .before .args .s .now)) (sym (c .before .enum-told .given .1) ∙ c .before .before .before .keyword-at .ensures)
 
-returns-4 : tie.Need-returns-4
-unfolding keywordFrom
-returns-4 c = ap (byKeyword (c .before .before .before .before .before .args .s .now)) (sym (c .before .found3 .given .1) ∙ c .before .before .before .keyword-at .ensures)
-
 pub keyword-spec : {M : Type 1} → statement M
 keyword-spec =
     tie.close
@@ -56,8 +49,6 @@ keyword-spec =
     value-requires
     enum-told
     expected-attribute-requires
-    enum-known-found-3
     returns
     returns-2
-    returns-3
-    returns-4)
+    returns-3)

@@ -1,6 +1,7 @@
 //! Cases chosen by hand, for the fixed list that a gate runs.
 mod contents;
 mod integers;
+mod names;
 mod read;
 mod repair;
 mod skip;
@@ -44,5 +45,6 @@ pub fn lines(call: u8) -> Lines {
         b'P' => repair::of_any_tape(&mut lines),
         _ => {}
     }
+    names::lines(&mut lines, call);
     lines
 }

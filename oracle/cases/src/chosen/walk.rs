@@ -34,7 +34,7 @@ const OTHERS: &[&str] = &[
 ];
 
 /// Texts that the reader refuses before any walk.
-const UNREAD: &[&str] = &["@", "[@]", "(\"", "/*", "1_é", "é", "0x", "#![x]", "'", "[1, /", "a(b: 1_.5)"];
+const UNREAD: &[&str] = &["@", "[@]", "(\"", "/*", "1_×", "×", "0x", "#![x]", "'", "[1, /", "a(b: 1_.5)"];
 
 /// Kinds, and limits to walk them with.
 const LIMITED: &[(&str, &[u64])] = &[

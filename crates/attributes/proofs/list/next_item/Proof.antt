@@ -7,7 +7,7 @@ use Rattle.attributes.proofs.ListLaws.{identifier-by, identifier-fits}
 use Rattle.attributes.proofs.list.next_item.Statement.{statement}
 use Rattle.attributes.specs.Extensions.{extensionOf}
 use Rattle.attributes.specs.List.{byNamed}
-use Rattle.names.specs.declared.Identifier.the-variants.{Missing, Name, RawName, Refused as NoIdentifier}
+use Rattle.names.specs.declared.Identifier.the-variants.{Missing, Name, RawName}
 use Rattle.text.proofs.Lists.{tail-part}
 use Rattle.attributes.proofs.list.next_item.Tie as tie
 
@@ -47,9 +47,6 @@ from-ident-requires-2 c κs = search needs
 by-named-requires-2 : tie.Need-by-named-requires-2
 by-named-requires-2 c κs = search needs
 
-enum-known-name-3 : tie.Need-enum-known-name-3
-enum-known-name-3 c = search needs
-
 returns : tie.Need-returns
 returns c = identifier-by (c .before .before .before .before .args .t .now) Missing (sym (c .enum-told .given .1) ∙ c .before .before .identifier .ensures)
 
@@ -58,9 +55,6 @@ returns-2 c = c .by-named .ensures ∙ ap (byNamed (c .before .before .before .b
 
 returns-3 : tie.Need-returns-3
 returns-3 c = c .by-named2 .ensures ∙ ap (byNamed (c .before .before .before .before .before .before .before .before .args .t .now) (c .before .before .before .before .name2 .given .0 .0)) (c .before .from-ident2 .ensures ∙ ap (λ (x : List ℕ). extensionOf x (c .before .before .before .before .name2 .given .0 .0 - 2)) (tail-part (c .before .before .before .before .before .before .before .before .args .t .now) 2)) ∙ identifier-by (c .before .before .before .before .before .before .before .before .args .t .now) (RawName _) (sym (c .before .before .before .before .name2 .given .1) ∙ c .before .before .before .before .before .before .identifier .ensures)
-
-returns-4 : tie.Need-returns-4
-returns-4 c = identifier-by (c .before .before .before .before .before .args .t .now) (NoIdentifier _) (sym (c .before .name3 .given .1) ∙ c .before .before .before .identifier .ensures)
 
 pub next-item-spec : {M : Type 1} → statement M
 next-item-spec =
@@ -78,8 +72,6 @@ next-item-spec =
     part-from-ident-end
     from-ident-requires-2
     by-named-requires-2
-    enum-known-name-3
     returns
     returns-2
-    returns-3
-    returns-4)
+    returns-3)

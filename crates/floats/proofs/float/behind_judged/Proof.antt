@@ -11,32 +11,20 @@ float-underscore-requires c κs = search needs
 enum-told : tie.Need-enum-told
 enum-told c = search needs
 
-foreign-char-requires : tie.Need-foreign-char-requires
-foreign-char-requires c κs = search needs
-
-returns : tie.Need-returns
-returns c = simp (c .before .before .enum-told .given .1, c .before .if1 .taken, c .foreign-char .ensures)
-
 enum-told-2 : tie.Need-enum-told-2
 enum-told-2 c = search needs
-
-foreign-char-requires-2 : tie.Need-foreign-char-requires-2
-foreign-char-requires-2 c κs = search needs
-
-returns-2 : tie.Need-returns-2
-returns-2 c = simp (c .before .before .enum-told2 .given .1, c .before .if2 .taken, c .foreign-char2 .ensures)
 
 expected-float-requires : tie.Need-expected-float-requires
 expected-float-requires c κs = search needs
 
+returns : tie.Need-returns
+returns c = simp (c .before .before .judged .given .1, c .float-underscore .ensures)
+
+returns-2 : tie.Need-returns-2
+returns-2 c = simp (c .enum-told .given .1)
+
 returns-3 : tie.Need-returns-3
-returns-3 c = simp (c .before .before .judged .given .1, c .float-underscore .ensures)
-
-returns-4 : tie.Need-returns-4
-returns-4 c = simp (c .before .enum-told .given .1, c .if1 .left)
-
-returns-5 : tie.Need-returns-5
-returns-5 c = simp (c .before .before .enum-told2 .given .1, c .before .if2 .left, c .expected-float .ensures)
+returns-3 c = simp (c .before .enum-told2 .given .1, c .expected-float .ensures)
 
 pub behind-judged-spec : {M : Type 1} → statement M
 behind-judged-spec =
@@ -45,12 +33,8 @@ behind-judged-spec =
     enum-known-judged
     float-underscore-requires
     enum-told
-    foreign-char-requires
-    returns
     enum-told-2
-    foreign-char-requires-2
-    returns-2
     expected-float-requires
-    returns-3
-    returns-4
-    returns-5)
+    returns
+    returns-2
+    returns-3)

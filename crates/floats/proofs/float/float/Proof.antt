@@ -1,5 +1,4 @@
 use native.Mathlib.Omega.{arith}
-use mathlib.Core.Bool.{false, true}
 use mathlib.Core.Path.{_∙_, ap, sym}
 use lib.ListN.{drop, length-drop}
 use borrow.Author.Needs.{needs}
@@ -8,11 +7,10 @@ use Rattle.floats.proofs.float.float.Statement.{statement}
 use Rattle.floats.specs.Float.{specials}
 use Rattle.integers.proofs.Fronts.{sign-le}
 use Rattle.integers.proofs.Words.{first-le}
-use Rattle.integers.specs.Words.{askedBehind, firstOf}
+use Rattle.integers.specs.Words.{firstOf}
 use Rattle.integers.specs.declared.front.Sign.{Sign}
 use Rattle.integers.specs.declared.ident.Found.{Found}
 use Rattle.text.proofs.Lists.{tail-part}
-use Rattle.floats.specs.declared.float.AnyFloat.the-variants.{Refused as refused}
 use Rattle.floats.proofs.float.float.Tie as tie
 
 sign-of-requires : tie.Need-sign-of-requires
@@ -45,26 +43,8 @@ returns-2 c = c .run-at2 .ensures ∙ float-none (c .before .before .before .bef
 add-end : tie.Need-add-end
 add-end c = omega (arith, ap (λ (f : Found). f .end) (c .before .before .before .special .ensures ∙ ap (firstOf specials) (tail-part (c .before .before .before .before .before .before .before .before .args .s .now) (c .before .before .before .before .before .before .sign-of .result .end))), first-le specials (drop (c .before .before .before .before .before .before .sign-of .result .end) (c .before .before .before .before .before .before .before .before .args .s .now)), length-drop (c .before .before .before .before .before .before .sign-of .result .end) (c .before .before .before .before .before .before .before .before .args .s .now), ap (λ (g : Sign). g .end) (c .before .before .before .before .before .before .sign-of .ensures), sign-le (c .before .before .before .before .before .before .before .before .args .s .now))
 
-sub-is-asked-behind : tie.Need-sub-is-asked-behind
-sub-is-asked-behind c = omega (arith, ap (λ (g : Sign). g .end) (c .before .before .before .before .before .before .sign-of .ensures), sign-le (c .before .before .before .before .before .before .before .before .args .s .now))
-
-part-is-asked-behind-start : tie.Need-part-is-asked-behind-start
-part-is-asked-behind-start c = omega (arith, ap (λ (g : Sign). g .end) (c .before .before .before .before .before .before .sign-of .ensures), sign-le (c .before .before .before .before .before .before .before .before .args .s .now))
-
-part-is-asked-behind-end : tie.Need-part-is-asked-behind-end
-part-is-asked-behind-end c = search needs
-
-is-asked-behind-requires : tie.Need-is-asked-behind-requires
-is-asked-behind-requires c κs = rw (tail-part (c .before .before .before .before .before .before .before .before .before .args .s .now) (c .before .before .before .before .before .before .before .sign-of .result .end)) (omega (arith, ap (λ (f : Found). f .end) (c .before .before .before .before .special .ensures ∙ ap (firstOf specials) (tail-part (c .before .before .before .before .before .before .before .before .before .args .s .now) (c .before .before .before .before .before .before .before .sign-of .result .end))), first-le specials (drop (c .before .before .before .before .before .before .before .sign-of .result .end) (c .before .before .before .before .before .before .before .before .before .args .s .now)), length-drop (c .before .before .before .before .before .before .before .sign-of .result .end) (c .before .before .before .before .before .before .before .before .before .args .s .now), ap (λ (g : Sign). g .end) (c .before .before .before .before .before .before .before .sign-of .ensures), sign-le (c .before .before .before .before .before .before .before .before .before .args .s .now)))
-
-foreign-char-requires : tie.Need-foreign-char-requires
-foreign-char-requires c κs = search needs
-
 returns-3 : tie.Need-returns-3
-returns-3 c = ap refused (c .foreign-char .ensures) ∙ float-signed (c .before .before .before .before .before .before .before .before .before .before .before .before .args .s .now) (c .before .before .before .before .before .before .before .before .before .before .sign-of .result) (c .before .before .before .before .before .before .before .before .before .before .sign-of .ensures) (c .before .before .before .before .before .before .before .special .result) (c .before .before .before .before .before .before .before .special .ensures ∙ ap (firstOf specials) (tail-part (c .before .before .before .before .before .before .before .before .before .before .before .before .args .s .now) (c .before .before .before .before .before .before .before .before .before .before .sign-of .result .end))) (c .before .before .before .before .before .before .before .before .before .if1 .left) (c .before .before .before .before .before .if2 .left) true (sym (ap (askedBehind (c .before .before .before .before .before .before .before .special .result)) (sym (tail-part (c .before .before .before .before .before .before .before .before .before .before .before .before .args .s .now) (c .before .before .before .before .before .before .before .before .before .before .sign-of .result .end))) ∙ sym (c .before .before .is-asked-behind .ensures) ∙ c .before .if3 .taken))
-
-returns-4 : tie.Need-returns-4
-returns-4 c = float-signed (c .before .before .before .before .before .before .before .before .before .before .before .args .s .now) (c .before .before .before .before .before .before .before .before .before .sign-of .result) (c .before .before .before .before .before .before .before .before .before .sign-of .ensures) (c .before .before .before .before .before .before .special .result) (c .before .before .before .before .before .before .special .ensures ∙ ap (firstOf specials) (tail-part (c .before .before .before .before .before .before .before .before .before .before .before .args .s .now) (c .before .before .before .before .before .before .before .before .before .sign-of .result .end))) (c .before .before .before .before .before .before .before .before .if1 .left) (c .before .before .before .before .if2 .left) false (sym (ap (askedBehind (c .before .before .before .before .before .before .special .result)) (sym (tail-part (c .before .before .before .before .before .before .before .before .before .before .before .args .s .now) (c .before .before .before .before .before .before .before .before .before .sign-of .result .end))) ∙ sym (c .before .is-asked-behind .ensures) ∙ c .if3 .left))
+returns-3 c = float-signed (c .before .before .before .before .before .before .before .before .args .s .now) (c .before .before .before .before .before .before .sign-of .result) (c .before .before .before .before .before .before .sign-of .ensures) (c .before .before .before .special .result) (c .before .before .before .special .ensures ∙ ap (firstOf specials) (tail-part (c .before .before .before .before .before .before .before .before .args .s .now) (c .before .before .before .before .before .before .sign-of .result .end))) (c .before .before .before .before .before .if1 .left) (c .before .if2 .left)
 
 pub float-spec : {M : Type 1} → statement M
 float-spec =
@@ -80,10 +60,4 @@ float-spec =
     run-at-requires-2
     returns-2
     add-end
-    sub-is-asked-behind
-    part-is-asked-behind-start
-    part-is-asked-behind-end
-    is-asked-behind-requires
-    foreign-char-requires
-    returns-3
-    returns-4)
+    returns-3)

@@ -7,7 +7,7 @@ use Rattle.floats.proofs.Laws.{floatRun-le, run-judged, run-none}
 use Rattle.floats.proofs.float.run_at.Statement.{statement}
 use Rattle.floats.specs.Float.{floatSuffixes}
 use Rattle.integers.proofs.Words.{first-le}
-use Rattle.integers.specs.Words.{askedBehind, firstOf}
+use Rattle.integers.specs.Words.{firstOf}
 use Rattle.integers.specs.declared.ident.Found.{Found}
 use Rattle.text.proofs.Lists.{tail-part}
 use Rattle.floats.specs.declared.float.AnyFloat.the-variants.{Refused as refused}
@@ -43,26 +43,13 @@ float-suffix-requires c κs = search needs
 add-end : tie.Need-add-end
 add-end c = omega (arith, ap (λ (f : Found). f .end) (c .before .float-suffix .ensures ∙ ap (firstOf floatSuffixes) (tail-part (c .before .before .before .before .before .before .before .before .args .s .now) (c .before .before .before .before .before .before .float-run .result))), first-le floatSuffixes (drop (c .before .before .before .before .before .before .float-run .result) (c .before .before .before .before .before .before .before .before .args .s .now)), length-drop (c .before .before .before .before .before .before .float-run .result) (c .before .before .before .before .before .before .before .before .args .s .now), c .before .before .before .before .before .before .float-run .ensures, floatRun-le (c .before .before .before .before .before .before .before .before .args .s .now))
 
-sub-is-asked-behind : tie.Need-sub-is-asked-behind
-sub-is-asked-behind c = omega (arith, c .before .before .before .before .before .before .float-run .ensures, floatRun-le (c .before .before .before .before .before .before .before .before .args .s .now))
-
-part-is-asked-behind-start : tie.Need-part-is-asked-behind-start
-part-is-asked-behind-start c = omega (arith, c .before .before .before .before .before .before .float-run .ensures, floatRun-le (c .before .before .before .before .before .before .before .before .args .s .now))
-
-part-is-asked-behind-end : tie.Need-part-is-asked-behind-end
-part-is-asked-behind-end c = search needs
-
-is-asked-behind-requires : tie.Need-is-asked-behind-requires
-is-asked-behind-requires c κs = rw (tail-part (c .before .before .before .before .before .before .before .before .before .args .s .now) (c .before .before .before .before .before .before .before .float-run .result)) (omega (arith, ap (λ (f : Found). f .end) (c .before .before .float-suffix .ensures ∙ ap (firstOf floatSuffixes) (tail-part (c .before .before .before .before .before .before .before .before .before .args .s .now) (c .before .before .before .before .before .before .before .float-run .result))), first-le floatSuffixes (drop (c .before .before .before .before .before .before .before .float-run .result) (c .before .before .before .before .before .before .before .before .before .args .s .now)), length-drop (c .before .before .before .before .before .before .before .float-run .result) (c .before .before .before .before .before .before .before .before .before .args .s .now), c .before .before .before .before .before .before .before .float-run .ensures, floatRun-le (c .before .before .before .before .before .before .before .before .before .args .s .now)))
-
 behind-judged-requires : tie.Need-behind-judged-requires
 behind-judged-requires c κs = search needs
 
 returns-2 : tie.Need-returns-2
 returns-2 c =
     c .behind-judged .ensures
-    ∙ run-judged (c .before .before .before .before .before .before .before .before .before .before .before .args .s .now) (c .before .before .before .before .before .before .before .before .before .float-run .result) (c .before .before .before .before .before .before .judge-run .result) (c .before .before .before .before .float-suffix .result) (c .before .is-asked-behind .result) (c .before .before .before .before .before .before .before .before .before .float-run .ensures) (c .before .before .before .before .before .before .before .before .if1 .left) (c .before .before .before .before .before .before .judge-run .ensures) (c .before .before .before .before .float-suffix .ensures ∙ ap (firstOf floatSuffixes) (tail-part (c .before .before .before .before .before .before .before .before .before .before .before .args .s .now) (c .before .before .before .before .before .before .before .before .before .float-run .result)))
-    (c .before .is-asked-behind .ensures ∙ ap (askedBehind (c .before .before .before .before .float-suffix .result)) (tail-part (c .before .before .before .before .before .before .before .before .before .before .before .args .s .now) (c .before .before .before .before .before .before .before .before .before .float-run .result)))
+    ∙ run-judged (c .before .before .before .before .before .before .before .before .before .args .s .now) (c .before .before .before .before .before .before .before .float-run .result) (c .before .before .before .before .judge-run .result) (c .before .before .float-suffix .result) (c .before .before .before .before .before .before .before .float-run .ensures) (c .before .before .before .before .before .before .if1 .left) (c .before .before .before .before .judge-run .ensures) (c .before .before .float-suffix .ensures ∙ ap (firstOf floatSuffixes) (tail-part (c .before .before .before .before .before .before .before .before .before .args .s .now) (c .before .before .before .before .before .before .before .float-run .result)))
 
 pub run-at-spec : {M : Type 1} → statement M
 run-at-spec =
@@ -78,9 +65,5 @@ run-at-spec =
     part-float-suffix-end
     float-suffix-requires
     add-end
-    sub-is-asked-behind
-    part-is-asked-behind-start
-    part-is-asked-behind-end
-    is-asked-behind-requires
     behind-judged-requires
     returns-2)

@@ -5,16 +5,14 @@ use lib.ListN.{drop, length-drop, take}
 use lib.Seq.{length-take-le}
 use borrow.Author.Needs.{needs}
 use Rattle.digits.specs.Digits.{runOf}
-use Rattle.integers.proofs.Readings.{asked-said, judged-said}
+use Rattle.integers.proofs.Readings.{judged-said}
 use Rattle.integers.proofs.Suffixes.{suffix-le}
 use Rattle.integers.proofs.integer.digits_and_suffix.Statement.{statement}
 use Rattle.integers.specs.Width.{limitAt, suffixOf}
-use Rattle.integers.specs.Words.{askedBehind}
 use Rattle.integers.specs.declared.ident.Found.{Found}
 use Rattle.text.proofs.Lists.{tail-part}
 use Rattle.text.proofs.RunLaws.{run-le}
 use Rattle.text.specs.Classes.{intChar}
-use Rattle.integers.specs.declared.integer.Numeral.the-variants.{Refused as refused}
 use Rattle.integers.proofs.integer.digits_and_suffix.Tie as tie
 
 run-len-requires : tie.Need-run-len-requires
@@ -35,29 +33,11 @@ suffix-of-requires c κs = search needs
 add-end : tie.Need-add-end
 add-end c = omega (arith, ap (λ (f : Found). f .end) (c .before .suffix-of .ensures ∙ ap suffixOf (tail-part (c .before .before .before .before .before .args .t .now) (c .before .before .before .run-len .result))), suffix-le (drop (c .before .before .before .run-len .result) (c .before .before .before .before .before .args .t .now)), length-drop (c .before .before .before .run-len .result) (c .before .before .before .before .before .args .t .now), c .before .before .before .run-len .ensures, run-le intChar (c .before .before .before .before .before .args .t .now))
 
-sub-is-asked-behind : tie.Need-sub-is-asked-behind
-sub-is-asked-behind c = omega (arith, c .before .before .before .run-len .ensures, run-le intChar (c .before .before .before .before .before .args .t .now))
-
-part-is-asked-behind-start : tie.Need-part-is-asked-behind-start
-part-is-asked-behind-start c = omega (arith, c .before .before .before .run-len .ensures, run-le intChar (c .before .before .before .before .before .args .t .now))
-
-part-is-asked-behind-end : tie.Need-part-is-asked-behind-end
-part-is-asked-behind-end c = search needs
-
-is-asked-behind-requires : tie.Need-is-asked-behind-requires
-is-asked-behind-requires c κs = rw (tail-part (c .before .before .before .before .before .before .args .t .now) (c .before .before .before .before .run-len .result)) (omega (arith, ap (λ (f : Found). f .end) (c .before .before .suffix-of .ensures ∙ ap suffixOf (tail-part (c .before .before .before .before .before .before .args .t .now) (c .before .before .before .before .run-len .result))), suffix-le (drop (c .before .before .before .before .run-len .result) (c .before .before .before .before .before .before .args .t .now)), length-drop (c .before .before .before .before .run-len .result) (c .before .before .before .before .before .before .args .t .now), c .before .before .before .before .run-len .ensures, run-le intChar (c .before .before .before .before .before .before .args .t .now)))
-
-foreign-char-requires : tie.Need-foreign-char-requires
-foreign-char-requires c κs = search needs
-
-returns : tie.Need-returns
-returns c = ap refused (c .foreign-char .ensures) ∙ asked-said (c .before .before .before .before .before .before .before .before .before .args .asked) (c .before .before .before .before .before .before .before .before .before .args .minus) (c .before .before .before .before .before .before .before .before .before .args .base) (c .before .before .before .before .before .before .before .before .before .args .t .now) (c .before .before .before .before .before .before .before .run-len .result) (c .before .before .before .before .before .suffix-of .result) (c .before .before .before .before .before .before .before .run-len .ensures) (c .before .before .before .before .before .suffix-of .ensures ∙ ap suffixOf (tail-part (c .before .before .before .before .before .before .before .before .before .args .t .now) (c .before .before .before .before .before .before .before .run-len .result))) (ap (askedBehind (c .before .before .before .before .before .suffix-of .result)) (sym (tail-part (c .before .before .before .before .before .before .before .before .before .args .t .now) (c .before .before .before .before .before .before .before .run-len .result))) ∙ sym (c .before .before .is-asked-behind .ensures) ∙ c .before .if1 .taken)
-
 chosen-requires : tie.Need-chosen-requires
 chosen-requires c κs = search needs
 
 slice-aggregate-parse-integer : tie.Need-slice-aggregate-parse-integer
-slice-aggregate-parse-integer c = sym (length-take-le (c .before .before .before .before .before .before .before .before .run-len .result) (c .before .before .before .before .before .before .before .before .before .before .args .t .now) (omega (arith, c .before .before .before .before .before .before .before .before .run-len .ensures, run-le intChar (c .before .before .before .before .before .before .before .before .before .before .args .t .now))))
+slice-aggregate-parse-integer c = sym (length-take-le (c .before .before .before .before .before .run-len .result) (c .before .before .before .before .before .before .before .args .t .now) (omega (arith, c .before .before .before .before .before .run-len .ensures, run-le intChar (c .before .before .before .before .before .before .before .args .t .now))))
 
 parse-integer-requires : tie.Need-parse-integer-requires
 parse-integer-requires c κs = search needs
@@ -65,10 +45,10 @@ parse-integer-requires c κs = search needs
 behind-run-requires : tie.Need-behind-run-requires
 behind-run-requires c κs = search needs
 
-returns-2 : tie.Need-returns-2
-returns-2 c =
-    let run : c .before .parse-integer .result ≡ _ = c .before .parse-integer .ensures ∙ ap (λ (code : ℕ). runOf (limitAt code (c .before .before .before .before .before .before .before .before .before .before .before .before .args .minus)) (c .before .before .before .before .before .before .before .before .before .before .before .before .args .base) (take (c .before .before .before .before .before .before .before .before .before .before .run-len .result) (c .before .before .before .before .before .before .before .before .before .before .before .before .args .t .now))) (c .before .before .before .chosen .ensures) in
-    c .behind-run .ensures ∙ judged-said (c .before .before .before .before .before .before .before .before .before .before .before .before .args .asked) (c .before .before .before .before .before .before .before .before .before .before .before .before .args .minus) (c .before .before .before .before .before .before .before .before .before .before .before .before .args .base) (c .before .before .before .before .before .before .before .before .before .before .before .before .args .t .now) (c .before .before .before .before .before .before .before .before .before .before .run-len .result) (c .before .before .before .before .before .before .before .before .suffix-of .result) (c .before .before .before .before .before .before .before .before .before .before .run-len .ensures) (c .before .before .before .before .before .before .before .before .suffix-of .ensures ∙ ap suffixOf (tail-part (c .before .before .before .before .before .before .before .before .before .before .before .before .args .t .now) (c .before .before .before .before .before .before .before .before .before .before .run-len .result))) (ap (askedBehind (c .before .before .before .before .before .before .before .before .suffix-of .result)) (sym (tail-part (c .before .before .before .before .before .before .before .before .before .before .before .before .args .t .now) (c .before .before .before .before .before .before .before .before .before .before .run-len .result))) ∙ sym (c .before .before .before .before .before .is-asked-behind .ensures) ∙ c .before .before .before .before .if1 .left) (c .before .parse-integer .result) run
+returns : tie.Need-returns
+returns c =
+    let run : c .before .parse-integer .result ≡ _ = c .before .parse-integer .ensures ∙ ap (λ (code : ℕ). runOf (limitAt code (c .before .before .before .before .before .before .before .before .before .args .minus)) (c .before .before .before .before .before .before .before .before .before .args .base) (take (c .before .before .before .before .before .before .before .run-len .result) (c .before .before .before .before .before .before .before .before .before .args .t .now))) (c .before .before .before .chosen .ensures) in
+    c .behind-run .ensures ∙ judged-said (c .before .before .before .before .before .before .before .before .before .args .asked) (c .before .before .before .before .before .before .before .before .before .args .minus) (c .before .before .before .before .before .before .before .before .before .args .base) (c .before .before .before .before .before .before .before .before .before .args .t .now) (c .before .before .before .before .before .before .before .run-len .result) (c .before .before .before .before .before .suffix-of .result) (c .before .before .before .before .before .before .before .run-len .ensures) (c .before .before .before .before .before .suffix-of .ensures ∙ ap suffixOf (tail-part (c .before .before .before .before .before .before .before .before .before .args .t .now) (c .before .before .before .before .before .before .before .run-len .result))) (c .before .parse-integer .result) run
 
 pub digits-and-suffix-spec : {M : Type 1} → statement M
 digits-and-suffix-spec =
@@ -80,14 +60,8 @@ digits-and-suffix-spec =
     part-suffix-of-end
     suffix-of-requires
     add-end
-    sub-is-asked-behind
-    part-is-asked-behind-start
-    part-is-asked-behind-end
-    is-asked-behind-requires
-    foreign-char-requires
-    returns
     chosen-requires
     slice-aggregate-parse-integer
     parse-integer-requires
     behind-run-requires
-    returns-2)
+    returns)

@@ -1,72 +1,44 @@
-use Prim.Native.Nat.{_+_, _-_, _≤_, ℕ}
+use Prim.Native.Nat.{ℕ, _+_}
 use native.Mathlib.Omega.{arith}
-use mathlib.Core.Bool.{Bool}
-use mathlib.Core.List.{List}
-use mathlib.Core.Path.{_∙_, _≡_, ap, sym}
-use lib.ListN.{drop, length, length-drop, take}
+use mathlib.Core.Path.{_∙_, ap, ap₂, refl, sym}
+use lib.ListN.{drop, length-drop}
 use borrow.Author.Needs.{needs}
-use Rattle.names.proofs.CharLaws.{char-le, run-ends, run-on, run-stops}
+use Rattle.names.proofs.CharLaws.{chars-le}
+use Rattle.names.proofs.NearLaws.{near-run, run-done}
+use Rattle.names.specs.Characters.{charIf, chars, identChar, near}
+use Rattle.text.proofs.Lists.{on-part, tail-part}
 use Rattle.names.proofs.characters.next_chars_while_len.Statement.{statement}
-use Rattle.names.specs.Characters.{charIf, chars, identChar}
-use Rattle.text.proofs.Lists.{tail-part}
 use Rattle.names.proofs.characters.next_chars_while_len.Tie as tie
 
-abbrev Inv-loop : tie.InvT-loop
-Inv-loop s class i₀ i = (i ≤ length s) × (i + chars (identChar class) (drop i s) ≡ chars (identChar class) s)
+near-len-requires : tie.Need-near-len-requires
+near-len-requires c κs = search needs
 
--- what `char_if` answers on the part from a place, and that it lies within the text
-len : (p : ℕ → Bool) (s : List ℕ) (i n : ℕ) → n ≡ charIf p (take (length s - i) (drop i s)) → charIf p (drop i s) ≡ n
-len p s i n e = ap (charIf p) (sym (tail-part s i)) ∙ sym e
+sub-far-len : tie.Need-sub-far-len
+sub-far-len c = omega (arith, c .near-len .ensures, chars-le (near (identChar (c .before .before .args .class))) (c .before .before .args .s .now))
 
-fits : (p : ℕ → Bool) (s : List ℕ) (i n : ℕ) → n ≡ charIf p (take (length s - i) (drop i s)) → n ≤ length s - i
-fits p s i n e = omega (arith, len p s i n e, char-le p (drop i s), length-drop i s)
+part-far-len-start : tie.Need-part-far-len-start
+part-far-len-start c = omega (arith, c .near-len .ensures, chars-le (near (identChar (c .before .before .args .class))) (c .before .before .args .s .now))
 
-abbrev μ-loop : tie.MeasureT-loop
-μ-loop s class i₀ i = length s - i
+part-far-len-end : tie.Need-part-far-len-end
+part-far-len-end c = search needs
 
-loop-holds : tie.Need-loop-holds Inv-loop μ-loop
-loop-holds c = (search needs, omega arith)
+far-len-requires : tie.Need-far-len-requires
+far-len-requires c κs = ap (charIf (near (identChar (c .before .before .before .args .class)))) (tail-part (c .before .before .before .args .s .now) (c .before .near-len .result)) ∙ ap (λ (n : ℕ). charIf (near (identChar (c .before .before .before .args .class))) (drop n (c .before .before .before .args .s .now))) (c .before .near-len .ensures) ∙ run-done (near (identChar (c .before .before .before .args .class))) (c .before .before .before .args .s .now)
 
-sub-char-if : tie.Need-sub-char-if Inv-loop μ-loop
-sub-char-if c = search needs
+add-result : tie.Need-add-result
+add-result c = omega (arith, c .before .before .near-len .ensures, chars-le (near (identChar (c .before .before .before .before .args .class))) (c .before .before .before .before .args .s .now), on-part (chars (identChar (c .before .before .before .before .args .class))) (c .before .before .before .before .args .s .now) (c .before .before .near-len .result) (c .far-len .result) _ (c .far-len .ensures) refl, chars-le (identChar (c .before .before .before .before .args .class)) (drop (c .before .before .near-len .result) (c .before .before .before .before .args .s .now)), length-drop (c .before .before .near-len .result) (c .before .before .before .before .args .s .now))
 
-part-char-if-start : tie.Need-part-char-if-start Inv-loop μ-loop
-part-char-if-start c = search needs
-
-part-char-if-end : tie.Need-part-char-if-end Inv-loop μ-loop
-part-char-if-end c = search needs
-
-char-if-requires : tie.Need-char-if-requires Inv-loop μ-loop
-char-if-requires c κs = search needs
-
-returns : tie.Need-returns Inv-loop μ-loop
-returns c = sym (run-stops (identChar (c .before .before .before .before .before .before .args .class)) (c .before .before .before .before .before .before .args .s .now) (c .before .before .before .before .loop .i) (len (identChar (c .before .before .before .before .before .before .args .class)) (c .before .before .before .before .before .before .args .s .now) (c .before .before .before .before .loop .i) _ (c .before .char-if .ensures) ∙ c .if1 .taken)) ∙ c .before .before .before .before .loop .inv .1
-
-add-i : tie.Need-add-i Inv-loop μ-loop
-add-i c = omega (arith, fits (identChar (c .before .before .before .before .before .before .args .class)) (c .before .before .before .before .before .before .args .s .now) (c .before .before .before .before .loop .i) _ (c .before .char-if .ensures))
-
-loop-less : tie.Need-loop-less Inv-loop μ-loop
-loop-less c = omega (arith, c .if1 .left, fits (identChar (c .before .before .before .before .before .before .args .class)) (c .before .before .before .before .before .before .args .s .now) (c .before .before .before .before .loop .i) _ (c .before .char-if .ensures))
-
-loop-again : tie.Need-loop-again Inv-loop μ-loop
-loop-again c = (omega (arith, fits (identChar (c .before .before .before .before .before .before .args .class)) (c .before .before .before .before .before .before .args .s .now) (c .before .before .before .before .loop .i) _ (c .before .char-if .ensures)), sym (run-on (identChar (c .before .before .before .before .before .before .args .class)) (c .before .before .before .before .before .before .args .s .now) (c .before .before .before .before .loop .i) _ (len (identChar (c .before .before .before .before .before .before .args .class)) (c .before .before .before .before .before .before .args .s .now) (c .before .before .before .before .loop .i) _ (c .before .char-if .ensures)) (omega (arith, c .if1 .left))) ∙ c .before .before .before .before .loop .inv .1)
-
-returns-2 : tie.Need-returns-2 Inv-loop μ-loop
-returns-2 c = sym (run-ends (identChar (c .before .before .before .args .class)) (c .before .before .before .args .s .now) (c .before .loop .i) (search needs)) ∙ c .before .loop .inv .1
+returns : tie.Need-returns
+returns c = ap₂ (λ (a b : ℕ). a + b) (c .before .before .near-len .ensures) (sym (on-part (chars (identChar (c .before .before .before .before .args .class))) (c .before .before .before .before .args .s .now) (c .before .before .near-len .result) (c .far-len .result) _ (c .far-len .ensures) refl) ∙ ap (λ (n : ℕ). chars (identChar (c .before .before .before .before .args .class)) (drop n (c .before .before .before .before .args .s .now))) (c .before .before .near-len .ensures)) ∙ sym (near-run (identChar (c .before .before .before .before .args .class)) (c .before .before .before .before .args .s .now))
 
 pub next-chars-while-len-spec : {M : Type 1} → statement M
 next-chars-while-len-spec =
     tie.close
     (tie.spec
-    Inv-loop
-    μ-loop
-    loop-holds
-    sub-char-if
-    part-char-if-start
-    part-char-if-end
-    char-if-requires
-    returns
-    add-i
-    loop-less
-    loop-again
-    returns-2)
+    near-len-requires
+    sub-far-len
+    part-far-len-start
+    part-far-len-end
+    far-len-requires
+    add-result
+    returns)

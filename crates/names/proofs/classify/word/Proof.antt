@@ -23,9 +23,6 @@ name-requires c κs = subst (Within (c .before .before .before .before .before .
 enum-known-found-2 : tie.Need-enum-known-found-2
 enum-known-found-2 c = search needs
 
-enum-known-found-3 : tie.Need-enum-known-found-3
-enum-known-found-3 c = search needs
-
 returns : tie.Need-returns
 unfolding wordOf
 returns c = rw (c .missing .ensures) (sym (ap (byIdentifier (c .before .before .before .before .before .args .s .now)) (sym (c .before .before .before .skip-identifier .ensures) ∙ c .before .enum-told .given .1)))
@@ -38,10 +35,6 @@ returns-3 : tie.Need-returns-3
 unfolding wordOf
 returns-3 c = sym (ap (byIdentifier (c .before .before .before .before .before .args .s .now)) (sym (c .before .before .before .skip-identifier .ensures) ∙ c .before .found2 .given .1))
 
-returns-4 : tie.Need-returns-4
-unfolding wordOf
-returns-4 c = sym (ap (byIdentifier (c .before .before .before .before .before .args .s .now)) (sym (c .before .before .before .skip-identifier .ensures) ∙ c .before .found3 .given .1))
-
 pub word-spec : {M : Type 1} → statement M
 word-spec =
     tie.close
@@ -52,8 +45,6 @@ word-spec =
     enum-known-found
     name-requires
     enum-known-found-2
-    enum-known-found-3
     returns
     returns-2
-    returns-3
-    returns-4)
+    returns-3)

@@ -8,7 +8,7 @@ use Rattle.names.proofs.CharLaws.{chars-le}
 use Rattle.names.proofs.identifiers.raw.Statement.{statement}
 use Rattle.names.specs.Characters.{chars}
 use Rattle.names.specs.Identifiers.{rawOf}
-use Rattle.text.specs.Classes.{identRaw, foreignAhead}
+use Rattle.text.specs.Classes.{identRaw}
 use Rattle.text.proofs.Lists.{on-part}
 use Rattle.names.proofs.identifiers.raw.Tie as tie
 
@@ -27,32 +27,13 @@ next-chars-while-len-requires c κs = search needs
 add-end : tie.Need-add-end
 add-end c = omega (arith, on-part (chars identRaw) (c .before .before .before .args .s .now) 2 (c .next-chars-while-len .result) _ (c .next-chars-while-len .ensures) refl, chars-le identRaw (drop 2 (c .before .before .before .args .s .now)), length-drop 2 (c .before .before .before .args .s .now))
 
-sub-is-foreign-ahead : tie.Need-sub-is-foreign-ahead
-sub-is-foreign-ahead c = omega (arith, on-part (chars identRaw) (c .before .before .before .args .s .now) 2 (c .next-chars-while-len .result) _ (c .next-chars-while-len .ensures) refl, chars-le identRaw (drop 2 (c .before .before .before .args .s .now)), length-drop 2 (c .before .before .before .args .s .now))
-
-part-is-foreign-ahead-start : tie.Need-part-is-foreign-ahead-start
-part-is-foreign-ahead-start c = omega (arith, on-part (chars identRaw) (c .before .before .before .args .s .now) 2 (c .next-chars-while-len .result) _ (c .next-chars-while-len .ensures) refl, chars-le identRaw (drop 2 (c .before .before .before .args .s .now)), length-drop 2 (c .before .before .before .args .s .now))
-
-part-is-foreign-ahead-end : tie.Need-part-is-foreign-ahead-end
-part-is-foreign-ahead-end c = search needs
-
-is-foreign-ahead-requires : tie.Need-is-foreign-ahead-requires
-is-foreign-ahead-requires c κs = search needs
-
-foreign-char-requires : tie.Need-foreign-char-requires
-foreign-char-requires c κs = search needs
-
 returns : tie.Need-returns
 unfolding rawOf
-returns c = simp (on-part (chars identRaw) (c .before .before .before .before .before .before .before .args .s .now) 2 (c .before .before .before .before .next-chars-while-len .result) _ (c .before .before .before .before .next-chars-while-len .ensures) refl, on-part foreignAhead (c .before .before .before .before .before .before .before .args .s .now) (2 + (c .before .before .before .before .next-chars-while-len .result)) _ _ (c .before .before .is-foreign-ahead .ensures) (c .before .if1 .taken), c .foreign-char .ensures)
+returns c = simp (on-part (chars identRaw) (c .before .before .before .before .args .s .now) 2 (c .before .next-chars-while-len .result) _ (c .before .next-chars-while-len .ensures) refl, eq-eqb _ _ (c .if1 .taken))
 
 returns-2 : tie.Need-returns-2
 unfolding rawOf
-returns-2 c = simp (on-part (chars identRaw) (c .before .before .before .before .before .before .before .args .s .now) 2 (c .before .before .before .before .next-chars-while-len .result) _ (c .before .before .before .before .next-chars-while-len .ensures) refl, on-part foreignAhead (c .before .before .before .before .before .before .before .args .s .now) (2 + (c .before .before .before .before .next-chars-while-len .result)) _ _ (c .before .before .is-foreign-ahead .ensures) (c .before .if1 .left), eq-eqb _ _ (c .if2 .taken))
-
-returns-3 : tie.Need-returns-3
-unfolding rawOf
-returns-3 c = simp (on-part (chars identRaw) (c .before .before .before .before .before .before .before .args .s .now) 2 (c .before .before .before .before .next-chars-while-len .result) _ (c .before .before .before .before .next-chars-while-len .ensures) refl, on-part foreignAhead (c .before .before .before .before .before .before .before .args .s .now) (2 + (c .before .before .before .before .next-chars-while-len .result)) _ _ (c .before .before .is-foreign-ahead .ensures) (c .before .if1 .left), ne-eqb _ _ (c .if2 .left))
+returns-2 c = simp (on-part (chars identRaw) (c .before .before .before .before .args .s .now) 2 (c .before .next-chars-while-len .result) _ (c .before .next-chars-while-len .ensures) refl, ne-eqb _ _ (c .if1 .left))
 
 pub raw-spec : {M : Type 1} → statement M
 raw-spec =
@@ -63,11 +44,5 @@ raw-spec =
     part-next-chars-while-len-end
     next-chars-while-len-requires
     add-end
-    sub-is-foreign-ahead
-    part-is-foreign-ahead-start
-    part-is-foreign-ahead-end
-    is-foreign-ahead-requires
-    foreign-char-requires
     returns
-    returns-2
-    returns-3)
+    returns-2)

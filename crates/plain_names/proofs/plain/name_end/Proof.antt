@@ -5,13 +5,13 @@ use lib.ListN.{drop, length}
 use borrow.Author.Needs.{needs}
 use borrow.Author.Tests.{not-false, not-true}
 use Rattle.text.proofs.RunLaws.{run-end, run-more, run-out}
-use Rattle.text.specs.Classes.{identNext}
+use Rattle.text.specs.Classes.{asciiNext}
 use Rattle.text.specs.Runs.{run}
 use Rattle.plain_names.proofs.plain.name_end.Statement.{statement}
 use Rattle.plain_names.proofs.plain.name_end.Tie as tie
 
 abbrev Inv-loop : tie.InvT-loop
-Inv-loop text at i₀ i = (i ≤ length text) × (i + run identNext (drop i text) ≡ at + run identNext (drop at text))
+Inv-loop text at i₀ i = (i ≤ length text) × (i + run asciiNext (drop i text) ≡ at + run asciiNext (drop at text))
 
 abbrev μ-loop : tie.MeasureT-loop
 μ-loop text at i₀ i = length text - i
@@ -19,18 +19,18 @@ abbrev μ-loop : tie.MeasureT-loop
 loop-holds : tie.Need-loop-holds Inv-loop μ-loop
 loop-holds c = (search needs, refl)
 
-shared-slice-read-is-ident-next-char :
-    tie.Need-shared-slice-read-is-ident-next-char Inv-loop μ-loop
-shared-slice-read-is-ident-next-char c = search needs
+shared-slice-read-is-ascii-next :
+    tie.Need-shared-slice-read-is-ascii-next Inv-loop μ-loop
+shared-slice-read-is-ascii-next c = search needs
 
-cast-is-ident-next-char : tie.Need-cast-is-ident-next-char Inv-loop μ-loop
-cast-is-ident-next-char c = omega (arith, c .shared-slice-known2 .given (c .before .before .loop .i))
+cast-is-ascii-next : tie.Need-cast-is-ascii-next Inv-loop μ-loop
+cast-is-ascii-next c = omega (arith, c .shared-slice-known2 .given (c .before .before .loop .i))
 
-is-ident-next-char-requires : tie.Need-is-ident-next-char-requires Inv-loop μ-loop
-is-ident-next-char-requires c κs = search needs
+is-ascii-next-requires : tie.Need-is-ascii-next-requires Inv-loop μ-loop
+is-ascii-next-requires c κs = search needs
 
 returns : tie.Need-returns Inv-loop μ-loop
-returns c = omega (arith, c .before .before .before .before .loop .inv .1, run-out identNext (c .before .before .before .before .before .before .args .text .now) (c .before .before .before .before .loop .i) (c .before .before .before .loop-test .taken) (sym (c .before .is-ident-next-char .ensures) ∙ not-true _ (c .if1 .taken)))
+returns c = omega (arith, c .before .before .before .before .loop .inv .1, run-out asciiNext (c .before .before .before .before .before .before .args .text .now) (c .before .before .before .before .loop .i) (c .before .before .before .loop-test .taken) (sym (c .before .is-ascii-next .ensures) ∙ not-true _ (c .if1 .taken)))
 
 add-i : tie.Need-add-i Inv-loop μ-loop
 add-i c = search needs
@@ -39,10 +39,10 @@ loop-less : tie.Need-loop-less Inv-loop μ-loop
 loop-less c = search needs
 
 loop-again : tie.Need-loop-again Inv-loop μ-loop
-loop-again c = (search needs, omega (arith, c .before .before .before .before .loop .inv .1, run-more identNext (c .before .before .before .before .before .before .args .text .now) (c .before .before .before .before .loop .i) (c .before .before .before .loop-test .taken) (sym (c .before .is-ident-next-char .ensures) ∙ not-false _ (c .if1 .left))))
+loop-again c = (search needs, omega (arith, c .before .before .before .before .loop .inv .1, run-more asciiNext (c .before .before .before .before .before .before .args .text .now) (c .before .before .before .before .loop .i) (c .before .before .before .loop-test .taken) (sym (c .before .is-ascii-next .ensures) ∙ not-false _ (c .if1 .left))))
 
 returns-2 : tie.Need-returns-2 Inv-loop μ-loop
-returns-2 c = omega (arith, c .before .loop .inv .1, run-end identNext (c .before .before .before .args .text .now) (c .before .loop .i) (c .loop-test .left))
+returns-2 c = omega (arith, c .before .loop .inv .1, run-end asciiNext (c .before .before .before .args .text .now) (c .before .loop .i) (c .loop-test .left))
 
 pub name-end-spec : {M : Type 1} → statement M
 name-end-spec =
@@ -51,9 +51,9 @@ name-end-spec =
     Inv-loop
     μ-loop
     loop-holds
-    shared-slice-read-is-ident-next-char
-    cast-is-ident-next-char
-    is-ident-next-char-requires
+    shared-slice-read-is-ascii-next
+    cast-is-ascii-next
+    is-ascii-next-requires
     returns
     add-i
     loop-less

@@ -18,19 +18,19 @@ behind : (c : tie.After-name-end)
     ≡ cond (quietByte (getD (c .before .before .before .before .before .args .text .now) (c .name-end .result) 0) && not (beginsFloat (drop (c .before .before .before .before .before .args .at) (c .before .before .before .before .before .args .text .now)))) (c .name-end .result - c .before .before .before .before .before .args .at) 0
 behind c =
     from-first (c .before .before .before .before .before .args .text .now) (c .before .before .before .before .before .args .at) (c .name-end .result) (c .before .before .before .before .before .pre)
-    (sym (c .before .before .is-ident-first-char .ensures) ∙ not-false _ (c .before .if1 .left)) (c .name-end .ensures)
+    (sym (c .before .before .is-ascii-first .ensures) ∙ not-false _ (c .before .if1 .left)) (c .name-end .ensures)
 
-shared-slice-read-is-ident-first-char : tie.Need-shared-slice-read-is-ident-first-char
-shared-slice-read-is-ident-first-char c = search needs
+shared-slice-read-is-ascii-first : tie.Need-shared-slice-read-is-ascii-first
+shared-slice-read-is-ascii-first c = search needs
 
-cast-is-ident-first-char : tie.Need-cast-is-ident-first-char
-cast-is-ident-first-char c = omega (arith, c .shared-slice-known2 .given (c .before .before .args .at))
+cast-is-ascii-first : tie.Need-cast-is-ascii-first
+cast-is-ascii-first c = omega (arith, c .shared-slice-known2 .given (c .before .before .args .at))
 
-is-ident-first-char-requires : tie.Need-is-ident-first-char-requires
-is-ident-first-char-requires c κs = search needs
+is-ascii-first-requires : tie.Need-is-ascii-first-requires
+is-ascii-first-requires c κs = search needs
 
 returns : tie.Need-returns
-returns c = sym (not-first (c .before .before .before .before .args .text .now) (c .before .before .before .before .args .at) (sym (c .before .is-ident-first-char .ensures) ∙ not-true _ (c .if1 .taken)))
+returns c = sym (not-first (c .before .before .before .before .args .text .now) (c .before .before .before .before .args .at) (sym (c .before .is-ascii-first .ensures) ∙ not-true _ (c .if1 .taken)))
 
 add-name-end : tie.Need-add-name-end
 add-name-end c = search needs
@@ -66,9 +66,9 @@ pub plain-name-spec : {M : Type 1} → statement M
 plain-name-spec =
     tie.close
     (tie.spec
-    shared-slice-read-is-ident-first-char
-    cast-is-ident-first-char
-    is-ident-first-char-requires
+    shared-slice-read-is-ascii-first
+    cast-is-ascii-first
+    is-ascii-first-requires
     returns
     add-name-end
     name-end-requires

@@ -1,7 +1,7 @@
 use Prim.Native.Nat.{ℕ}
 use native.Mathlib.Omega.{arith}
 use mathlib.Core.List.{List}
-use mathlib.Core.Path.{_≡_, ap}
+use mathlib.Core.Path.{_≡_}
 use lib.ListN.{drop, length}
 use borrow.Author.Needs.{needs}
 use Rattle.names.specs.Identifiers.{skipIdentifierOf}
@@ -9,7 +9,6 @@ use Rattle.names.specs.declared.Identifier.{Identifier}
 use Rattle.structs.proofs.TypeLaws.{NameFits, name-at}
 use Rattle.structs.proofs.types.contents.Statement.{statement}
 use Rattle.structs.specs.Structs.{contentsOf}
-use Rattle.structs.specs.declared.kinds.StructAnswer.the-variants.{Refused}
 use Rattle.text.proofs.Lists.{on-part}
 use Rattle.names.specs.declared.Identifier.the-variants as name
 use Rattle.structs.proofs.types.contents.Tie as tie
@@ -62,12 +61,6 @@ add-behind-name-2 c = let f = within (c .before .before .before) (name.RawName _
 behind-name-requires-2 : tie.Need-behind-name-requires-2
 behind-name-requires-2 c κs = within (c .before .before .before) (name.RawName _) (c .before .name2 .given .1)
 
-enum-known-name-3 : tie.Need-enum-known-name-3
-enum-known-name-3 c = search needs
-
-placed-behind-requires : tie.Need-placed-behind-requires
-placed-behind-requires c κs = let f = within (c .before .before .before) (name.Refused _) (c .before .name3 .given .1) in omega arith
-
 returns : tie.Need-returns
 unfolding contentsOf
 returns c = rw (name-is (c .before .before .before) name.Missing (c .before .enum-told .given .1)) (c .undecided .ensures)
@@ -79,10 +72,6 @@ returns-2 c = rw (name-is (c .before .before .before .before) (name.Name _) (c .
 returns-3 : tie.Need-returns-3
 unfolding contentsOf
 returns-3 c = rw (name-is (c .before .before .before .before) (name.RawName _) (c .before .before .name2 .given .1)) (c .behind-name2 .ensures)
-
-returns-4 : tie.Need-returns-4
-unfolding contentsOf
-returns-4 c = rw (name-is (c .before .before .before .before) (name.Refused _) (c .before .before .name3 .given .1)) (ap Refused (c .placed-behind .ensures))
 
 pub contents-spec : {M : Type 1} → statement M
 contents-spec =
@@ -100,9 +89,6 @@ contents-spec =
     enum-known-name-2
     add-behind-name-2
     behind-name-requires-2
-    enum-known-name-3
-    placed-behind-requires
     returns
     returns-2
-    returns-3
-    returns-4)
+    returns-3)

@@ -1,32 +1,23 @@
-use mathlib.Core.Path.{sym, _∙_}
+use mathlib.Core.Path.{_≡_, sym, _∙_}
 use borrow.Author.Needs.{needs}
+use borrow.Author.Tests.{lt-ltb, le-ltb}
+use Rattle.text.specs.Classes.{identNext}
 use Rattle.text.proofs.classes.is_ident_next_char.Statement.{statement}
-use Rattle.text.specs.Classes.{digit, identNext}
 use Rattle.text.proofs.classes.is_ident_next_char.Tie as tie
 
--- src/classes.rt:137:8
-is-letter-requires : tie.Need-is-letter-requires
-is-letter-requires c κs = search needs
+is-ascii-next-requires : tie.Need-is-ascii-next-requires
+is-ascii-next-requires c κs = search needs
 
--- src/classes.rt:138:9
 returns : tie.Need-returns
-unfolding identNext digit
-returns c = simp (sym (c .before .is-letter .ensures) ∙ c .if1 .taken)
+unfolding identNext
+returns c = rw (lt-ltb _ _ (c .before .if1 .taken)) (c .is-ascii-next .ensures)
 
--- src/classes.rt:140:8
-is-between-requires : tie.Need-is-between-requires
-is-between-requires c κs = search needs
+is-xid-continue-requires : tie.Need-is-xid-continue-requires
+is-xid-continue-requires c κs = search needs
 
--- src/classes.rt:141:9
 returns-2 : tie.Need-returns-2
-unfolding identNext digit
-returns-2 c = simp (sym (c .before .before .before .is-letter .ensures) ∙ c .before .before .if1 .left, sym (c .before .is-between .ensures) ∙ c .if2 .taken)
-
--- src/classes.rt:134:1
-returns-3 : tie.Need-returns-3
-unfolding identNext digit
-returns-3 c = simp (sym (c .before .before .before .is-letter .ensures) ∙ c .before .before .if1 .left, sym (c .before .is-between .ensures) ∙ c .if2 .left)
+unfolding identNext
+returns-2 c = rw (le-ltb _ _ (c .before .if1 .left)) (c .is-xid-continue .ensures)
 
 pub is-ident-next-char-spec : {M : Type 1} → statement M
-is-ident-next-char-spec =
-    tie.close (tie.spec is-letter-requires returns is-between-requires returns-2 returns-3)
+is-ident-next-char-spec = tie.close (tie.spec is-ascii-next-requires returns is-xid-continue-requires returns-2)

@@ -1,33 +1,23 @@
+use mathlib.Core.Path.{_≡_, sym, _∙_}
 use borrow.Author.Needs.{needs}
-use borrow.Author.Tests.{eq-eqb, ne-eqb}
-use Rattle.text.proofs.classes.is_ident_raw_char.Statement.{statement}
+use borrow.Author.Tests.{lt-ltb, le-ltb}
 use Rattle.text.specs.Classes.{identRaw}
+use Rattle.text.proofs.classes.is_ident_raw_char.Statement.{statement}
 use Rattle.text.proofs.classes.is_ident_raw_char.Tie as tie
 
--- src/classes.rt:151:9
+is-ascii-raw-requires : tie.Need-is-ascii-raw-requires
+is-ascii-raw-requires c κs = search needs
+
 returns : tie.Need-returns
 unfolding identRaw
-returns c = simp (eq-eqb _ _ (c .if1 .taken))
+returns c = rw (lt-ltb _ _ (c .before .if1 .taken)) (c .is-ascii-raw .ensures)
 
--- src/classes.rt:154:9
+is-xid-continue-requires : tie.Need-is-xid-continue-requires
+is-xid-continue-requires c κs = search needs
+
 returns-2 : tie.Need-returns-2
 unfolding identRaw
-returns-2 c = simp (ne-eqb _ _ (c .before .if1 .left), eq-eqb _ _ (c .if2 .taken))
-
--- src/classes.rt:157:9
-returns-3 : tie.Need-returns-3
-unfolding identRaw
-returns-3 c = simp (ne-eqb _ _ (c .before .before .if1 .left), ne-eqb _ _ (c .before .if2 .left), eq-eqb _ _ (c .if3 .taken))
-
--- src/classes.rt:159:5
-is-ident-next-char-requires : tie.Need-is-ident-next-char-requires
-is-ident-next-char-requires c κs = search needs
-
--- src/classes.rt:147:1
-returns-4 : tie.Need-returns-4
-unfolding identRaw
-returns-4 c = simp (ne-eqb _ _ (c .before .before .before .if1 .left), ne-eqb _ _ (c .before .before .if2 .left), ne-eqb _ _ (c .before .if3 .left), c .is-ident-next-char .ensures)
+returns-2 c = rw (le-ltb _ _ (c .before .if1 .left)) (c .is-xid-continue .ensures)
 
 pub is-ident-raw-char-spec : {M : Type 1} → statement M
-is-ident-raw-char-spec =
-    tie.close (tie.spec returns returns-2 returns-3 is-ident-next-char-requires returns-4)
+is-ident-raw-char-spec = tie.close (tie.spec is-ascii-raw-requires returns is-xid-continue-requires returns-2)

@@ -1,0 +1,3 @@
+pub mod Table
+pub mod Xid
+pub mod Rows
