@@ -35,11 +35,26 @@ use Rattle.read.specs.Read.{fitted, readAnswer, readingOf, roomFor}
 wide-shape : (a b c : ℕ) → 0x80 ≤ a → shapeOf a b c ≡ Word
 unfolding shapeOf markKind startsNumber
 wide-shape a b c h =
-    rw (ne-eqb a 0x28 (λ e. omega arith), ne-eqb a 0x29 (λ e. omega arith), ne-eqb a 0x5b (λ e. omega arith), ne-eqb a 0x5d (λ e. omega arith),
-        ne-eqb a 0x7b (λ e. omega arith), ne-eqb a 0x7d (λ e. omega arith), ne-eqb a 0x2c (λ e. omega arith), ne-eqb a 0x3a (λ e. omega arith),
-        ne-eqb a 0x23 (λ e. omega arith), ne-eqb a 0x22 (λ e. omega arith), ne-eqb a 0x27 (λ e. omega arith), ne-eqb a 0x62 (λ e. omega arith),
-        ne-eqb a 0x72 (λ e. omega arith), ne-eqb a 0x2b (λ e. omega arith), ne-eqb a 0x2d (λ e. omega arith), ne-eqb a 0x2e (λ e. omega arith),
-        le-ltb a 0x30 (omega arith), lt-ltb 0x39 a (omega arith))
+    rw (
+      ne-eqb a 0x28 (λ e. omega arith),
+      ne-eqb a 0x29 (λ e. omega arith),
+      ne-eqb a 0x5b (λ e. omega arith),
+      ne-eqb a 0x5d (λ e. omega arith),
+      ne-eqb a 0x7b (λ e. omega arith),
+      ne-eqb a 0x7d (λ e. omega arith),
+      ne-eqb a 0x2c (λ e. omega arith),
+      ne-eqb a 0x3a (λ e. omega arith),
+      ne-eqb a 0x23 (λ e. omega arith),
+      ne-eqb a 0x22 (λ e. omega arith),
+      ne-eqb a 0x27 (λ e. omega arith),
+      ne-eqb a 0x62 (λ e. omega arith),
+      ne-eqb a 0x72 (λ e. omega arith),
+      ne-eqb a 0x2b (λ e. omega arith),
+      ne-eqb a 0x2d (λ e. omega arith),
+      ne-eqb a 0x2e (λ e. omega arith),
+      le-ltb a 0x30 (omega arith),
+      lt-ltb 0x39 a (omega arith),
+    )
 
 module _ (c : ℕ) (t : List ℕ) (scalar : Scalar c) (wide : 0x80 ≤ c) where
   token-wide : tokenOf (encode c ++ t) ≡ ofWord (wordOf (encode c ++ t))
