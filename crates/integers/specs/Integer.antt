@@ -1,6 +1,5 @@
 -- Integers (document 01, module 5): "A suffix is skipped after a refusal, but not after 8 or 9. Without a suffix, the first of u8, u16, u32, u64 that fits;
 -- after a minus, of i8 to i64; a refusal is the one at 64 bits. A typed read answers the value and the place behind it; with another suffix it is 27".
--- Refusal 3 stands behind a suffix that was found, before the digits are judged.
 use Prim.Native.Nat.{ℕ, _+_}
 use mathlib.Core.List.{List}
 use mathlib.Core.Bool.{Bool, false, cond, not}

@@ -19,6 +19,8 @@ use Rattle.xid.specs.Table.{table}
 use Rattle.xid.specs.Rows.{Lies, Row, classAt, firstAt, lastAt}
 use Rattle.xid.specs.Xid.{continues, starts, xidContinue, xidStart}
 use Rattle.xid.proofs.TableLaws.{continue-lies, lies-continue, lies-start, start-continues, start-lies, table-apart, table-ranges, table-widest}
+use Rattle.given.specs.Given.{Given}
+use Rattle.given.proofs.Calls.{contents-given, decoded-given, integer-given, never-three, read-given, repair-given, skip-given, struct-given, walk-given}
 use Rattle.comments.specs.Gaps.{gapOf}
 use Rattle.comments.specs.declared.gap.Gap.the-variants.{Clear}
 use Rattle.names.specs.Identifiers.{nameLen, rawOf}
@@ -229,6 +231,34 @@ name-read = starts-name
 pub nothing-read : (c : ℕ) (t : List ℕ) → Scalar c → 0x80 ≤ c → (text : List ℕ) (at g : ℕ) → gapOf (drop at text) ≡ Clear g → drop g (drop at text) ≡ encode c ++ t → (es : List Entry) (numbers : ℕ)
     → judgedOf text ≡ Fit → readingOf text ≡ es ▸ readFrom ronToken text at → xidStart c ≡ false → readAnswer text numbers ≡ refused (unexpectedChar (at + g))
 nothing-read = read-nothing
+
+-- No call gives 3: a refusal's number is 1, 2 or one of 4 to 29 (`Given`), of every call.
+pub skip-numbers : (text : List ℕ) (c : ParserCursor) (r : Refusal) → skipOf text c ≡ refused r → Given r
+skip-numbers = skip-given
+
+pub integer-numbers : (text : List ℕ) (place : ℕ) (width : Width) (r : Refusal) → integerOf text place width ≡ refused r → Given r
+integer-numbers = integer-given
+
+pub contents-numbers : (text tape : List ℕ) (count item : ℕ) (r : Refusal) → contentsOf text tape count item ≡ refused r → Given r
+contents-numbers = contents-given
+
+pub decoded-numbers : (text tape : List ℕ) (count item room : ℕ) (r : Refusal) → decodedAnswer text tape count item room ≡ refused r → Given r
+decoded-numbers = decoded-given
+
+pub struct-kind-numbers : (text : List ℕ) (place : ℕ) (newtype : NewtypeMode) (tuple : TupleMode) (r : Refusal) → structKindOf text place newtype tuple ≡ refused r → Given r
+struct-kind-numbers = struct-given
+
+pub read-numbers : (text : List ℕ) (numbers : ℕ) (r : Refusal) → readAnswer text numbers ≡ refused r → Given r
+read-numbers = read-given
+
+pub walk-numbers : (tape : List ℕ) (count limit links : ℕ) (r : Refusal) → walkOf tape count limit links ≡ refused r → Given r
+walk-numbers = walk-given
+
+pub repair-numbers : (tape : List ℕ) (count o a b : ℕ) (text : List ℕ) (r : Refusal) → repairOf tape count o a b text ≡ refused r → Given r
+repair-numbers = repair-given
+
+pub never-3 : (r : Refusal) → Given r → r .number ≡ 3 → ⊥
+never-3 = never-three
 
 -- ---- demand 3: a repair is a fresh reading
 

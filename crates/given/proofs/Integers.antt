@@ -1,0 +1,77 @@
+-- The refusals of integers are given. Assumes nothing.
+use Prim.Native.Nat.{ℕ, _+_}
+use mathlib.Core.Bool.{Bool}
+use mathlib.Core.List.{List}
+use mathlib.Core.Path.{refl}
+use lib.Dec.{eqb}
+use lib.ListN.{drop, length, take}
+use Rattle.text.specs.Classes.{intChar}
+use Rattle.text.specs.Runs.{run}
+use Rattle.digits.specs.Digits.{runOf}
+use Rattle.digits.specs.declared.Run.{Run}
+use Rattle.digits.specs.declared.Run.the-variants.{Value, Empty, Underscore, NotDigit, Over}
+use Rattle.integers.specs.Front.{frontOf}
+use Rattle.integers.specs.Integer.{chosenOf, behindRun, numeralOf, otherSuffix, typedAs, typedOf, anyAs, anyOf}
+use Rattle.integers.specs.Width.{codeOf, limitAt, suffixOf, widest}
+use Rattle.integers.specs.declared.ident.Found.{Found}
+use Rattle.integers.specs.declared.width.Width.{Width}
+use Rattle.integers.specs.declared.integer.Numeral.{Numeral}
+use Rattle.integers.specs.declared.integer.Numeral.the-variants as numeral
+use Rattle.integers.specs.declared.integer.Integer.{Integer}
+use Rattle.integers.specs.declared.integer.Integer.the-variants as integer
+use Rattle.integers.specs.declared.integer.AnyInteger.{AnyInteger}
+use Rattle.integers.specs.declared.integer.AnyInteger.the-variants as any
+use Rattle.given.specs.Given.{Given, given, within}
+use Rattle.given.proofs.Both.{both}
+
+abbrev pub Given-numeral : Numeral → Type 0
+Given-numeral (numeral.Read v found end) = Unit
+Given-numeral (numeral.Refused r) = Given r
+
+abbrev pub Given-integer : Integer → Type 0
+Given-integer (integer.Read v end) = Unit
+Given-integer integer.OtherSuffix = Unit
+Given-integer (integer.Refused r) = Given r
+
+abbrev pub Given-any : AnyInteger → Type 0
+Given-any (any.Read w end) = Unit
+Given-any (any.Refused r) = Given r
+
+behind-run : (found end : ℕ) (r : Run) → Given-numeral (behindRun found end r)
+unfolding given within
+behind-run found end (Value v) = tt
+behind-run found end Empty = refl
+behind-run found end Underscore = refl
+behind-run found end (NotDigit at) = refl
+behind-run found end Over = refl
+
+pub numeral-given : (asked : ℕ) (minus : Bool) (base : ℕ) (t : List ℕ) → Given-numeral (numeralOf asked minus base t)
+unfolding numeralOf
+numeral-given asked minus base t =
+    let n = run intChar t in
+    let f : Found = suffixOf (drop n t) in
+    behind-run (f .code) (length (take n t) + f .end) (runOf (limitAt (chosenOf (f .code) asked) minus) base (take n t))
+
+typed-as : (asked : ℕ) (minus : Bool) (at : ℕ) (n : Numeral) → Given-numeral n → Given-integer (typedAs asked minus at n)
+typed-as asked minus at (numeral.Read v found end) h = both Given-integer (otherSuffix found asked) tt tt
+typed-as asked minus at (numeral.Refused r) h = h
+
+any-as : (minus : Bool) (at : ℕ) (n : Numeral) → Given-numeral n → Given-any (anyAs minus at n)
+any-as minus at (numeral.Read v found end) h = tt
+any-as minus at (numeral.Refused r) h = h
+
+pub typed-given : (width : Width) (s : List ℕ) → Given-integer (typedOf width s)
+unfolding typedOf given within
+typed-given width s =
+    let g = frontOf s in
+    let t = drop (g .end) s in
+    both Given-integer (eqb (length s) 0) refl
+    (typed-as (codeOf width) (g .minus) (g .end) (numeralOf (codeOf width) (g .minus) (g .base) t) (numeral-given (codeOf width) (g .minus) (g .base) t))
+
+pub any-given : (s : List ℕ) → Given-any (anyOf s)
+unfolding anyOf given within
+any-given s =
+    let g = frontOf s in
+    let t = drop (g .end) s in
+    both Given-any (eqb (length s) 0) refl
+    (any-as (g .minus) (g .end) (numeralOf (widest (g .minus)) (g .minus) (g .base) t) (numeral-given (widest (g .minus)) (g .minus) (g .base) t))
