@@ -1,5 +1,5 @@
 -- Characters that are told without the table: they are of the class, and behind a run of them the class's own run goes on. Assumes nothing.
-use Prim.Native.Nat.{ℕ, zero, suc, _+_, _≤_, _<_}
+use Prim.Native.Nat.{ℕ, zero, suc, _+_, _*_, _%_, _≤_, _<_}
 use native.Mathlib.Omega.{arith}
 use native.Mathlib.Nat.{not-suc-le-zero}
 use mathlib.Core.Bool.{Bool, true, false, cond, _&&_, _||_}
@@ -7,18 +7,20 @@ use mathlib.Core.List.{List, [], _∷_}
 use mathlib.Core.Path.{_∙_, _≡_, ap, refl, subst, sym}
 use lib.Dec.{eqb, ltb}
 use lib.ListN.{drop, getD, length}
-use borrow.Author.Tests.{eqb-false, le-ltb, lt-ltb, ltb-false, ne-eqb}
+use borrow.Author.Tests.{eqb-false, le-ltb, lt-leb, lt-ltb, ltb-false, ne-eqb}
 use Rattle.names.proofs.CharLaws.{chars-none}
-use Rattle.names.specs.Characters.{asciiChar, byCharWidth, charIf, chars, charsFrom, identChar, near, wideAhead}
+use Rattle.names.specs.Characters.{asciiChar, byCharWidth, charIf, chars, charsFrom, identChar, near, usualPair, wideAhead}
 use Rattle.names.specs.Identifiers.{nameLen}
 use Rattle.names.specs.declared.Class.{Class}
 use Rattle.names.specs.declared.Class.the-variants.{First, Next, Raw}
 use Rattle.text.proofs.AheadLaws.{char-ascii, char-nil}
-use Rattle.text.proofs.Choices.{and-false, and-true, bool-cases, chosen, either}
-use Rattle.text.proofs.ClassLaws.{first-ascii, next-ascii, raw-ascii}
+use Rattle.text.proofs.Choices.{and-false, and-true, bool-cases, chosen, either, or-true}
+use Rattle.text.proofs.ClassLaws.{above, below, first-ascii, inside, next-ascii, raw-ascii, within-true}
+use Rattle.text.proofs.Lists.{front}
 use Rattle.text.proofs.NameClasses.{usual-first, usual-next, usual-raw}
-use Rattle.text.specs.Classes.{identFirst, identNext}
-use Rattle.text.specs.Utf8.{charLen, codeOf}
+use Rattle.text.proofs.Utf8Laws.{charLen-at}
+use Rattle.text.specs.Classes.{identFirst, identNext, within}
+use Rattle.text.specs.Utf8.{charLen, codeOf, codeOf4, widthOf}
 use Rattle.xid.specs.Xid.{usual}
 
 pub wide-nil : (s : List ℕ) → length s ≡ 0 → wideAhead s ≡ false
@@ -44,6 +46,56 @@ near-below class c h = rw (lt-ltb c 0x80 h) (ascii-char class c h)
 pub near-wide : (class : Class) (c : ℕ) → 0x80 ≤ c → near (identChar class) c ≡ usual c
 near-wide class c h =
     either (bool-cases (usual c)) (λ e. rw (le-ltb c 0x80 h, e, usual-char class c e)) (λ e. rw (le-ltb c 0x80 h, e))
+
+-- the byte at a place, where it is up to U+007F
+pub near-at : (class : Class) (s : List ℕ) (i : ℕ) → i < length s → getD s i 0 < 0x80 → charIf (near (identChar class)) (drop i s) ≡ cond (asciiChar class (getD s i 0)) 1 0
+near-at class s i h l =
+    rw (front s i h)
+    (char-ascii (near (identChar class)) (getD s i 0 ∷ drop (i + 1) s) (omega arith) l ∙ ap (λ (t : Bool). cond t 1 0) (near-below class (getD s i 0) l))
+
+-- ---- two bytes that are a usual letter, range by range
+
+module _ (a b : ℕ) where
+  pub pair-below : a < 0xc3 → usualPair a b ≡ false
+  unfolding usualPair
+  pair-below h = rw (below 0xc3 0xd2 a h)
+
+  pub pair-above : 0xd2 < a → usualPair a b ≡ false
+  unfolding usualPair
+  pair-above h = rw (above 0xc3 0xd2 a h)
+
+  pub pair-low : b < 0x80 → usualPair a b ≡ false
+  unfolding usualPair
+  pair-low h = rw (below 0x80 0xbf b h) (and-false (within 0xc3 0xd2 a))
+
+  pub pair-high : 0xbf < b → usualPair a b ≡ false
+  unfolding usualPair
+  pair-high h = rw (above 0x80 0xbf b h) (and-false (within 0xc3 0xd2 a))
+
+  pub pair-is : 0xc3 ≤ a → a ≤ 0xd2 → 0x80 ≤ b → b ≤ 0xbf → usualPair a b ≡ usual (a % 32 * 64 + b % 64)
+  unfolding usualPair
+  pair-is h k l m = rw (inside 0xc3 0xd2 a h k, inside 0x80 0xbf b l m)
+
+-- such a letter is near, and two bytes wide
+pub pair-char : (class : Class) (s : List ℕ) → 2 ≤ length s → usualPair (getD s 0 0) (getD s 1 0) ≡ true → charIf (near (identChar class)) s ≡ 2
+unfolding usualPair charIf codeOf codeOf4 widthOf
+pair-char class s h e =
+    let a = getD s 0 0 in
+    let b = getD s 1 0 in
+    let x = and-true (within 0xc3 0xd2 a) (within 0x80 0xbf b && usual (a % 32 * 64 + b % 64)) e in
+    let y = and-true (within 0x80 0xbf b) (usual (a % 32 * 64 + b % 64)) (x .1) in
+    let r = within-true 0xc3 0xd2 a (x .0) in
+    rw (
+      charLen-at s (omega arith),
+      le-ltb a 0x80 (omega (arith, r .0)),
+      lt-ltb a 0xE0 (omega (arith, r .1)),
+      y .1,
+      usual-char class _ (y .1),
+      or-true (ltb (a % 32 * 64 + b % 64) 0x80),
+      lt-leb a 0x7F (omega (arith, r .0)),
+      inside 0xC2 0xDF a (omega (arith, r .0)) (omega (arith, r .1)),
+      y .0,
+    )
 
 module _ (p : ℕ → Bool) where
   near-of : (c : ℕ) → near p c ≡ true → p c ≡ true

@@ -6,7 +6,7 @@ use text::utf8;
 use xid::table::table;
 use xid::usual::is_usual;
 ghost use mathlib.Core.Path.{_≡_};
-ghost use Rattle.names.specs.Characters.{asciiChar, identChar, charIf, chars, near, wideAhead};
+ghost use Rattle.names.specs.Characters.{asciiChar, identChar, charIf, chars, near, usualPair, wideAhead};
 
 // A character up to U+007F is of the class.
 pub fn is_ascii_char(class: Class, c: u32) -> bool
@@ -27,6 +27,25 @@ fn is_near(class: Class, c: u32) -> bool
         return is_ascii_char(class, c);
     }
     is_usual(c)
+}
+
+// A usual letter of two bytes, as most accented ones are, told by its bytes.
+fn is_usual_pair(a: u8, b: u8) -> bool
+    ensures { λ r. ⌜ r ≡ usualPair a b ⌝ }
+{
+    if a < 0xc3 {
+        return false;
+    }
+    if 0xd2 < a {
+        return false;
+    }
+    if b < 0x80 {
+        return false;
+    }
+    if 0xbf < b {
+        return false;
+    }
+    is_usual((a % 32) as u32 * 64 + (b % 64) as u32)
 }
 
 fn wide_near_if(class: Class, s: &[u8]) -> usize
@@ -52,6 +71,11 @@ pub fn near_if(class: Class, s: &[u8]) -> usize
         }
         return 0;
     }
+    if 2 <= s.len() {
+        if is_usual_pair(a, s[1]) {
+            return 2;
+        }
+    }
     wide_near_if(class, s)
 }
 
@@ -61,11 +85,19 @@ fn near_len(s: &[u8], class: Class) -> usize
 {
     let mut i = 0;
     while i < s.len() {
-        let n = near_if(class, &s[i..]);
-        if n == 0 {
-            return i;
+        let a = s[i];
+        if a < 0x80 {
+            if !is_ascii_char(class, a as u32) {
+                return i;
+            }
+            i += 1;
+        } else {
+            let n = near_if(class, &s[i..]);
+            if n == 0 {
+                return i;
+            }
+            i += n;
         }
-        i += n;
     }
     i
 }
