@@ -1,12 +1,1 @@
-pub mod Walkable
-pub mod TypedWritten
-pub mod IntegerWritten
-pub mod WrittenWorked
-pub mod AnyWritten
-pub mod EntryTokens
-pub mod IntegerTokens
-pub mod TokenKinds
-pub mod Decodable
-pub mod Retyped
-pub mod WideNames
 pub mod Promises

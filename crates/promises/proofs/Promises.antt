@@ -45,13 +45,13 @@ use Rattle.reading.specs.Readings.{_▸_, counted, entries, entry as then, read
 use Rattle.rows.specs.declared.Entry.{Entry}
 use Rattle.rows.specs.Order.{inOrder}
 use Rattle.rows.specs.Rows.{entriesOf, entryAt}
-use Rattle.promises.specs.Strings.{Handed, IsString}
-use Rattle.promises.specs.Written.{AsByte, AsWritten, IsWritten, byteLiteral}
-use Rattle.promises.proofs.Walkable.{read-walkable}
-use Rattle.promises.proofs.Decodable.{read-decoded, read-too-long, read-contents, repair-decoded}
-use Rattle.promises.proofs.IntegerWritten.{accepted-byte, accepted-written, written-accepted}
-use Rattle.promises.proofs.Retyped.{read-integer}
-use Rattle.promises.proofs.WideNames.{read-nothing, starts-name}
+use Rattle.reread.specs.Strings.{Handed, IsString}
+use Rattle.written.specs.Written.{AsByte, AsWritten, IsWritten, byteLiteral}
+use Rattle.reread.proofs.Walkable.{read-walkable}
+use Rattle.reread.proofs.Decodable.{read-decoded, read-too-long, read-contents, repair-decoded}
+use Rattle.written.proofs.IntegerWritten.{accepted-byte, accepted-written, written-accepted}
+use Rattle.reread.proofs.Retyped.{read-integer}
+use Rattle.reread.proofs.WideNames.{read-nothing, starts-name}
 use Rattle.tokens.specs.Ron.{ronToken}
 use Rattle.tokens.proofs.RonLaws.{laws}
 use Rattle.read.specs.Read.{readAnswer, readTape, readingOf, laidBy, toldRead}

@@ -1,2 +1,1 @@
-pub mod Strings
 pub mod Written

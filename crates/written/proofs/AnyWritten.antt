@@ -26,8 +26,8 @@ use Rattle.integers.specs.declared.integer.AnyInteger.the-variants as any
 use Rattle.integers.specs.declared.integer.Numeral.{Numeral}
 use Rattle.integers.specs.declared.integer.Numeral.the-variants as numeral
 use Rattle.integers.specs.declared.width.Width.{Width}
-use Rattle.promises.specs.Written.{IsWritten, behindDigits, bitsOf, digitsIn, isSigned, suffixIn, unprefixed, writtenLen}
-use Rattle.promises.proofs.TypedWritten.{is-written, numeral-read, width-limit}
+use Rattle.written.specs.Written.{IsWritten, behindDigits, bitsOf, digitsIn, isSigned, suffixIn, unprefixed, writtenLen}
+use Rattle.written.proofs.TypedWritten.{is-written, numeral-read, width-limit}
 
 -- ---- the width of a suffix
 

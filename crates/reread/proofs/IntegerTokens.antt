@@ -28,9 +28,9 @@ use Rattle.strings.specs.declared.chars.ByteAnswer.{ByteAnswer}
 use Rattle.strings.specs.declared.chars.ByteAnswer.the-variants as byte
 use Rattle.tokens.specs.declared.lexeme.LexemeAnswer.the-variants.{Read, Refused}
 use Rattle.sarridok.specs.Typed.{integerAt}
-use Rattle.promises.specs.Written.{byteLiteral, magnitudeIn}
-use Rattle.promises.proofs.AnyWritten.{any-written}
-use Rattle.promises.proofs.IntegerWritten.{written-at}
+use Rattle.written.specs.Written.{byteLiteral, magnitudeIn}
+use Rattle.written.proofs.AnyWritten.{any-written}
+use Rattle.written.proofs.IntegerWritten.{written-at}
 
 -- an integer at the front of s, in a width and of so many bytes
 pub record Again (s : List ℕ) (len detail : ℕ) : Type 0 where

@@ -32,8 +32,8 @@ use Rattle.strings.specs.Chars.{byteOf}
 use Rattle.strings.specs.declared.chars.ByteAnswer.{ByteAnswer}
 use Rattle.strings.specs.declared.chars.ByteAnswer.the-variants as byte
 use Rattle.sarridok.specs.Typed.{Typed, byteAs, integerAt, integerOf, numberOf, placedAt, told}
-use Rattle.promises.specs.Written.{AsByte, AsWritten, IsWritten, bitsOf, byteLiteral, isSigned, magnitudeIn, writtenLen}
-use Rattle.promises.proofs.TypedWritten.{typed-written, width-of, written-typed}
+use Rattle.written.specs.Written.{AsByte, AsWritten, IsWritten, bitsOf, byteLiteral, isSigned, magnitudeIn, writtenLen}
+use Rattle.written.proofs.TypedWritten.{typed-written, width-of, written-typed}
 
 -- an accepted call's own answer
 front-accepted : {A : Type 0} (text : List ℕ) (fits : Bool) (own : Told A) (a : A) → behindFront text fits own ≡ accepted a → own ≡ accepted a

@@ -41,8 +41,8 @@ use Rattle.tokens.specs.declared.lexeme.LexemeAnswer.the-variants.{Read, Refuse
 use Rattle.tokens.specs.declared.lexeme.LexemeAnswer.{LexemeAnswer}
 use Rattle.tokens.specs.declared.shape.Shape.the-variants as shape
 use Rattle.tokens.specs.declared.shape.Shape.{Shape}
-use Rattle.promises.proofs.EntryTokens.{EntryToken, place-fits}
-use Rattle.promises.proofs.IntegerTokens.{Again, number-again, byte-again}
+use Rattle.reread.proofs.EntryTokens.{EntryToken, place-fits}
+use Rattle.reread.proofs.IntegerTokens.{Again, number-again, byte-again}
 
 -- ---- what is read again
 

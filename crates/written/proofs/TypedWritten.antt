@@ -31,7 +31,7 @@ use Rattle.integers.specs.declared.integer.Value.{Value as Number}
 use Rattle.integers.specs.declared.width.Width.{Width}
 use Rattle.integers.specs.declared.width.Width.the-variants.{I8, I16, I32, I64, U8, U16, U32, U64}
 use Rattle.sarridok.specs.Typed.{numberOf}
-use Rattle.promises.specs.Written.{IsWritten, bitsOf, digitsIn, isSigned, magnitudeIn, suffixIn, unprefixed, written, writtenLen}
+use Rattle.written.specs.Written.{IsWritten, bitsOf, digitsIn, isSigned, magnitudeIn, suffixIn, unprefixed, written, writtenLen}
 
 -- ---- widths and signs
 

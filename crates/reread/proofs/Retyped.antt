@@ -15,10 +15,10 @@ use Rattle.rows.specs.declared.Entry.{Entry}
 use Rattle.read.specs.Read.{readAnswer, readTape}
 use Rattle.mending.proofs.Again.{Held, after-read}
 use Rattle.sarridok.specs.Typed.{integerAt, integerOf}
-use Rattle.promises.proofs.EntryTokens.{accepted-fit, row-token}
-use Rattle.promises.proofs.IntegerWritten.{front-answered}
-use Rattle.promises.proofs.TokenKinds.{entry-fits, entry-integer, reread}
-use Rattle.promises.proofs.TypedWritten.{one-width}
+use Rattle.reread.proofs.EntryTokens.{accepted-fit, row-token}
+use Rattle.written.proofs.IntegerWritten.{front-answered}
+use Rattle.reread.proofs.TokenKinds.{entry-fits, entry-integer, reread}
+use Rattle.written.proofs.TypedWritten.{one-width}
 
 -- over a tape that holds the reading of a text
 pub held-integer : (text tape : List ℕ) (count k : ℕ) (width : Width) → judgedOf text ≡ Fit → Held text tape count → k < count

@@ -13,7 +13,7 @@ use Rattle.digits.specs.Value.{valueFrom}
 use Rattle.integers.specs.Front.{frontOf, prefixOf, signOf}
 use Rattle.integers.specs.Width.{suffixOf, suffixWord}
 use Rattle.integers.specs.Words.{firstOf, identOf}
-use Rattle.promises.specs.Written.{written, writtenLen}
+use Rattle.written.specs.Written.{written, writtenLen}
 
 -- `-0x1_0i16 `
 hex : List ℕ

@@ -26,9 +26,9 @@ use Rattle.mending.specs.Fresh.{OldText, freshCall, withKept}
 use Rattle.sarridok.proofs.ContentsAgree.{decoded-length, part-decoded}
 use Rattle.sarridok.proofs.ContentsLaws.{contents-named, decoded-named}
 use Rattle.sarridok.specs.Contents.{contentsOf, decodedAnswer, partOf}
-use Rattle.promises.specs.Strings.{Handed, IsString}
-use Rattle.promises.proofs.EntryTokens.{accepted-fit, row-token}
-use Rattle.promises.proofs.TokenKinds.{Reads, entry-fits, entry-string, kindOf, reread}
+use Rattle.reread.specs.Strings.{Handed, IsString}
+use Rattle.reread.proofs.EntryTokens.{accepted-fit, row-token}
+use Rattle.reread.proofs.TokenKinds.{Reads, entry-fits, entry-string, kindOf, reread}
 
 by-kind : (bytes : Bool) (kind place : ℕ) → kind ≡ kindOf bytes → byKind kind place ≡ At bytes place
 unfolding byKind

@@ -1,0 +1,7 @@
+pub mod Walkable
+pub mod EntryTokens
+pub mod IntegerTokens
+pub mod TokenKinds
+pub mod Decodable
+pub mod Retyped
+pub mod WideNames

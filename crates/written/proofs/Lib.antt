@@ -1,0 +1,4 @@
+pub mod TypedWritten
+pub mod IntegerWritten
+pub mod WrittenWorked
+pub mod AnyWritten
