@@ -2,9 +2,12 @@
 -- In a string `\x` takes up to four in a row until they form one UTF-8 character; in a char only one; in byte literals and byte strings any byte."
 use Prim.Native.Nat.{ℕ, _+_, _*_, _<_, _≤_}
 use mathlib.Core.List.{List, [], _∷_, _++_}
+use mathlib.Core.Path.{_≡_}
 use lib.ListN.{length}
 use Rattle.text.specs.Utf8.{Scalar, encode}
 use Rattle.hexes.specs.Hex.{hexOf}
+use Rattle.escapes.specs.declared.answers.EscapeAnswer.{EscapeAnswer}
+use Rattle.escapes.specs.declared.answers.EscapeAnswer.the-variants.{Ascii, Utf8}
 use Rattle.escapes.specs.declared.answers.Mode.{Mode}
 use Rattle.escapes.specs.declared.answers.Mode.the-variants.{Str, Char, Bytes}
 
@@ -40,3 +43,8 @@ pub data Escape : Mode → List ℕ → Meant → List ℕ → Type 0 where
   one-byte : {h l c : ℕ} {t : List ℕ} → Hex 0 (h ∷ l ∷ []) c → c < 0x80 → Escape Char (0x78 ∷ h ∷ l ∷ t) (point c) t
   bytes : {c : ℕ} {s t : List ℕ} → Scalar c → Written (encode c) (0x5C ∷ s) t → Escape Str s (point c) t
   unicode : {m : Mode} {c : ℕ} {ds t : List ℕ} → Hex 0 ds c → 1 ≤ length ds → length ds ≤ 6 → Scalar c → Escape m (0x75 ∷ 0x7B ∷ (ds ++ 0x7D ∷ t)) (point c) t
+
+-- The reader's answer says that an escape of `len` bytes means v.
+abbrev pub Says : EscapeAnswer → Meant → ℕ → Type 0
+Says a (byte b) len = a ≡ Ascii b len
+Says a (point c) len = a ≡ Utf8 c len
