@@ -12,7 +12,7 @@ use Rattle.integers.proofs.Fronts.{prefix-by-le, sign-by-le}
 use Rattle.integers.proofs.WordStops.{first-stopped}
 use Rattle.integers.specs.Front.{behindSign, frontOf, prefixOf, signOf}
 use Rattle.integers.specs.Integer.{anyAs, anyBehind, anyOf, behindRun, chosenOf, numeralOf, typedAs, typedBehind, typedOf}
-use Rattle.integers.specs.Width.{codeOf, limitAt, suffixOf, suffixWord, widest}
+use Rattle.integers.specs.Width.{codeOf, limitAt, suffixOf, suffixWord, widest, widthAt}
 use Rattle.integers.specs.declared.front.Front.{Front}
 use Rattle.integers.specs.declared.front.Prefix.{Prefix}
 use Rattle.integers.specs.declared.front.Sign.{Sign}
@@ -150,7 +150,7 @@ module _ (c : ℕ) (o : Outside c) where
   front-reach = sum sign-reach prefix-reach
 
   suffix-stopped : Stopped c suffixOf
-  unfolding suffixOf suffixWord asciiRaw asciiNext letter digit within
+  unfolding suffixOf suffixWord asciiRaw asciiNext letter digit within widthAt
   suffix-stopped = first-stopped asciiRaw c (o .low) (out-next o) (o .raw) _ refl
 
   numeral-stopped : (asked : ℕ) (minus : Bool) (base : ℕ) → Stopped c (numeralOf asked minus base)

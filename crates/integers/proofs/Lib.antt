@@ -8,3 +8,4 @@ pub mod WordStops
 pub mod IntegerStops
 pub mod Bounded
 pub mod Worked
+pub mod WidthRows

@@ -8,7 +8,7 @@ use lib.Dec.{eqb}
 use lib.ListN.{getD, length}
 use borrow.Author.Tests.{eqb-false}
 use Rattle.integers.proofs.Words.{first-more, first-here, first-le, other-first}
-use Rattle.integers.specs.Width.{suffixWord, suffix, suffixOf, suffixFirst}
+use Rattle.integers.specs.Width.{suffixWord, suffix, suffixOf, suffixFirst, widthAt}
 use Rattle.integers.specs.Words.{Word, identOf, nothingFound, firstOf}
 use Rattle.text.proofs.Choices.{or-left, or-right}
 
@@ -46,7 +46,7 @@ module _ (t : List ℕ) (out : suffixFirst (getD t 0 0) ≡ false) where
   no-u ws = other-first 0x75 ws t (eqb-false _ _ (or-right (eqb (getD t 0 0) 0x69) (eqb (getD t 0 0) 0x75) out))
 
   pub no-suffix : suffixOf t ≡ nothingFound
-  unfolding suffixOf suffixWord firstOf
+  unfolding suffixOf suffixWord firstOf widthAt
   no-suffix = simp (no-i, no-u)
 
 pub suffix-le : (t : List ℕ) → suffixOf t .end ≤ length t

@@ -8,32 +8,39 @@ use Rattle.integers.specs.declared.width.Width.the-variants.{I8, I16, I3
 use Rattle.integers.specs.declared.ident.Found.{Found}
 use Rattle.integers.specs.Words.{Word, firstOf}
 
+-- What is said of a width: its number, whether it holds numbers below 0, how many bits it has, and the letters of its suffix.
+pub record Row : Type 0 where
+  pub code : ℕ
+  pub signed : Bool
+  pub bits : ℕ
+  pub letters : List ℕ
+
+-- The table of the eight widths: i8, i16, i32, i64, u8, u16, u32, u64.
+abbrev pub row : Width → Row
+row I8 = record { code = 1; signed = true; bits = 8; letters = 0x69 ∷ 0x38 ∷ [] }
+row I16 = record { code = 2; signed = true; bits = 16; letters = 0x69 ∷ 0x31 ∷ 0x36 ∷ [] }
+row I32 = record { code = 3; signed = true; bits = 32; letters = 0x69 ∷ 0x33 ∷ 0x32 ∷ [] }
+row I64 = record { code = 4; signed = true; bits = 64; letters = 0x69 ∷ 0x36 ∷ 0x34 ∷ [] }
+row U8 = record { code = 5; signed = false; bits = 8; letters = 0x75 ∷ 0x38 ∷ [] }
+row U16 = record { code = 6; signed = false; bits = 16; letters = 0x75 ∷ 0x31 ∷ 0x36 ∷ [] }
+row U32 = record { code = 7; signed = false; bits = 32; letters = 0x75 ∷ 0x33 ∷ 0x32 ∷ [] }
+row U64 = record { code = 8; signed = false; bits = 64; letters = 0x75 ∷ 0x36 ∷ 0x34 ∷ [] }
+
 -- The paper's number of a width.
 abbrev pub codeOf : Width → ℕ
-codeOf I8 = 1
-codeOf I16 = 2
-codeOf I32 = 3
-codeOf I64 = 4
-codeOf U8 = 5
-codeOf U16 = 6
-codeOf U32 = 7
-codeOf U64 = 8
+codeOf width = row width .code
 
--- What a table of eight has for a number; the last also for any other number.
-abbrev pub choose : {A : Type 0} → ℕ → A → A → A → A → A → A → A → A → A
-choose code a b c d e f g h =
-    cond (eqb code 1) a
-    (cond (eqb code 2) b
-    (cond (eqb code 3) c
-    (cond (eqb code 4) d
-    (cond (eqb code 5) e
-    (cond (eqb code 6) f
-    (cond (eqb code 7) g
-    h))))))
-
--- The width of a number.
+-- The width of a number; the last also for any other number.
 unfoldable pub widthAt : ℕ → Width
-widthAt code = choose code I8 I16 I32 I64 U8 U16 U32 U64
+widthAt code =
+    cond (eqb code 1) I8
+    (cond (eqb code 2) I16
+    (cond (eqb code 3) I32
+    (cond (eqb code 4) I64
+    (cond (eqb code 5) U8
+    (cond (eqb code 6) U16
+    (cond (eqb code 7) U32
+    U64))))))
 
 -- The largest magnitude of a width of so many bits: without a minus, and after one.
 abbrev pub limitOf : (signed : Bool) (bits : ℕ) (minus : Bool) → ℕ
@@ -44,10 +51,7 @@ limitOf true bits true = 2 ^ (bits - 1)
 
 -- The same by the width's number.
 unfoldable pub limitAt : (code : ℕ) (minus : Bool) → ℕ
-limitAt code minus =
-    choose code
-    (limitOf true 8 minus) (limitOf true 16 minus) (limitOf true 32 minus) (limitOf true 64 minus)
-    (limitOf false 8 minus) (limitOf false 16 minus) (limitOf false 32 minus) (limitOf false 64 minus)
+limitAt code minus = limitOf (row (widthAt code) .signed) (row (widthAt code) .bits) minus
 
 -- The width of 64 bits.
 abbrev pub widest : (minus : Bool) → ℕ
@@ -60,10 +64,7 @@ firstFit false m = cond (leb m (limitOf false 8 false)) U8 (cond (leb m (limitOf
 
 -- The letters of a width's suffix.
 unfoldable pub suffixWord : ℕ → List ℕ
-suffixWord code =
-    choose code
-    (0x69 ∷ 0x38 ∷ []) (0x69 ∷ 0x31 ∷ 0x36 ∷ []) (0x69 ∷ 0x33 ∷ 0x32 ∷ []) (0x69 ∷ 0x36 ∷ 0x34 ∷ [])
-    (0x75 ∷ 0x38 ∷ []) (0x75 ∷ 0x31 ∷ 0x36 ∷ []) (0x75 ∷ 0x33 ∷ 0x32 ∷ []) (0x75 ∷ 0x36 ∷ 0x34 ∷ [])
+suffixWord code = row (widthAt code) .letters
 
 -- A width's suffix and its number.
 abbrev pub suffix : ℕ → Word

@@ -25,7 +25,7 @@ use Rattle.integers.proofs.Runs.{digits-run}
 use Rattle.integers.proofs.Suffixes.{no-suffix}
 use Rattle.integers.specs.Front.{frontOf, prefixOf, signOf}
 use Rattle.integers.specs.Integer.{anyOf, numeralOf}
-use Rattle.integers.specs.Width.{firstFit, limitAt, suffixFirst, suffixOf, widest}
+use Rattle.integers.specs.Width.{firstFit, limitAt, suffixFirst, suffixOf, widest, widthAt}
 use Rattle.integers.specs.Words.{nothingFound}
 use Rattle.integers.specs.declared.integer.AnyInteger.the-variants as any
 use Rattle.integers.specs.declared.integer.Numeral.the-variants as numeral
@@ -70,7 +70,7 @@ module _ (t : List ℕ) (some : 0 < run digit t) (quiet : quietByte (getD t (run
 
 -- the limit of 64 bits is no hindrance
 wide : (minus : Bool) → 1000000000 ≤ limitAt (widest minus) minus
-unfolding limitAt
+unfolding limitAt widthAt
 wide false = omega arith
 wide true = omega arith
 

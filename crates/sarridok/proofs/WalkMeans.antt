@@ -19,6 +19,7 @@ use Rattle.rows.specs.declared.Entry.{Entry}
 use Rattle.grammar.specs.Grammar.{Document}
 use Rattle.grammar.specs.Kinds.{kindsOf}
 use Rattle.grammar.specs.Links.{linksOf}
+use Rattle.sarridok.specs.Passed.{Links, Passed}
 use Rattle.grammar.specs.Nested.{Nested}
 use Rattle.grammar.specs.Refused.{NotAllowed, TooDeep, OpensOver, EndsEarly, openAfter}
 use Rattle.grammar.specs.Walk.{linkedOf}
@@ -65,17 +66,10 @@ module _ (tape : List ℕ) (count limit links : ℕ) where
   abbrev pub kindsAt : List Kind
   kindsAt = kindsOf (entriesOf count tape)
 
-  -- the tape is in order, and there are links enough
-  pub record Passed : Type 0 where
-    pub shallow : limit ≤ 128
-    pub fits : count ≤ roomOf (length tape)
-    pub ordered : inOrder (entriesOf count tape) 65536 ≡ true
-    pub room : count ≤ links
-
   -- a refusal in front of the entries is none of 24 to 26
   pub data Way (x : Told Unit) : Type 0 where
     in-front : (r : Refusal) → x ≡ refused r → (r .number < 24) ⊎ (26 < r .number) → Way x
-    behind-front : Passed → judged (verdictOf kindsAt limit) ≡ x → Way x
+    behind-front : Passed tape count limit links → judged (verdictOf kindsAt limit) ≡ x → Way x
 
   pub way : (x : Told Unit) → walkOf tape count limit links ≡ x → Way x
   unfolding walkOf behindWalkFront
@@ -91,19 +85,19 @@ module _ (tape : List ℕ) (count limit links : ℕ) where
           behind-front (record { shallow = ltb-false 128 limit p; fits = ltb-false (roomOf (length tape)) count q; ordered = r; room = ltb-false links count s }) e
 
   -- behind the front the verdict decides
-  pub passed-judged : Passed → (v : Verdict) → v ≡ verdictOf kindsAt limit → walkOf tape count limit links ≡ judged v
+  pub passed-judged : Passed tape count limit links → (v : Verdict) → v ≡ verdictOf kindsAt limit → walkOf tape count limit links ≡ judged v
   passed-judged p v e = walk-judged tape count limit links (p .shallow) (p .fits) (p .ordered) (p .room) v e
 
   -- ---- accepted, exactly where the entries are a document
 
-  pub accepted-passed : walkOf tape count limit links ≡ accepted tt → Passed × (verdictOf kindsAt limit ≡ verdict.Accepted)
+  pub accepted-passed : walkOf tape count limit links ≡ accepted tt → Passed tape count limit links × (verdictOf kindsAt limit ≡ verdict.Accepted)
   accepted-passed e = go (way (accepted tt) e)
     where
-      go : Way (accepted tt) → Passed × (verdictOf kindsAt limit ≡ verdict.Accepted)
+      go : Way (accepted tt) → Passed tape count limit links × (verdictOf kindsAt limit ≡ verdict.Accepted)
       go (in-front r q n) = not-accepted r (sym q)
       go (behind-front p q) = (p, judged-accepted (verdictOf kindsAt limit) q)
 
-  pub document-accepted : Passed → Document limit kindsAt → walkOf tape count limit links ≡ accepted tt
+  pub document-accepted : Passed tape count limit links → Document limit kindsAt → walkOf tape count limit links ≡ accepted tt
   document-accepted p d = passed-judged p verdict.Accepted (sym (accepts kindsAt limit d))
 
   -- behind any number of its entries no more brackets are open than the limit
@@ -112,29 +106,29 @@ module _ (tape : List ℕ) (count limit links : ℕ) where
 
   -- ---- refused at an entry, exactly as the grammar has it
 
-  entry-refusal : (n j : ℕ) → 23 < n → n < 27 → walkOf tape count limit links ≡ refused (refusal n j) → Passed × (verdictOf kindsAt limit ≡ verdict.Refused (refusal n j))
+  entry-refusal : (n j : ℕ) → 23 < n → n < 27 → walkOf tape count limit links ≡ refused (refusal n j) → Passed tape count limit links × (verdictOf kindsAt limit ≡ verdict.Refused (refusal n j))
   entry-refusal n j lo hi e = go (way (refused (refusal n j)) e)
     where
-      go : Way (refused (refusal n j)) → Passed × (verdictOf kindsAt limit ≡ verdict.Refused (refusal n j))
+      go : Way (refused (refusal n j)) → Passed tape count limit links × (verdictOf kindsAt limit ≡ verdict.Refused (refusal n j))
       go (in-front r q m) = let z : n ≡ r .number = same-number (refusal n j) r q in either m (λ h. absurd (omega arith)) (λ h. absurd (omega arith))
       go (behind-front p q) = (p, judged-refused (verdictOf kindsAt limit) (refusal n j) q)
 
-  pub says-25 : (j : ℕ) → walkOf tape count limit links ≡ refused (notAllowedHere j) → Passed × NotAllowed kindsAt limit j
+  pub says-25 : (j : ℕ) → walkOf tape count limit links ≡ refused (notAllowedHere j) → Passed tape count limit links × NotAllowed kindsAt limit j
   says-25 j e = let w = entry-refusal 25 j (omega arith) (omega arith) e in (w .0, refused-25 kindsAt limit j (w .1))
 
-  pub says-24 : (j : ℕ) → walkOf tape count limit links ≡ refused (depthLimitPassed j) → Passed × TooDeep kindsAt limit j × OpensOver kindsAt limit j
+  pub says-24 : (j : ℕ) → walkOf tape count limit links ≡ refused (depthLimitPassed j) → Passed tape count limit links × TooDeep kindsAt limit j × OpensOver kindsAt limit j
   says-24 j e = let w = entry-refusal 24 j (omega arith) (omega arith) e in (w .0, refused-24 kindsAt limit j (w .1), refused-24-opens kindsAt limit j (w .1))
 
-  pub says-26 : (j : ℕ) → walkOf tape count limit links ≡ refused (tapeEndsEarly j) → Passed × EndsEarly kindsAt limit j
+  pub says-26 : (j : ℕ) → walkOf tape count limit links ≡ refused (tapeEndsEarly j) → Passed tape count limit links × EndsEarly kindsAt limit j
   says-26 j e = let w = entry-refusal 26 j (omega arith) (omega arith) e in (w .0, refused-26 kindsAt limit j (w .1))
 
-  pub answers-25 : (j : ℕ) → Passed → NotAllowed kindsAt limit j → walkOf tape count limit links ≡ refused (notAllowedHere j)
+  pub answers-25 : (j : ℕ) → Passed tape count limit links → NotAllowed kindsAt limit j → walkOf tape count limit links ≡ refused (notAllowedHere j)
   answers-25 j p n = passed-judged p (verdict.Refused (notAllowedHere j)) (sym (gives-25 kindsAt limit j n))
 
-  pub answers-24 : (j : ℕ) → Passed → TooDeep kindsAt limit j → walkOf tape count limit links ≡ refused (depthLimitPassed j)
+  pub answers-24 : (j : ℕ) → Passed tape count limit links → TooDeep kindsAt limit j → walkOf tape count limit links ≡ refused (depthLimitPassed j)
   answers-24 j p t = passed-judged p (verdict.Refused (depthLimitPassed j)) (sym (gives-24 kindsAt limit j t))
 
-  pub answers-26 : Passed → EndsEarly kindsAt limit count → walkOf tape count limit links ≡ refused (tapeEndsEarly count)
+  pub answers-26 : Passed tape count limit links → EndsEarly kindsAt limit count → walkOf tape count limit links ≡ refused (tapeEndsEarly count)
   answers-26 p t =
       let n : length kindsAt ≡ count = kinds-size (entriesOf count tape) ∙ length-entries count tape in
       passed-judged p (verdict.Refused (tapeEndsEarly count))
@@ -149,12 +143,7 @@ module _ (tape : List ℕ) (count limit : ℕ) (out : List ℕ) where
   refused-leaves r e = ap (λ (t : Told Unit). leftBy t (entriesOf count tape) out) e
 
   -- an accepted one stores those of the document, which join its brackets, and leaves what stands behind them
-  pub record Links : Type 0 where
-    pub document : Document limit (kindsOf (entriesOf count tape))
-    pub nested : Nested (kindsOf (entriesOf count tape)) (linksOf document)
-    pub stored : linksAfter tape count limit out ≡ linksOf document ++ drop count out
-
-  pub accepted-links : walkOf tape count limit (length out) ≡ accepted tt → Links
+  pub accepted-links : walkOf tape count limit (length out) ≡ accepted tt → Links tape count limit out (linksAfter tape count limit out)
   unfolding linksAfter
   accepted-links e =
       let a = accepted-passed tape count limit (length out) e in
@@ -163,6 +152,7 @@ module _ (tape : List ℕ) (count limit : ℕ) (out : List ℕ) where
       let n : length ks ≡ count = kinds-size (entriesOf count tape) ∙ length-entries count tape in
       record {
         document = d;
+        links = linksOf d;
         nested = links-nested ks d;
         stored = ap (λ (t : Told Unit). leftBy t (entriesOf count tape) out) e ∙ linked d out (omega (arith, a .0 .room)) ∙ ap (λ (j : ℕ). linksOf d ++ drop j out) n;
       }

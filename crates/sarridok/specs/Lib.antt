@@ -3,3 +3,4 @@ pub mod Typed
 pub mod Contents
 pub mod Walked
 pub mod StructKind
+pub mod Passed

@@ -57,7 +57,7 @@ of-known code (inr k) e = k
 -- ---- without a suffix, the first width that fits
 
 widest-limit : (minus : Bool) → limitAt (widest minus) minus ≡ limitOf minus 64 minus
-unfolding limitAt
+unfolding limitAt widthAt
 widest-limit true = refl
 widest-limit false = refl
 

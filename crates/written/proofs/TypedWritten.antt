@@ -36,7 +36,7 @@ use Rattle.written.specs.Written.{IsWritten, bitsOf, digitsIn, isSigned,
 -- ---- widths and signs
 
 pub width-limit : (width : Width) (minus : Bool) → limitAt (codeOf width) minus ≡ limitOf (isSigned width) (bitsOf width) minus
-unfolding limitAt
+unfolding limitAt widthAt
 width-limit I8 minus = refl
 width-limit I16 minus = refl
 width-limit I32 minus = refl

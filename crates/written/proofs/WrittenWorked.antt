@@ -11,7 +11,7 @@ use Rattle.text.specs.Words.{startsWith}
 use Rattle.digits.specs.Digits.{hexOf}
 use Rattle.digits.specs.Value.{valueFrom}
 use Rattle.integers.specs.Front.{frontOf, prefixOf, signOf}
-use Rattle.integers.specs.Width.{suffixOf, suffixWord}
+use Rattle.integers.specs.Width.{suffixOf, suffixWord, widthAt}
 use Rattle.integers.specs.Words.{firstOf, identOf}
 use Rattle.written.specs.Written.{written, writtenLen}
 
@@ -28,13 +28,13 @@ decimal : List ℕ
 decimal = 0x2b ∷ 0x31 ∷ 0x5f ∷ 0x30 ∷ 0x30 ∷ 0x30 ∷ []
 
 hex-worked : (written hex ≡ negℤ (pos 16)) × (writtenLen hex ≡ 9)
-unfolding hex within digit letter hexDigit asciiNext identNext nextAhead charIf charLen codeOf codeOf4 widthOf intChar run hexOf valueFrom signOf prefixOf frontOf startsWith identOf firstOf suffixWord suffixOf
+unfolding hex within digit letter hexDigit asciiNext identNext nextAhead charIf charLen codeOf codeOf4 widthOf intChar run hexOf valueFrom signOf prefixOf frontOf startsWith identOf firstOf suffixWord suffixOf widthAt
 hex-worked = (refl, refl)
 
 binary-worked : (written binary ≡ pos 5) × (writtenLen binary ≡ 5)
-unfolding binary within digit letter hexDigit asciiNext identNext nextAhead charIf charLen codeOf codeOf4 widthOf intChar run hexOf valueFrom signOf prefixOf frontOf startsWith identOf firstOf suffixWord suffixOf
+unfolding binary within digit letter hexDigit asciiNext identNext nextAhead charIf charLen codeOf codeOf4 widthOf intChar run hexOf valueFrom signOf prefixOf frontOf startsWith identOf firstOf suffixWord suffixOf widthAt
 binary-worked = (refl, refl)
 
 decimal-worked : (written decimal ≡ pos 1000) × (writtenLen decimal ≡ 6)
-unfolding decimal within digit letter hexDigit asciiNext identNext nextAhead charIf charLen codeOf codeOf4 widthOf intChar run hexOf valueFrom signOf prefixOf frontOf startsWith identOf firstOf suffixWord suffixOf
+unfolding decimal within digit letter hexDigit asciiNext identNext nextAhead charIf charLen codeOf codeOf4 widthOf intChar run hexOf valueFrom signOf prefixOf frontOf startsWith identOf firstOf suffixWord suffixOf widthAt
 decimal-worked = (refl, refl)
