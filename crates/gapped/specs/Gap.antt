@@ -1,12 +1,12 @@
 -- The gap before a token (document 01, modules 1 and 2), said plainly: "Whitespace: U+0009 to U+000D, U+0020, U+0085, U+200E, U+200F, U+2028, U+2029." "Block comments nest;
 -- `//` runs to LF. Unclosed at the end, a line comment is accepted." Refusals 4, 5 and 6.
-use Prim.Native.Nat.{ℕ}
+use Prim.Native.Nat.{ℕ, _+_}
 use mathlib.Core.Bool.{true}
 use mathlib.Core.List.{List, [], _∷_, _++_}
 use mathlib.Core.Path.{_≡_}
-use lib.ListN.{drop, length}
+use lib.ListN.{length}
 use Rattle.text.specs.Classes.{blank}
-use Rattle.text.specs.Utf8.{Scalar, encode}
+use Rattle.text.specs.Utf8.{Scalar, charLen, encode}
 use Rattle.comments.specs.Blocks.{Body}
 
 -- A line that no LF ends.
@@ -41,6 +41,10 @@ OpenBlock s = (w : List ℕ) × Gap s (0x2F ∷ 0x2A ∷ w) × ((t : List ℕ) �
 -- 5: it runs into a `/` with neither `/` nor `*` behind it; b is what stands there, and then w.
 abbrev pub StraySlash : List ℕ → ℕ → List ℕ → Type 0
 StraySlash s b w = Gap s (0x2F ∷ b ∷ w) × (b ≡ 0x2F → ⊥) × (b ≡ 0x2A → ⊥)
+
+-- And p is behind the character that stands there: as many bytes behind b's place as the character has.
+abbrev pub Behind : List ℕ → ℕ → List ℕ → ℕ → Type 0
+Behind s b w p = p + length (b ∷ w) ≡ length s + charLen (b ∷ w)
 
 -- 6: it runs into a `/` at the end of the text.
 abbrev pub LastSlash : List ℕ → Type 0
