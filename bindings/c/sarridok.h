@@ -13,8 +13,8 @@
  * The answer of every function is one number:
  *   accepted   below 2^63; what it holds is said at each function
  *   refused    2^63 + number * 2^32 + place; such a call has written nothing
- * Where an answer holds two numbers they are first * 2^32 + second. One that does not fit is given as the largest that does: 2^31 - 1 for the first, 2^32 - 1
- * for the second. (That is part of what is proved. By document 01 no place and no count is above 3 * 65,536, so none is cut off; this is not proved.)
+ * Where an answer holds two numbers they are first * 2^32 + second. Nothing is ever cut off: no place and no count is above 3 * 65,536, and both numbers are got back
+ * by a shift and a mask. That is proved of every function (crates/promises/proofs/Hosts.antt).
  */
 #ifndef SARRIDOK_H
 #define SARRIDOK_H

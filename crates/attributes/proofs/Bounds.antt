@@ -7,12 +7,12 @@ use mathlib.Core.Path.{_≡_, ap, refl, sym}
 use lib.Dec.{eqb}
 use lib.ListN.{drop, getD, length, length-drop}
 use Rattle.attributes.proofs.StepLaws.{added-small, word-le}
-use Rattle.attributes.specs.Attributes.{attributeOf, byKeyword, byListed, byOpened, enableFrom, keywordFrom, openedOf, valueFrom}
+use Rattle.attributes.specs.Attributes.{attributeOf, byKeyword, byListed, byOpened, enableFrom, keywordFrom, openedOf, stringValueFrom}
 use Rattle.attributes.specs.Close.{answerAt, byBracket, byString, closeList, listEnd, noEnd, stringEnd, stringFrom}
 use Rattle.attributes.specs.Extensions.{addedTo, extensionOf}
-use Rattle.attributes.specs.List.{behindName, byComma, byIdentifier, byItem, byNamed, byOther, itemEnd, itemOf, listFrom, listOf, otherChar}
-use Rattle.attributes.specs.Steps.{allAt, andThen, byGap, consumeFrom, consumeOf, signAt, signFrom, skipFrom}
-use Rattle.attributes.specs.Words.{byWord, keywordAt, wordOf}
+use Rattle.attributes.specs.List.{behindName, byComma, byListName, byItem, byExtensionName, byOther, itemEnd, itemOf, listFrom, listOf, otherChar}
+use Rattle.attributes.specs.Steps.{allAt, andThen, stepBehind, consumeFrom, consumeOf, signAt, signFrom, skipFrom}
+use Rattle.attributes.specs.Words.{byWord, keywordAt, keywordOf}
 use Rattle.attributes.specs.declared.AttributeAnswer.{AttributeAnswer}
 use Rattle.attributes.specs.declared.AttributeAnswer.the-variants.{Read, Refused}
 use Rattle.attributes.specs.declared.extensions.Extension.{Extension}
@@ -59,7 +59,7 @@ abbrev pub AllIn : List ℕ → ℕ → All → Type 0
 AllIn s at (At all p) = (at ≤ p) × (p ≤ length s)
 AllIn s at (Failed r) = r .place ≤ length s
 
-gap-in : (s : List ℕ) (at : ℕ) (g : Gap) → at ≤ length s → EndsBy (length (drop at s)) g → StepIn s at (byGap at g)
+gap-in : (s : List ℕ) (at : ℕ) (g : Gap) → at ≤ length s → EndsBy (length (drop at s)) g → StepIn s at (stepBehind at g)
 gap-in s at (Clear n) h e = let d = length-drop at s in (omega arith, omega arith)
 gap-in s at (InLine n) h e = let d = length-drop at s in (omega arith, omega arith)
 gap-in s at (NoGap r) h e = omega (arith, length-drop at s)
@@ -133,11 +133,11 @@ behind-in t e n p h =
     comma-in t e n (consumeOf 0x2c t (allAt true (skipFrom t n))) p
     (consume-within 0x2c t n (allAt true (skipFrom t n)) (omega arith) (all-in t n true (skipFrom t n) (skip-in t n h)))
 
-named-in : (t : List ℕ) (n : ℕ) (r : Named) → 0 < n → n ≤ length t → ItemIn t (byNamed t n r)
+named-in : (t : List ℕ) (n : ℕ) (r : Named) → 0 < n → n ≤ length t → ItemIn t (byExtensionName t n r)
 named-in t n (Known e) p h = behind-in t e n p h
 named-in t n Unknown p h = tt
 
-identifier-in : (t : List ℕ) (i : Identifier) → Within t i → ItemIn t (byIdentifier t i)
+identifier-in : (t : List ℕ) (i : Identifier) → Within t i → ItemIn t (byListName t i)
 identifier-in t Missing w = tt
 identifier-in t (Name n) w = named-in t n (extensionOf t n) (w .0) (w .1)
 identifier-in t (RawName n) w = named-in t n (extensionOf (drop 2 t) (n - 2)) (omega (arith, w .0)) (w .1)
@@ -243,19 +243,19 @@ enable-in s at h =
     listed p (Ended q sum) i = answer-later s p q (closeList s q sum) (i .0) (close-in s q sum (i .1) (i .2))
     listed p (Unlisted r) i = i
 
-pub value-in : (s : List ℕ) (at : ℕ) → at ≤ length s → AnswerIn s at (valueFrom s at)
-unfolding valueFrom
+pub value-in : (s : List ℕ) (at : ℕ) → at ≤ length s → AnswerIn s at (stringValueFrom s at)
+unfolding stringValueFrom
 value-in s at h = after-step s at (signFrom 0x3d s at) (stringFrom s) (sign-within 0x3d s at (omega arith) h) (λ p i j. string-in s p j)
 
 pub keyword-in : (s : List ℕ) (at : ℕ) → at ≤ length s → AnswerIn s at (keywordFrom s at)
 unfolding keywordFrom keywordAt byWord
 keyword-in s at h =
-    let f = wordOf (drop at s) in
+    let f = keywordOf (drop at s) in
     let l : at + f .end ≤ length s = omega (arith, word-le (drop at s), length-drop at s) in
     cond-cases (λ (k : Keyword). AnswerIn s at (byKeyword s k)) (eqb (f .end) 0) _ _ (λ e. omega arith)
     (λ e. cond-cases (λ (k : Keyword). AnswerIn s at (byKeyword s k)) (eqb (f .code) 1) _ _
     (λ c. answer-later s at (at + f .end) (enableFrom s (at + f .end)) (omega arith) (enable-in s (at + f .end) l))
-    (λ c. answer-later s at (at + f .end) (valueFrom s (at + f .end)) (omega arith) (value-in s (at + f .end) l)))
+    (λ c. answer-later s at (at + f .end) (stringValueFrom s (at + f .end)) (omega arith) (value-in s (at + f .end) l)))
 
 pub opened-in : (s : List ℕ) → AllIn s 0 (openedOf s)
 unfolding openedOf

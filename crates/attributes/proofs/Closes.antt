@@ -14,12 +14,12 @@ use Rattle.attributes.proofs.Bounds.{AllIn, AnswerIn, EndsIn, ItemIn, S
 use Rattle.attributes.proofs.ListLaws.{list-more}
 use Rattle.attributes.proofs.StepLaws.{added-small, word-le}
 use Rattle.attributes.proofs.Stopping.{Good, GoodName, GoodRaw, GoodString, bracket-stopped, extension-good, extension-stopped, good-by, identifier-good, keyword-good, keyword-stopped, name-stopped, string-good}
-use Rattle.attributes.specs.Attributes.{attributeOf, byKeyword, byListed, byOpened, enableFrom, keywordFrom, openedOf, valueFrom}
+use Rattle.attributes.specs.Attributes.{attributeOf, byKeyword, byListed, byOpened, enableFrom, keywordFrom, openedOf, stringValueFrom}
 use Rattle.attributes.specs.Close.{answerAt, byBracket, byString, closeList, listEnd, noEnd, stringEnd, stringFrom}
 use Rattle.attributes.specs.Extensions.{addedTo, extensionOf}
-use Rattle.attributes.specs.List.{behindName, byComma, byIdentifier, byItem, byNamed, byOther, itemEnd, itemOf, listFrom, listOf, otherChar}
-use Rattle.attributes.specs.Steps.{allAt, andThen, byGap, consumeFrom, consumeOf, signAt, signFrom, skipFrom}
-use Rattle.attributes.specs.Words.{byWord, keywordAt, wordOf}
+use Rattle.attributes.specs.List.{behindName, byComma, byListName, byItem, byExtensionName, byOther, itemEnd, itemOf, listFrom, listOf, otherChar}
+use Rattle.attributes.specs.Steps.{allAt, andThen, stepBehind, consumeFrom, consumeOf, signAt, signFrom, skipFrom}
+use Rattle.attributes.specs.Words.{byWord, keywordAt, keywordOf}
 use Rattle.attributes.specs.declared.AttributeAnswer.{AttributeAnswer}
 use Rattle.attributes.specs.declared.AttributeAnswer.the-variants.{Read, Refused}
 use Rattle.attributes.specs.declared.extensions.Extension.{Extension}
@@ -123,7 +123,7 @@ all-fine : (s : List ℕ) (q : ℕ) (all : Bool) (r : Step) → FineAll s q (all
 all-fine s q all (On p) f = f
 all-fine s q all (Bad r) f = f
 
-gap-before : (s : List ℕ) (q at : ℕ) (g : Gap) → FineStep s q (byGap at g) → at ≤ q
+gap-before : (s : List ℕ) (q at : ℕ) (g : Gap) → FineStep s q (stepBehind at g) → at ≤ q
 gap-before s q at (Clear n) f = omega (arith, f .0)
 gap-before s q at (InLine n) f = omega (arith, f .0)
 gap-before s q at (NoGap r) f = absurd f
@@ -165,7 +165,7 @@ module _ (u v v′ : List ℕ) (q : ℕ) (inside : q < length u) (is : getD u q 
       ∙ stopped-here st (drop at u) v v′ (q - at) (omega (arith, length-drop at u)) (bracket-behind u q at h is)
       ∙ sym (ap f (drop-append-le at u v (omega arith)))
 
-  gap-same : (at : ℕ) (g : Gap) → gapOf (drop at (u ++ v)) ≡ g → FineStep (u ++ v) q (byGap at g) → gapOf (drop at (u ++ v′)) ≡ g
+  gap-same : (at : ℕ) (g : Gap) → gapOf (drop at (u ++ v)) ≡ g → FineStep (u ++ v) q (stepBehind at g) → gapOf (drop at (u ++ v′)) ≡ g
   gap-same at (Clear n) e f =
       let l : at ≤ length u = omega (arith, f .0) in
       let b : getD (drop at u) n 0 ≡ getD (u ++ v) (at + n) 0 = getD-drop at u n 0 ∙ sym (List·getD-append u v 0 (at + n) (omega (arith, f .0))) in
@@ -177,7 +177,7 @@ module _ (u v v′ : List ℕ) (q : ℕ) (inside : q < length u) (is : getD u q 
 
   skip-same : (at : ℕ) → FineStep (u ++ v) q (skipFrom (u ++ v) at) → skipFrom (u ++ v′) at ≡ skipFrom (u ++ v) at
   unfolding skipFrom
-  skip-same at f = ap (byGap at) (gap-same at (gapOf (drop at (u ++ v))) refl f)
+  skip-same at f = ap (stepBehind at) (gap-same at (gapOf (drop at (u ++ v))) refl f)
 
   consume-same : (b : ℕ) (all : Bool) (at : ℕ) → Good b → FineAll (u ++ v) q (consumeFrom b (u ++ v) all at) → consumeFrom b (u ++ v′) all at ≡ consumeFrom b (u ++ v) all at
   unfolding consumeFrom
@@ -237,21 +237,21 @@ module _ (u v v′ : List ℕ) (q : ℕ) (inside : q < length u) (is : getD u q 
             ∙ comma-same e (consumeOf 0x2c (u ++ v) r) a,
       )
 
-  named-same : (n : ℕ) (r r′ : Named) → (n ≤ q → r′ ≡ r) → FineItem (u ++ v) q (byNamed (u ++ v) n r) → byNamed (u ++ v′) n r′ ≡ byNamed (u ++ v) n r
-  named-same n (Known e) r′ h f = let b = behind-same e n f in ap (byNamed (u ++ v′) n) (h (b .0)) ∙ b .1
+  named-same : (n : ℕ) (r r′ : Named) → (n ≤ q → r′ ≡ r) → FineItem (u ++ v) q (byExtensionName (u ++ v) n r) → byExtensionName (u ++ v′) n r′ ≡ byExtensionName (u ++ v) n r
+  named-same n (Known e) r′ h f = let b = behind-same e n f in ap (byExtensionName (u ++ v′) n) (h (b .0)) ∙ b .1
   named-same n Unknown r′ h f = absurd f
 
   extension-same : (n : ℕ) → extensionOf (u ++ v′) n ≡ extensionOf (u ++ v) n
   extension-same n = stopped-here (extension-stopped n) u v v′ q inside is
 
-  by-name-same : (i : Identifier) → Within (u ++ v) i → FineItem (u ++ v) q (byIdentifier (u ++ v) i) → byIdentifier (u ++ v′) i ≡ byIdentifier (u ++ v) i
+  by-name-same : (i : Identifier) → Within (u ++ v) i → FineItem (u ++ v) q (byListName (u ++ v) i) → byListName (u ++ v′) i ≡ byListName (u ++ v) i
   by-name-same Missing w f = absurd f
   by-name-same (Name n) w f = named-same n (extensionOf (u ++ v) n) (extensionOf (u ++ v′) n) (λ h. extension-same n) f
   by-name-same (RawName n) w f = named-same n (extensionOf (drop 2 (u ++ v)) (n - 2)) (extensionOf (drop 2 (u ++ v′)) (n - 2)) (λ h. stopped-at (extension-stopped (n - 2)) 2 (omega (arith, w .0))) f
 
   pub item-same : FineItem (u ++ v) q (itemOf (u ++ v)) → itemOf (u ++ v′) ≡ itemOf (u ++ v)
   unfolding itemOf
-  item-same f = ap (byIdentifier (u ++ v′)) (stopped-here name-stopped u v v′ q inside is) ∙ by-name-same (identifierOf (u ++ v)) (identifier-within (u ++ v)) f
+  item-same f = ap (byListName (u ++ v′)) (stopped-here name-stopped u v v′ q inside is) ∙ by-name-same (identifierOf (u ++ v)) (identifier-within (u ++ v)) f
 
 -- an item begins with a good byte
 abbrev GoodItem : List ℕ → Item → Type 0
@@ -271,16 +271,16 @@ unfolding itemEnd
 comma-good t e (At comma at) g = other-good t (otherChar t at) e comma at refl g
 comma-good t e (Failed r) g = tt
 
-named-good : (t : List ℕ) (n : ℕ) (r : Named) → Good (getD t 0 0) → GoodItem t (byNamed t n r)
+named-good : (t : List ℕ) (n : ℕ) (r : Named) → Good (getD t 0 0) → GoodItem t (byExtensionName t n r)
 unfolding behindName
 named-good t n (Known e) g = comma-good t e (consumeOf 0x2c t (allAt true (skipFrom t n))) g
 named-good t n Unknown g = tt
 
-known-good : (t : List ℕ) (n : ℕ) (r : Named) → GoodName t r → GoodItem t (byNamed t n r)
+known-good : (t : List ℕ) (n : ℕ) (r : Named) → GoodName t r → GoodItem t (byExtensionName t n r)
 known-good t n (Known e) g = named-good t n (Known e) g
 known-good t n Unknown g = tt
 
-identifier-item : (t : List ℕ) (i : Identifier) → GoodRaw t i → GoodItem t (byIdentifier t i)
+identifier-item : (t : List ℕ) (i : Identifier) → GoodRaw t i → GoodItem t (byListName t i)
 identifier-item t Missing g = tt
 identifier-item t (Name n) g = known-good t n (extensionOf t n) (extension-good t n)
 identifier-item t (RawName n) g = named-good t n (extensionOf (drop 2 t) (n - 2)) g
@@ -465,8 +465,8 @@ module _ (u v v′ : List ℕ) (q : ℕ) (inside : q < length u) (is : getD u q 
   unfolding enableFrom
   enable-same at k f = after-sign 0x28 at (λ p. byListed (u ++ v) (listOf (u ++ v) p)) (λ p. byListed (u ++ v′) (listOf (u ++ v′) p)) (omega arith, refl) k (omega arith) (λ p l g. listed-same p g l) f
 
-  value-same : (at : ℕ) → at ≤ length (u ++ v) → FineAnswer q (valueFrom (u ++ v) at) → valueFrom (u ++ v′) at ≡ valueFrom (u ++ v) at
-  unfolding valueFrom
+  value-same : (at : ℕ) → at ≤ length (u ++ v) → FineAnswer q (stringValueFrom (u ++ v) at) → stringValueFrom (u ++ v′) at ≡ stringValueFrom (u ++ v) at
+  unfolding stringValueFrom
   value-same at k f = after-sign 0x3d at (stringFrom (u ++ v)) (stringFrom (u ++ v′)) (omega arith, refl) k (omega arith) (λ p l g. string-same p g) f
 
   -- the word at a place: its first byte, and the place behind it
@@ -479,11 +479,11 @@ module _ (u v v′ : List ℕ) (q : ℕ) (inside : q < length u) (is : getD u q 
   unfolding keywordAt byWord
   word-at at k =
       let t : List ℕ = drop at (u ++ v) in
-      let l : at + wordOf t .end ≤ length (u ++ v) = omega (arith, word-le t, length-drop at (u ++ v)) in
-      cond-cases (GoodWord at) (eqb (wordOf t .end) 0) _ _ (λ e. tt)
+      let l : at + keywordOf t .end ≤ length (u ++ v) = omega (arith, word-le t, length-drop at (u ++ v)) in
+      cond-cases (GoodWord at) (eqb (keywordOf t .end) 0) _ _ (λ e. tt)
       (λ e. let g = keyword-good t e in
       let b = good-by (getD (u ++ v) at 0) (getD t 0 0) (sym (head-at (u ++ v) at)) (g .0) (g .1) in
-      cond-cases (GoodWord at) (eqb (wordOf t .code) 1) _ _ (λ c. (omega arith, l, b)) (λ c. (omega arith, l, b)))
+      cond-cases (GoodWord at) (eqb (keywordOf t .code) 1) _ _ (λ c. (omega arith, l, b)) (λ c. (omega arith, l, b)))
 
   keyword-at-same : (at : ℕ) → at ≤ q → keywordAt (u ++ v′) at ≡ keywordAt (u ++ v) at
   unfolding keywordAt
@@ -504,7 +504,7 @@ module _ (u v v′ : List ℕ) (q : ℕ) (inside : q < length u) (is : getD u q 
           let l : at ≤ q = omega (arith, g .0) in
           ((l, g .2), ap (byKeyword (u ++ v′)) (keyword-at-same at l ∙ e) ∙ enable-same p (g .1) f)
       go (Text p) e g f =
-          let h = reached p (valueFrom (u ++ v) p) (value-in (u ++ v) p (g .1)) f in
+          let h = reached p (stringValueFrom (u ++ v) p) (value-in (u ++ v) p (g .1)) f in
           let l : at ≤ q = omega (arith, g .0) in
           ((l, g .2), ap (byKeyword (u ++ v′)) (keyword-at-same at l ∙ e) ∙ value-same p (g .1) f)
       go NoKeyword e g f = absurd f
@@ -565,7 +565,7 @@ string-last s at (ReadString l) = step-last s (skipFrom s (at + l .len)) (λ p. 
 string-last s at (NoString r) = tt
 
 keyword-last : (s : List ℕ) (w : Keyword) → LastBracket s (byKeyword s w)
-unfolding enableFrom valueFrom stringFrom
+unfolding enableFrom stringValueFrom stringFrom
 keyword-last s (Enable at) = step-last s (signFrom 0x28 s at) (λ p. byListed s (listOf s p)) (λ p. listed-last s (listOf s p))
 keyword-last s (Text at) = step-last s (signFrom 0x3d s at) (λ p. byString s p (stringOf (drop p s))) (λ p. string-last s p (stringOf (drop p s)))
 keyword-last s NoKeyword = tt

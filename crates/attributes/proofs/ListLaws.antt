@@ -9,7 +9,7 @@ use lib.ListN.{List·getD-eq-default, drop, drop-of-length-le, getD, length, tak
 use lib.Seq.{drop-drop}
 use Rattle.attributes.proofs.Bounds.{ItemIn, item-in}
 use Rattle.attributes.specs.Extensions.{addedTo}
-use Rattle.attributes.specs.List.{behindName, byComma, byIdentifier, byItem, byOther, itemEnd, itemOf, listFrom, otherChar}
+use Rattle.attributes.specs.List.{behindName, byComma, byListName, byItem, byOther, itemEnd, itemOf, listFrom, otherChar}
 use Rattle.attributes.specs.Steps.{allAt, consumeOf, skipFrom}
 use Rattle.attributes.specs.declared.extensions.Extension.{Extension}
 use Rattle.attributes.specs.declared.list.Item.{Item}
@@ -43,9 +43,9 @@ module _ (t : List ℕ) (e : Extension) where
 -- ---- items
 
 module _ (t : List ℕ) (r : Identifier) (e : r ≡ identifierOf t) where
-  pub identifier-by : byIdentifier t r ≡ itemOf t
+  pub identifier-by : byListName t r ≡ itemOf t
   unfolding itemOf
-  identifier-by = ap (byIdentifier t) e
+  identifier-by = ap (byListName t) e
 
   pub identifier-fits : Within t r
   identifier-fits = subst (Within t) (sym e) (identifier-within t)

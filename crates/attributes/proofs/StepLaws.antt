@@ -9,9 +9,9 @@ use lib.Dec.{eqb}
 use lib.ListN.{drop, drop-of-length-le, getD, length, length-drop, take}
 use borrow.Author.Tests.{eq-eqb, eqb-false, ne-eqb}
 use Rattle.attributes.specs.Close.{answerAt, byBracket, byString, closeList, listEnd, noEnd, stringEnd, stringFrom}
-use Rattle.attributes.specs.Extensions.{addedTo, valueOf}
-use Rattle.attributes.specs.Steps.{allAt, andThen, byGap, consumeFrom, signAt, signFrom, skipFrom}
-use Rattle.attributes.specs.Words.{byWord, keywordAt, keywords, wordOf}
+use Rattle.attributes.specs.Extensions.{addedTo, addsOf}
+use Rattle.attributes.specs.Steps.{allAt, andThen, stepBehind, consumeFrom, signAt, signFrom, skipFrom}
+use Rattle.attributes.specs.Words.{byWord, keywordAt, keywords, keywordOf}
 use Rattle.attributes.specs.declared.AttributeAnswer.the-variants.{Read, Refused}
 use Rattle.attributes.specs.declared.extensions.Extension.{Extension}
 use Rattle.attributes.specs.declared.extensions.Extension.the-variants.{ExplicitStructNames, ImplicitSome, UnwrapNewtypes, UnwrapVariantNewtypes}
@@ -42,9 +42,9 @@ unfolding skipFrom gapOf gapFrom
 skip-out s at h = rw (drop-of-length-le s h) (ap On (sym (add-zero at)))
 
 module _ (s : List ℕ) (at : ℕ) (g : Gap) (e : g ≡ gapOf (take (length s - at) (drop at s))) where
-  pub skip-by : byGap at g ≡ skipFrom s at
+  pub skip-by : stepBehind at g ≡ skipFrom s at
   unfolding skipFrom
-  skip-by = ap (byGap at) (e ∙ ap gapOf (tail-part s at))
+  skip-by = ap (stepBehind at) (e ∙ ap gapOf (tail-part s at))
 
   pub gap-fits : EndsBy (length s - at) g
   gap-fits =
@@ -121,7 +121,7 @@ module _ (s : List ℕ) (at : ℕ) (a : LiteralAnswer) (e : a ≡ stringOf (take
 -- ---- words
 
 pub keyword-out : (s : List ℕ) (at : ℕ) → length s ≤ at → NoKeyword ≡ keywordAt s at
-unfolding keywordAt byWord wordOf firstOf identOf startsWith
+unfolding keywordAt byWord keywordOf firstOf identOf startsWith
 keyword-out s at h = rw (drop-of-length-le s h)
 
 -- a word, by what the two tests say
@@ -133,21 +133,21 @@ word-by at f none first p r =
     ∙ ap (λ (x : Bool). cond none NoKeyword (cond x (Enable (at + f .end)) (Text (at + f .end)))) r
 
 -- a word lies within its part
-pub word-le : (t : List ℕ) → wordOf t .end ≤ length t
-unfolding wordOf
+pub word-le : (t : List ℕ) → keywordOf t .end ≤ length t
+unfolding keywordOf
 word-le t = first-le keywords t
 
-module _ (s : List ℕ) (at : ℕ) (f : Found) (e : f ≡ wordOf (take (length s - at) (drop at s))) where
+module _ (s : List ℕ) (at : ℕ) (f : Found) (e : f ≡ keywordOf (take (length s - at) (drop at s))) where
   pub word-fits : f .end ≤ length s - at
-  word-fits = omega (arith, word-le (drop at s), length-drop at s, ap (λ (x : Found). x .end) (e ∙ ap wordOf (tail-part s at)))
+  word-fits = omega (arith, word-le (drop at s), length-drop at s, ap (λ (x : Found). x .end) (e ∙ ap keywordOf (tail-part s at)))
 
   pub keyword-by : byWord at f ≡ keywordAt s at
   unfolding keywordAt
-  keyword-by = ap (byWord at) (e ∙ ap wordOf (tail-part s at))
+  keyword-by = ap (byWord at) (e ∙ ap keywordOf (tail-part s at))
 
 -- ---- extensions
 
-pub value-small : (e : Extension) → (0 < valueOf e) × (valueOf e ≤ 8)
+pub value-small : (e : Extension) → (0 < addsOf e) × (addsOf e ≤ 8)
 value-small UnwrapNewtypes = (omega arith, omega arith)
 value-small ImplicitSome = (omega arith, omega arith)
 value-small UnwrapVariantNewtypes = (omega arith, omega arith)

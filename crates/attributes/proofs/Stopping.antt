@@ -8,7 +8,7 @@ use lib.Dec.{eqb, ltb}
 use lib.ListN.{drop, getD, length}
 use borrow.Author.Tests.{eqb-true, ne-eqb}
 use Rattle.attributes.specs.Extensions.{extensionOf, extensions, firstNamed, isWord, nameOf}
-use Rattle.attributes.specs.Words.{byWord, keywords, wordOf}
+use Rattle.attributes.specs.Words.{byWord, keywords, keywordOf}
 use Rattle.attributes.specs.declared.extensions.Extension.{Extension}
 use Rattle.attributes.specs.declared.extensions.Extension.the-variants.{ExplicitStructNames, ImplicitSome, UnwrapNewtypes, UnwrapVariantNewtypes}
 use Rattle.attributes.specs.declared.extensions.Named.{Named}
@@ -83,8 +83,8 @@ words-fit : fit letter keywords ≡ true
 unfolding letter within
 words-fit = refl
 
-pub keyword-stopped : (at : ℕ) → Stopped 0x5d (λ t. byWord at (wordOf t))
-unfolding byWord wordOf
+pub keyword-stopped : (at : ℕ) → Stopped 0x5d (λ t. byWord at (keywordOf t))
+unfolding byWord keywordOf
 keyword-stopped at =
     on (λ (f : Found). cond (eqb (f .end) 0) NoKeyword (cond (eqb (f .code) 1) (Enable (at + f .end)) (Text (at + f .end))))
     (first-stopped letter 0x5d (omega arith) no-next bracket-out keywords words-fit)
@@ -176,8 +176,8 @@ table-good (w ∷ ws) t l =
     cond-cases (λ (f : Found). eqb (f .end) 0 ≡ false → Good (getD t 0 0)) (eqb (identOf (w .letters) t) 0) (firstOf ws t) (record { code = w .says; end = identOf (w .letters) t })
     (λ e h. table-good ws t (l .1) h) (λ e h. ident-good (w .letters) t (l .0) e)
 
-pub keyword-good : (t : List ℕ) → eqb (wordOf t .end) 0 ≡ false → Good (getD t 0 0)
-unfolding wordOf
+pub keyword-good : (t : List ℕ) → eqb (keywordOf t .end) 0 ≡ false → Good (getD t 0 0)
+unfolding keywordOf
 keyword-good t h = table-good keywords t ((omega arith, refl), ((omega arith, refl), ((omega arith, refl), tt))) h
 
 -- a string begins with a quote or `r`

@@ -27,13 +27,13 @@ unfoldable pub enableFrom : List ℕ → ℕ → AttributeAnswer
 enableFrom s at = answerAt (signFrom 0x28 s at) (λ p. byListed s (listOf s p))
 
 -- Behind `type` or `schema`: `=` and a string.
-unfoldable pub valueFrom : List ℕ → ℕ → AttributeAnswer
-valueFrom s at = answerAt (signFrom 0x3d s at) (stringFrom s)
+unfoldable pub stringValueFrom : List ℕ → ℕ → AttributeAnswer
+stringValueFrom s at = answerAt (signFrom 0x3d s at) (stringFrom s)
 
 -- The answer by the word.
 abbrev pub byKeyword : List ℕ → Keyword → AttributeAnswer
 byKeyword s (Enable at) = enableFrom s at
-byKeyword s (Text at) = valueFrom s at
+byKeyword s (Text at) = stringValueFrom s at
 byKeyword s NoKeyword = Refused (expectedAttribute 0)
 
 -- Behind `#`, `!` and `[`.

@@ -39,12 +39,12 @@ unfoldable pub extensionOf : List ℕ → ℕ → Named
 extensionOf t n = firstNamed extensions t n
 
 -- What an extension adds.
-abbrev pub valueOf : Extension → ℕ
-valueOf UnwrapNewtypes = 1
-valueOf ImplicitSome = 2
-valueOf UnwrapVariantNewtypes = 4
-valueOf ExplicitStructNames = 8
+abbrev pub addsOf : Extension → ℕ
+addsOf UnwrapNewtypes = 1
+addsOf ImplicitSome = 2
+addsOf UnwrapVariantNewtypes = 4
+addsOf ExplicitStructNames = 8
 
 -- The sum with the extension, which is added where it is not in it.
 unfoldable pub addedTo : Extension → ℕ → ℕ
-addedTo e sum = cond (eqb (sum / valueOf e % 2) 1) sum (sum + valueOf e)
+addedTo e sum = cond (eqb (sum / addsOf e % 2) 1) sum (sum + addsOf e)

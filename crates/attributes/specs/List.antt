@@ -45,19 +45,19 @@ unfoldable pub behindName : List ℕ → Extension → ℕ → Item
 behindName t e n = byComma t e (consumeOf 0x2c t (allAt true (skipFrom t n)))
 
 -- A name of n bytes, which may be an extension's.
-abbrev pub byNamed : List ℕ → ℕ → Named → Item
-byNamed t n (Known e) = behindName t e n
-byNamed t n Unknown = NoName
+abbrev pub byExtensionName : List ℕ → ℕ → Named → Item
+byExtensionName t n (Known e) = behindName t e n
+byExtensionName t n Unknown = NoName
 
 -- What stands where a name should; a raw name's `r#` is no part of the extension's name.
-abbrev pub byIdentifier : List ℕ → Identifier → Item
-byIdentifier t Missing = NoName
-byIdentifier t (Name n) = byNamed t n (extensionOf t n)
-byIdentifier t (RawName n) = byNamed t n (extensionOf (drop 2 t) (n - 2))
+abbrev pub byListName : List ℕ → Identifier → Item
+byListName t Missing = NoName
+byListName t (Name n) = byExtensionName t n (extensionOf t n)
+byListName t (RawName n) = byExtensionName t n (extensionOf (drop 2 t) (n - 2))
 
 -- The extension that a part begins with, and what stands behind it.
 unfoldable pub itemOf : List ℕ → Item
-itemOf t = byIdentifier t (identifierOf t)
+itemOf t = byListName t (identifierOf t)
 
 -- What an item at the place `at` comes to, behind extensions of the sum: behind n bytes the list goes on.
 abbrev pub byItem : Item → (ℕ → Extension → Listed) → ℕ → ℕ → Listed

@@ -15,14 +15,14 @@ use Rattle.attributes.specs.declared.steps.All.{All}
 use Rattle.attributes.specs.declared.steps.All.the-variants.{At, Failed}
 
 -- The place behind a gap; an open line comment ends with the text.
-abbrev pub byGap : ℕ → Gap → Step
-byGap at (Clear n) = On (at + n)
-byGap at (InLine n) = On (at + n)
-byGap at (NoGap r) = Bad (placedBehind at r)
+abbrev pub stepBehind : ℕ → Gap → Step
+stepBehind at (Clear n) = On (at + n)
+stepBehind at (InLine n) = On (at + n)
+stepBehind at (NoGap r) = Bad (placedBehind at r)
 
 -- Behind the whitespace and comments at a place.
 unfoldable pub skipFrom : List ℕ → ℕ → Step
-skipFrom s at = byGap at (gapOf (drop at s))
+skipFrom s at = stepBehind at (gapOf (drop at s))
 
 -- A step as part of `consume_all`.
 abbrev pub allAt : Bool → Step → All

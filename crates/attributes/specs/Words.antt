@@ -18,8 +18,8 @@ keywords =
     ∷ []
 
 -- The one of them that the part begins with.
-unfoldable pub wordOf : List ℕ → Found
-wordOf t = firstOf keywords t
+unfoldable pub keywordOf : List ℕ → Found
+keywordOf t = firstOf keywords t
 
 -- A word found at the place `at`.
 unfoldable pub byWord : ℕ → Found → Keyword
@@ -29,4 +29,4 @@ byWord at f =
 
 -- The word at a place, and the place behind it.
 unfoldable pub keywordAt : List ℕ → ℕ → Keyword
-keywordAt s at = byWord at (wordOf (drop at s))
+keywordAt s at = byWord at (keywordOf (drop at s))

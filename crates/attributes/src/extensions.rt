@@ -2,7 +2,7 @@
 use integers::ident::check_str;
 ghost use mathlib.Core.Path.{_≡_};
 ghost use Prim.Native.Nat.{_<_};
-ghost use Rattle.attributes.specs.Extensions.{isWord, extensionOf, valueOf, addedTo};
+ghost use Rattle.attributes.specs.Extensions.{isWord, extensionOf, addsOf, addedTo};
 
 pub enum Extension {
     UnwrapNewtypes,
@@ -46,7 +46,7 @@ pub fn from_ident(t: &[u8], n: usize) -> Named
 }
 
 fn value(e: Extension) -> u32
-    ensures { λ r. ⌜ r ≡ valueOf e ⌝ }
+    ensures { λ r. ⌜ r ≡ addsOf e ⌝ }
 {
     match e {
         Extension::UnwrapNewtypes => 1,

@@ -12,7 +12,7 @@ use steps::Step;
 use text::Refusal;
 use words::Keyword;
 ghost use mathlib.Core.Path.{_≡_};
-ghost use Rattle.attributes.specs.Attributes.{enableFrom, valueFrom, keywordFrom, attributeOf};
+ghost use Rattle.attributes.specs.Attributes.{enableFrom, stringValueFrom, keywordFrom, attributeOf};
 
 // The attribute's length, its `]` included, and the sum of its extensions; or a refusal, of which 19, 20 and 21 stand at the `#`.
 pub enum AttributeAnswer {
@@ -39,7 +39,7 @@ fn enable(s: &[u8], at: usize) -> AttributeAnswer
 
 // Behind `type` or `schema`: a string.
 fn value(s: &[u8], at: usize) -> AttributeAnswer
-    ensures { λ r. ⌜ r ≡ valueFrom (now (s .entry)) at ⌝ }
+    ensures { λ r. ⌜ r ≡ stringValueFrom (now (s .entry)) at ⌝ }
 {
     let given = steps::sign(s, b'=', at);
     match given {

@@ -13,7 +13,7 @@ use text::refusal::placed_behind;
 ghost use mathlib.Core.Path.{_≡_};
 ghost use Prim.Native.Nat.{_≤_};
 ghost use lib.ListN.{length};
-ghost use Rattle.attributes.specs.List.{otherChar, itemEnd, behindName, byNamed, itemOf, listOf};
+ghost use Rattle.attributes.specs.List.{otherChar, itemEnd, behindName, byExtensionName, itemOf, listOf};
 
 // Whether a name goes on at a place (the crate's `check_ident_other_char`).
 pub enum OtherChar {
@@ -80,7 +80,7 @@ fn behind_name(t: &[u8], e: Extension, n: usize) -> Item
 }
 
 fn by_named(t: &[u8], n: usize, named: Named) -> Item
-    ensures { λ r. ⌜ r ≡ byNamed (now (t .entry)) n named ⌝ }
+    ensures { λ r. ⌜ r ≡ byExtensionName (now (t .entry)) n named ⌝ }
 {
     match named {
         Named::Known(e) => behind_name(t, e, n),

@@ -3,7 +3,7 @@ use integers::ident::Found;
 use integers::ident::check_ident;
 use integers::ident::nothing;
 ghost use mathlib.Core.Path.{_≡_};
-ghost use Rattle.attributes.specs.Words.{wordOf, keywordAt};
+ghost use Rattle.attributes.specs.Words.{keywordOf, keywordAt};
 
 // The word at a place, with the place behind it.
 pub enum Keyword {
@@ -15,7 +15,7 @@ pub enum Keyword {
 
 // Which word the part begins with: 1 for `enable`, 2 for the others.
 fn word_of(t: &[u8]) -> Found
-    ensures { λ r. ⌜ r ≡ wordOf (now (t .entry)) ⌝ }
+    ensures { λ r. ⌜ r ≡ keywordOf (now (t .entry)) ⌝ }
 {
     let enable = check_ident(t, b"enable");
     if enable != 0 {

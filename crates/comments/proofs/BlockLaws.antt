@@ -15,7 +15,7 @@ use Rattle.comments.specs.declared.block.CommentEnd.{CommentEnd}
 use Rattle.comments.specs.declared.block.CommentEnd.the-variants.{Closed, Unclosed}
 use Rattle.comments.specs.declared.block.Decision.{Decision}
 use Rattle.comments.specs.declared.block.Decision.the-variants.{Open, CloseLast, CloseInner, PassOn}
-use Rattle.search.specs.Others.{neither}
+use Rattle.search.specs.inner.Others.{neither}
 use Rattle.text.proofs.Choices.{bool-cases, either, or-left, or-right}
 use Rattle.text.proofs.Lists.{front2, next}
 use Rattle.text.specs.Runs.{run}

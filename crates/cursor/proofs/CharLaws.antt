@@ -5,7 +5,7 @@ use mathlib.Core.List.{List}
 use mathlib.Core.Path.{_≡_, sym}
 use lib.Dec.{eqb}
 use lib.ListN.{drop, drop-of-length-le, getD, length}
-use Rattle.cursor.specs.Chars.{beginsWith, consumedOf, expectedOf, nextIn, nextOf}
+use Rattle.cursor.specs.inner.Chars.{beginsWith, consumedOf, expectedOf, nextIn, nextOf}
 use Rattle.cursor.specs.Cursor.{movedBy}
 use Rattle.cursor.specs.declared.ParserCursor.{ParserCursor}
 use Rattle.cursor.specs.declared.chars.Consumed.{Consumed}

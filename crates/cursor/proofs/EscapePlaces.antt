@@ -15,7 +15,7 @@ use Rattle.escapes.specs.Escapes.{escapeOf}
 use Rattle.escapes.proofs.Bounded.{Bounded, bounded}
 use Rattle.cursor.specs.declared.ParserCursor.{ParserCursor}
 use Rattle.cursor.specs.declared.escape.Escaped.the-variants as escaped
-use Rattle.cursor.specs.Escape.{escapedOf}
+use Rattle.cursor.specs.inner.Escape.{escapedOf}
 
 -- where the answer ends, counted from the part's front
 abbrev pub reach : EscapeAnswer → ℕ

@@ -8,7 +8,7 @@ use lib.ListN.{drop, drop-of-length-le, length, getD}
 use borrow.Author.Tests.{eq-eqb, le-ltb, leb-true, lt-ltb, ne-eqb}
 use Rattle.comments.specs.Gaps.{gapOf}
 use Rattle.cursor.specs.Cursor.{cursor, unclosedLine}
-use Rattle.cursor.specs.Skip.{behindGap, behindPart, cursorFits, preOf, skipWsOf, lengthFits}
+use Rattle.cursor.specs.Skip.{cursorBehind, behindPart, cursorFits, preOf, skipWsOf, lengthFits}
 use Rattle.cursor.specs.declared.ParserCursor.{ParserCursor}
 use Rattle.cursor.specs.declared.skip.Step.the-variants.{Moved}
 use Rattle.text.proofs.Choices.{and-true}
@@ -38,7 +38,7 @@ module _ (text : List ℕ) (c : ParserCursor) where
   unfolding skipWsOf behindPart
   skip-at-end h = rw (drop-of-length-le text h)
 
-  pub skip-runs : c .cursor < length text → skipWsOf text c ≡ behindGap (c .cursor) (preOf c) (gapOf (drop (c .cursor) text))
+  pub skip-runs : c .cursor < length text → skipWsOf text c ≡ cursorBehind (c .cursor) (preOf c) (gapOf (drop (c .cursor) text))
   unfolding skipWsOf behindPart
   skip-runs h = rw (front text (c .cursor) h)
 

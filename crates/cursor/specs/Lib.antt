@@ -1,4 +1,3 @@
 pub mod Cursor
-pub mod Chars
 pub mod Skip
-pub mod Escape
+pub mod inner

@@ -30,15 +30,15 @@ preOf c =
     cond (not (eqb (c .«last_ws_len») unclosedLine) && ltb (c .«pre_ws_cursor» + c .«last_ws_len») (c .cursor)) (c .cursor) (c .«pre_ws_cursor»)
 
 -- The cursor behind a gap from the place `at`; an unclosed line sets the mark.
-abbrev pub behindGap : ℕ → ℕ → Gap → Step
-behindGap at pre (Clear n) = Moved (cursor (at + n) pre (at + n - pre))
-behindGap at pre (InLine n) = Moved (cursor (at + n) pre unclosedLine)
-behindGap at pre (GapRefused r) = Refused (placedBehind at r)
+abbrev pub cursorBehind : ℕ → ℕ → Gap → Step
+cursorBehind at pre (Clear n) = Moved (cursor (at + n) pre (at + n - pre))
+cursorBehind at pre (InLine n) = Moved (cursor (at + n) pre unclosedLine)
+cursorBehind at pre (GapRefused r) = Refused (placedBehind at r)
 
 -- The cursor behind the part in front of it: at the end of the text the whitespace length stays.
 unfoldable pub behindPart : ParserCursor → List ℕ → Step
 behindPart c [] = Moved (cursor (c .cursor) (preOf c) (c .«last_ws_len»))
-behindPart c (a ∷ s) = behindGap (c .cursor) (preOf c) (gapOf (a ∷ s))
+behindPart c (a ∷ s) = cursorBehind (c .cursor) (preOf c) (gapOf (a ∷ s))
 
 -- What `skip_ws` does over any text and cursor; past the end is as at it.
 unfoldable pub skipWsOf : List ℕ → ParserCursor → Step

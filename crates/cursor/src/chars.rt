@@ -5,7 +5,7 @@ use text::Refusal;
 use text::utf8::char_len;
 use text::utf8::code_point;
 ghost use mathlib.Core.Path.{_≡_};
-ghost use Rattle.cursor.specs.Chars.{nextOf, consumedOf, expectedOf};
+ghost use Rattle.cursor.specs.inner.Chars.{nextOf, consumedOf, expectedOf};
 
 // The character at the cursor and the cursor behind it.
 pub enum Next {

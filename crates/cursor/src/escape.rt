@@ -5,7 +5,7 @@ use escapes::Mode;
 use text::Refusal;
 use text::refusal::placed_behind;
 ghost use mathlib.Core.Path.{_≡_};
-ghost use Rattle.cursor.specs.Escape.{escapedOf};
+ghost use Rattle.cursor.specs.inner.Escape.{escapedOf};
 
 // A byte or a scalar value, and the cursor behind the escape; or the refusal.
 pub enum Escaped {

@@ -9,7 +9,7 @@ use lib.Dec.{eqb, leb, ltb}
 use lib.Ieee.{fits}
 use borrow.Author.Tests.{eqb-false, eqb-true, le-ltb, leb-false, lt-leb, ltb-false}
 use Rattle.digits.specs.Digits.{hexOf, digitsFrom, digitsOf, turnOf}
-use Rattle.digits.specs.Value.{Fit, ReadsFrom, stepOf, valueFrom}
+use Rattle.digits.specs.Value.{Fit, ReadsFrom, digitStep, valueFrom}
 use Rattle.digits.specs.declared.Run.the-variants.{Value, NotDigit, Over}
 use Rattle.digits.specs.declared.up.Turned.{Turned}
 use Rattle.text.proofs.Choices.{bool-cases, either}
@@ -28,7 +28,7 @@ over-value v e = let z : _≡_ {A = ℕ} 0 1 = cc in absurd (omega arith)
 not-value : {X : Type 0} (p v : ℕ) → NotDigit p ≡ Value v → X
 not-value p v e = let z : _≡_ {A = ℕ} 0 1 = cc in absurd (omega arith)
 
-grows : (base acc c : ℕ) → 0 < base → acc ≤ stepOf base acc c
+grows : (base acc c : ℕ) → 0 < base → acc ≤ digitStep base acc c
 grows base acc c h =
     either (bool-cases (eqb c 0x5f))
     (λ e. simp e (omega arith))
@@ -37,10 +37,10 @@ grows base acc c h =
 pub value-grows : (base acc : ℕ) (run : List ℕ) → 0 < base → acc ≤ valueFrom base acc run
 unfolding valueFrom
 value-grows base acc [] h = omega arith
-value-grows base acc (c ∷ cs) h = omega (arith, grows base acc c h, value-grows base (stepOf base acc c) cs h)
+value-grows base acc (c ∷ cs) h = omega (arith, grows base acc c h, value-grows base (digitStep base acc c) cs h)
 
 module _ (limit base acc c : ℕ) where
-  pub turn-next : (n : ℕ) → turnOf limit base acc c ≡ turned.Next n → acc ≤ limit → (stepOf base acc c ≡ n) × (Fit base c × (n ≤ limit))
+  pub turn-next : (n : ℕ) → turnOf limit base acc c ≡ turned.Next n → acc ≤ limit → (digitStep base acc c ≡ n) × (Fit base c × (n ≤ limit))
   unfolding turnOf
   turn-next n e h =
       either (bool-cases (eqb c 0x5f)) (λ p. let q : acc ≡ n = cc (simp p at e) in (rw (p) q, (inl (eqb-true _ _ p), omega arith))) λ p.
@@ -50,7 +50,7 @@ module _ (limit base acc c : ℕ) where
       let t : acc * base + hexOf c ≡ n = cc (simp (p, q, r, s) at e) in
       (rw p t, (inr (leb-false _ _ r), omega (arith, ltb-false limit (acc * base + hexOf c) s)))
 
-  pub turn-fit : Fit base c → stepOf base acc c ≤ limit → turnOf limit base acc c ≡ turned.Next (stepOf base acc c)
+  pub turn-fit : Fit base c → digitStep base acc c ≤ limit → turnOf limit base acc c ≡ turned.Next (digitStep base acc c)
   unfolding turnOf
   turn-fit f h =
       either (bool-cases (eqb c 0x5f)) (λ e. simp e) λ e.
@@ -82,9 +82,9 @@ module _ (limit base : ℕ) (positive : 0 < base) where
   unfolding digitsFrom valueFrom
   of-reads [] acc at v r = ap Value (r .value)
   of-reads (c ∷ cs) acc at v r =
-      let g : stepOf base acc c ≤ limit = omega (arith, value-grows base (stepOf base acc c) cs positive, r .value, r .fits) in
+      let g : digitStep base acc c ≤ limit = omega (arith, value-grows base (digitStep base acc c) cs positive, r .value, r .fits) in
       rw (turn-fit limit base acc c (r .only 0 (omega arith)) g)
-      (of-reads cs (stepOf base acc c) (at + 1) v
+      (of-reads cs (digitStep base acc c) (at + 1) v
       (record { only = λ i l. r .only (suc i) (omega (arith, l)); value = r .value; fits = r .fits }))
 
 -- a run reads as a value exactly when it holds only digits below the base and underscores and has that value, within the limit

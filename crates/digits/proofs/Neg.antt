@@ -9,7 +9,7 @@ use lib.Ieee.{low}
 use lib.IntN.{ℤ, pos, negsuc, negℤ, natAbs, negℤ-+ℤ, _*ℤ_, _+ℤ_, _-ℤ_}
 use lib.Signed.{ltZ, quotZ}
 use borrow.Author.Tests.{lt-ltb, le-ltb, ltb-true, ltb-false}
-use Rattle.digits.specs.Down.{downOf}
+use Rattle.digits.specs.inner.Down.{downOf}
 use Rattle.digits.specs.declared.down.Down.the-variants.{Next, Over, NotDigit}
 use Rattle.digits.specs.declared.up.Turned.{Turned}
 use Rattle.text.proofs.Choices.{bool-cases, either}

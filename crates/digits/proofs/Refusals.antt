@@ -10,7 +10,7 @@ use lib.ListN.{take}
 use borrow.Author.Tests.{eqb-false, leb-false, leb-true, ltb-false, ltb-true, le-leb, le-ltb, lt-leb, lt-ltb, ne-eqb}
 use Rattle.digits.proofs.Exact.{turn-fit, turn-next, value-grows}
 use Rattle.digits.specs.Digits.{hexOf, digitsFrom, digitsOf, onTurn, turnOf}
-use Rattle.digits.specs.Value.{Fit, StopsAt, stepOf, valueFrom}
+use Rattle.digits.specs.Value.{Fit, StopsAt, digitStep, valueFrom}
 use Rattle.digits.specs.declared.Run.{Run}
 use Rattle.digits.specs.declared.Run.the-variants.{Value, Empty, Underscore, NotDigit, Over}
 use Rattle.digits.specs.declared.up.Turned.{Turned}
@@ -54,7 +54,7 @@ module _ (limit base acc c : ℕ) where
 
 module _ (limit base : ℕ) (positive : 0 < base) where
   -- one character more in front
-  further : (c : ℕ) (cs : List ℕ) (acc : ℕ) (t : Turned) (i : ℕ) → Fit base c → StopsAt limit base (stepOf base acc c) cs t i → StopsAt limit base acc (c ∷ cs) t (suc i)
+  further : (c : ℕ) (cs : List ℕ) (acc : ℕ) (t : Turned) (i : ℕ) → Fit base c → StopsAt limit base (digitStep base acc c) cs t i → StopsAt limit base acc (c ∷ cs) t (suc i)
   unfolding valueFrom
   further c cs acc t i f s =
       record {
@@ -80,7 +80,7 @@ module _ (limit base : ℕ) (positive : 0 < base) where
   Stop acc at run (NotDigit p) = (i : ℕ) × ((p ≡ at + i) × StopsAt limit base acc run turned.NotDigit i)
   Stop acc at run Over = (i : ℕ) × StopsAt limit base acc run turned.Over i
 
-  one-more : (c : ℕ) (cs : List ℕ) (acc at : ℕ) (r : Run) → Fit base c → Stop (stepOf base acc c) (at + 1) cs r → Stop acc at (c ∷ cs) r
+  one-more : (c : ℕ) (cs : List ℕ) (acc at : ℕ) (r : Run) → Fit base c → Stop (digitStep base acc c) (at + 1) cs r → Stop acc at (c ∷ cs) r
   one-more c cs acc at (Value v) f s = tt
   one-more c cs acc at Empty f s = s
   one-more c cs acc at Underscore f s = s
@@ -101,11 +101,11 @@ module _ (limit base : ℕ) (positive : 0 < base) where
           one-more c cs acc at (digitsFrom limit base n (at + 1) cs) (g .1 .0) (rw (g .0) (rest n (g .1 .1)))
 
   -- the character in front of a later stop is read
-  passed : (c : ℕ) (cs : List ℕ) (acc : ℕ) (t : Turned) (i : ℕ) → StopsAt limit base acc (c ∷ cs) t (suc i) → (turnOf limit base acc c ≡ turned.Next (stepOf base acc c)) × StopsAt limit base (stepOf base acc c) cs t i
+  passed : (c : ℕ) (cs : List ℕ) (acc : ℕ) (t : Turned) (i : ℕ) → StopsAt limit base acc (c ∷ cs) t (suc i) → (turnOf limit base acc c ≡ turned.Next (digitStep base acc c)) × StopsAt limit base (digitStep base acc c) cs t i
   unfolding valueFrom
   passed c cs acc t i s =
       let f = s .before .only 0 (omega arith) in
-      let g : stepOf base acc c ≤ limit = omega (arith, value-grows base (stepOf base acc c) (take i cs) positive, s .before .fits) in (
+      let g : digitStep base acc c ≤ limit = omega (arith, value-grows base (digitStep base acc c) (take i cs) positive, s .before .fits) in (
         turn-fit limit base acc c f g,
         record {
           inside = omega (arith, s .inside);
@@ -121,7 +121,7 @@ module _ (limit base : ℕ) (positive : 0 < base) where
   over-stops (c ∷ cs) acc at zero s = rw (s .turn)
   over-stops (c ∷ cs) acc at (suc i) s =
       let p = passed c cs acc turned.Over i s in
-      rw (p .0) (over-stops cs (stepOf base acc c) (at + 1) i (p .1))
+      rw (p .0) (over-stops cs (digitStep base acc c) (at + 1) i (p .1))
 
   not-stops : (run : List ℕ) (acc at i : ℕ) → StopsAt limit base acc run turned.NotDigit i → digitsFrom limit base acc at run ≡ NotDigit (at + i)
   unfolding digitsFrom valueFrom
@@ -130,7 +130,7 @@ module _ (limit base : ℕ) (positive : 0 < base) where
   not-stops (c ∷ cs) acc at (suc i) s =
       let p = passed c cs acc turned.NotDigit i s in
       let e : at + 1 + i ≡ at + suc i = omega arith in
-      rw (p .0) (not-stops cs (stepOf base acc c) (at + 1) i (p .1) ∙ ap NotDigit e)
+      rw (p .0) (not-stops cs (digitStep base acc c) (at + 1) i (p .1) ∙ ap NotDigit e)
 
   -- 9 at `i`, exactly when the characters before `i` read and the one at `i` is a digit not below the base whose product still fits
   pub nine-exact : (run : List ℕ) (i : ℕ) → (digitsOf limit base run ≡ NotDigit i) ↔ StopsAt limit base 0 run turned.NotDigit i

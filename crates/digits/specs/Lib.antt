@@ -1,3 +1,3 @@
 pub mod Digits
-pub mod Down
 pub mod Value
+pub mod inner

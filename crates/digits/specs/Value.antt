@@ -10,13 +10,13 @@ use Rattle.digits.specs.Digits.{hexOf, turnOf}
 use Rattle.digits.specs.declared.up.Turned.{Turned}
 
 -- One character's part in the value: an underscore leaves it, a digit is one place more.
-abbrev pub stepOf : (base acc c : ℕ) → ℕ
-stepOf base acc c = cond (eqb c 0x5f) acc (acc * base + hexOf c)
+abbrev pub digitStep : (base acc c : ℕ) → ℕ
+digitStep base acc c = cond (eqb c 0x5f) acc (acc * base + hexOf c)
 
 -- The value of a run behind digits whose value is `acc`.
 unfoldable pub valueFrom : (base acc : ℕ) → List ℕ → ℕ
 valueFrom base acc [] = acc
-valueFrom base acc (c ∷ cs) = valueFrom base (stepOf base acc c) cs
+valueFrom base acc (c ∷ cs) = valueFrom base (digitStep base acc c) cs
 
 -- The value of a run, its underscores left out.
 abbrev pub valueOf : (base : ℕ) → List ℕ → ℕ

@@ -5,7 +5,7 @@ ghost use mathlib.Core.Path.{_≡_};
 ghost use Prim.Native.Nat.{_/_, _<_, _≤_};
 ghost use lib.IntN.{pos, negℤ, natAbs};
 ghost use Rattle.digits.specs.Digits.{turnOf, digitsOf};
-ghost use Rattle.digits.specs.Down.{downOf};
+ghost use Rattle.digits.specs.inner.Down.{downOf};
 
 // What one character of a run does to the number before it.
 pub enum Down {

@@ -12,7 +12,7 @@ use Rattle.read.specs.Read.{readAnswer, readTape, toldRead}
 use Rattle.read.specs.declared.measure.ReadAnswer.{ReadAnswer}
 use Rattle.read.specs.declared.measure.ReadAnswer.the-variants.{Accepted, Refused as NotRead}
 use Rattle.rows.specs.Rows.{roomOf, entriesOf}
-use Rattle.sarridok.specs.Walked.{told, walkOf, linksAfter}
+use Rattle.sarridok.specs.Walked.{toldWalk, walkOf, linksAfter}
 use Rattle.sarridok.specs.declared.walk_call.WalkAnswer.{WalkAnswer}
 use Rattle.sarridok.specs.declared.walk_call.WalkAnswer.the-variants.{Walked, Refused as NotWalked}
 use Rattle.text.specs.Refusals.{Told, accepted, refused}
@@ -21,18 +21,18 @@ use Rattle.explain.specs.Explained.{acceptedText, refusedText, walkedTex
 
 -- ---- the walk
 
-module _ (s tape : List ℕ) (count : ℕ) (a : Told Unit) (r : WalkAnswer) (told-is : told r ≡ a) (out end : List ℕ × ℕ) where
+module _ (s tape : List ℕ) (count : ℕ) (a : Told Unit) (r : WalkAnswer) (told-is : toldWalk r ≡ a) (out end : List ℕ × ℕ) where
   pub walked-accepted : r ≡ Walked → (depth : ℕ) → depth ≡ deepestOf (kindsOf (entriesOf count tape)) → end ≡ put out (acceptedText count depth)
       → end ≡ put out (walkedText s tape count a)
   unfolding walkedText
   walked-accepted h depth e f =
-      f ∙ ap (λ (d : ℕ). put out (acceptedText count d)) e ∙ ap (λ (x : Told Unit). put out (walkedText s tape count x)) (sym (ap told h) ∙ told-is)
+      f ∙ ap (λ (d : ℕ). put out (acceptedText count d)) e ∙ ap (λ (x : Told Unit). put out (walkedText s tape count x)) (sym (ap toldWalk h) ∙ told-is)
 
   pub walked-refused : (d : Refusal) → r ≡ NotWalked d → (p : ℕ) → p ≡ walkPlace tape count d → end ≡ put out (refusedText s (d .number) p)
       → end ≡ put out (walkedText s tape count a)
   unfolding walkedText
   walked-refused d h p e f =
-      f ∙ ap (λ (k : ℕ). put out (refusedText s (d .number) k)) e ∙ ap (λ (x : Told Unit). put out (walkedText s tape count x)) (sym (ap told h) ∙ told-is)
+      f ∙ ap (λ (k : ℕ). put out (refusedText s (d .number) k)) e ∙ ap (λ (x : Told Unit). put out (walkedText s tape count x)) (sym (ap toldWalk h) ∙ told-is)
 
 -- ---- the read
 

@@ -10,9 +10,9 @@ use lib.Seq.{length-take-le}
 use borrow.Author.Tests.{leb-true}
 use Rattle.floats.proofs.Laws.{floatRun-le}
 use Rattle.floats.specs.Classes.{floatRun}
-use Rattle.floats.specs.Float.{behindJudged, floatOf, floatSuffixes, floatTo, runAt, signedOr, specials, withFloatSuffix}
+use Rattle.floats.specs.Float.{behindFloat, floatOf, floatSuffixes, floatTo, runAt, signedOr, specials, withFloatSuffix}
 use Rattle.floats.specs.Grammar.{accepts}
-use Rattle.floats.specs.Judged.{judgedOf, mayFollow, misplaced, stripped, wellTo}
+use Rattle.floats.specs.Judged.{floatJudged, mayFollow, misplaced, stripped, wellTo}
 use Rattle.floats.specs.declared.float.AnyFloat.{AnyFloat}
 use Rattle.floats.specs.declared.float.AnyFloat.the-variants.{Read, Refused}
 use Rattle.floats.specs.declared.judge.Judged.{Judged}
@@ -41,8 +41,8 @@ Held n (Misplaced at) = at ≤ n
 Held n Fine = Unit
 Held n Unfit = Unit
 
-judged-held : (s : List ℕ) → Held (length s) (judgedOf s)
-unfolding judgedOf
+judged-held : (s : List ℕ) → Held (length s) (floatJudged s)
+unfolding floatJudged
 judged-held s =
     either (bool-cases (ltb (wellTo s false) (length s))) (λ a. rw a (well-le s false)) λ a.
     either (bool-cases (accepts (stripped s) Start)) (λ b. rw (a, b) tt) (λ b. rw (a, b) tt)
@@ -50,7 +50,7 @@ judged-held s =
 to-bounded : (code end n : ℕ) → 0 < end → end ≤ n → code ≤ 64 → FloatBounded n (floatTo code end)
 to-bounded code end n z h w = (z, h, w)
 
-behind-bounded : (code end n m : ℕ) (j : Judged) → Held m j → m ≤ end → 0 < m → end ≤ n → code ≤ 64 → FloatBounded n (behindJudged code end j)
+behind-bounded : (code end n m : ℕ) (j : Judged) → Held m j → m ≤ end → 0 < m → end ≤ n → code ≤ 64 → FloatBounded n (behindFloat code end j)
 behind-bounded code end n m (Misplaced at) g l z h w = omega arith
 behind-bounded code end n m Fine g l z h w = to-bounded code end n (omega arith) h w
 behind-bounded code end n m Unfit g l z h w = omega arith
@@ -72,7 +72,7 @@ split-bounded [] f n h w = omega arith
 split-bounded (x ∷ xs) f n h w =
     let p : List ℕ = x ∷ xs in
     either (bool-cases (eqb (length p) 0)) (λ a. rw a (omega arith))
-    (λ a. rw a (behind-bounded (f .code) (length p + f .end) n (length p) (judgedOf p) (judged-held p) (omega arith) (omega arith) h w))
+    (λ a. rw a (behind-bounded (f .code) (length p + f .end) n (length p) (floatJudged p) (judged-held p) (omega arith) (omega arith) h w))
 
 run-bounded : (s : List ℕ) → FloatBounded (length s) (runAt s)
 unfolding runAt

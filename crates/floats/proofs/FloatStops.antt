@@ -8,8 +8,8 @@ use lib.Dec.{eqb}
 use lib.ListN.{drop, length}
 use borrow.Author.Tests.{ne-eqb}
 use Rattle.floats.specs.Classes.{floatGoes, floatRun}
-use Rattle.floats.specs.Float.{behindJudged, floatOf, floatSuffixes, runAt, signedOr, specials}
-use Rattle.floats.specs.Judged.{judgedOf}
+use Rattle.floats.specs.Float.{behindFloat, floatOf, floatSuffixes, runAt, signedOr, specials}
+use Rattle.floats.specs.Judged.{floatJudged}
 use Rattle.floats.specs.declared.float.AnyFloat.{AnyFloat}
 use Rattle.floats.specs.declared.float.AnyFloat.the-variants.{Refused}
 use Rattle.integers.proofs.IntegerStops.{Outside, out-digit, out-next, out-letter, out-underscore, out-sign, sign-reach}
@@ -54,7 +54,7 @@ module _ (c : ℕ) (o : Outside c) where
   run-stopped : Stopped c runAt
   unfolding runAt
   run-stopped =
-      on₂ (λ (p : List ℕ) (f : Found). cond (eqb (length p) 0) (Refused (expectedFloat 0)) (behindJudged (f .code) (length p + f .end) (judgedOf p)))
+      on₂ (λ (p : List ℕ) (f : Found). cond (eqb (length p) 0) (Refused (expectedFloat 0)) (behindFloat (f .code) (length p + f .end) (floatJudged p)))
       (part float-reach) (behind float-reach suffix-stopped)
 
   -- inf and NaN at the front

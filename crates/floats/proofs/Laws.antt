@@ -9,9 +9,9 @@ use lib.ListN.{drop, drop-of-length-le, getD, length, take}
 use lib.Seq.{length-take-le}
 use borrow.Author.Tests.{le-ltb, lt-ltb, ne-eqb}
 use Rattle.floats.specs.Classes.{floatGoes, floatRun}
-use Rattle.floats.specs.Float.{behindJudged, floatOf, floatSuffixes, floatTo, runAt, specials}
+use Rattle.floats.specs.Float.{behindFloat, floatOf, floatSuffixes, floatTo, runAt, specials}
 use Rattle.floats.specs.Grammar.{accepts, final}
-use Rattle.floats.specs.Judged.{advanceOf, judgedOf, mayFollow, misplaced, stripped, wellTo}
+use Rattle.floats.specs.Judged.{advanceOf, floatJudged, mayFollow, misplaced, stripped, wellTo}
 use Rattle.floats.specs.declared.float.AnyFloat.the-variants.{Refused}
 use Rattle.floats.specs.declared.judge.Judged.{Judged}
 use Rattle.floats.specs.declared.judge.Judged.the-variants.{Misplaced, Fine, Unfit}
@@ -49,16 +49,16 @@ module _ (s : List ℕ) (i : ℕ) where
   unfolding stripped accepts
   strip-end st h = rw (drop-of-length-le s h)
 
-pub judged-misplaced : (s : List ℕ) (i : ℕ) → i < length s → i ≡ wellTo s false → Misplaced i ≡ judgedOf s
-unfolding judgedOf
+pub judged-misplaced : (s : List ℕ) (i : ℕ) → i < length s → i ≡ wellTo s false → Misplaced i ≡ floatJudged s
+unfolding floatJudged
 judged-misplaced s i h e = rw (lt-ltb (wellTo s false) (length s) (omega arith)) (ap Misplaced e)
 
-pub judged-fine : (s : List ℕ) → length s ≤ wellTo s false → accepts (stripped s) Start ≡ true → Fine ≡ judgedOf s
-unfolding judgedOf
+pub judged-fine : (s : List ℕ) → length s ≤ wellTo s false → accepts (stripped s) Start ≡ true → Fine ≡ floatJudged s
+unfolding floatJudged
 judged-fine s h e = rw (le-ltb (wellTo s false) (length s) h, e)
 
-pub judged-unfit : (s : List ℕ) → length s ≤ wellTo s false → accepts (stripped s) Start ≡ false → Unfit ≡ judgedOf s
-unfolding judgedOf
+pub judged-unfit : (s : List ℕ) → length s ≤ wellTo s false → accepts (stripped s) Start ≡ false → Unfit ≡ floatJudged s
+unfolding floatJudged
 judged-unfit s h e = rw (le-ltb (wellTo s false) (length s) h, e)
 
 -- ---- the float
@@ -70,8 +70,8 @@ pub run-none : (s : List ℕ) (n : ℕ) → n ≡ floatRun s → n ≡ 0 → Ref
 unfolding runAt
 run-none s n e z = rw (sym e ∙ z)
 
-pub run-judged : (s : List ℕ) (n : ℕ) (j : Judged) (f : Found) → n ≡ floatRun s → (n ≡ 0 → ⊥) → j ≡ judgedOf (take n s) → f ≡ firstOf floatSuffixes (drop n s)
-    → behindJudged (f .code) (n + f .end) j ≡ runAt s
+pub run-judged : (s : List ℕ) (n : ℕ) (j : Judged) (f : Found) → n ≡ floatRun s → (n ≡ 0 → ⊥) → j ≡ floatJudged (take n s) → f ≡ firstOf floatSuffixes (drop n s)
+    → behindFloat (f .code) (n + f .end) j ≡ runAt s
 unfolding runAt
 run-judged s n j f e z ej ef =
     let l : length (take n s) ≡ n = length-take-le n s (omega (arith, floatRun-le s)) in

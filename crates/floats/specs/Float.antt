@@ -9,7 +9,7 @@ use Rattle.integers.specs.Words.{Word, firstOf}
 use Rattle.integers.specs.Front.{signOf}
 use Rattle.integers.specs.declared.ident.Found.{Found}
 use Rattle.floats.specs.Classes.{floatRun}
-use Rattle.floats.specs.Judged.{judgedOf}
+use Rattle.floats.specs.Judged.{floatJudged}
 use Rattle.floats.specs.declared.judge.Judged.{Judged}
 use Rattle.floats.specs.declared.judge.Judged.the-variants.{Misplaced, Fine, Unfit}
 use Rattle.floats.specs.declared.float.AnyFloat.{AnyFloat}
@@ -38,14 +38,14 @@ abbrev pub floatTo : (code end : ℕ) → AnyFloat
 floatTo code end = Read (record { len = end; suffix = code })
 
 -- A judged run with the suffix behind it: 12 first, then 11 at the front.
-abbrev pub behindJudged : (code end : ℕ) → Judged → AnyFloat
-behindJudged code end (Misplaced at) = Refused (floatUnderscore at)
-behindJudged code end Fine = floatTo code end
-behindJudged code end Unfit = Refused (expectedFloat 0)
+abbrev pub behindFloat : (code end : ℕ) → Judged → AnyFloat
+behindFloat code end (Misplaced at) = Refused (floatUnderscore at)
+behindFloat code end Fine = floatTo code end
+behindFloat code end Unfit = Refused (expectedFloat 0)
 
 -- The run and the suffix behind it; 11 where no float character stands.
 abbrev pub withFloatSuffix : (part : List ℕ) → Found → AnyFloat
-withFloatSuffix part f = cond (eqb (length part) 0) (Refused (expectedFloat 0)) (behindJudged (f .code) (length part + f .end) (judgedOf part))
+withFloatSuffix part f = cond (eqb (length part) 0) (Refused (expectedFloat 0)) (behindFloat (f .code) (length part + f .end) (floatJudged part))
 
 -- The float characters at the front of a part, and what is behind them.
 abbrev pub splitFloat : (n : ℕ) → List ℕ → AnyFloat
@@ -60,9 +60,9 @@ abbrev pub signedOr : (front : ℕ) → Found → AnyFloat → AnyFloat
 signedOr front l other = cond (eqb front 0) other (cond (eqb (l .end) 0) other (floatTo (l .code) (front + l .end)))
 
 -- The same behind so many bytes of a sign.
-abbrev pub behindFront : (front : ℕ) → (t : List ℕ) → AnyFloat → AnyFloat
-behindFront front t other = signedOr front (firstOf specials t) other
+abbrev pub behindFloatSign : (front : ℕ) → (t : List ℕ) → AnyFloat → AnyFloat
+behindFloatSign front t other = signedOr front (firstOf specials t) other
 
 -- A float.
 unfoldable pub floatOf : List ℕ → AnyFloat
-floatOf s = behindFront (signOf s .end) (drop (signOf s .end) s) (runAt s)
+floatOf s = behindFloatSign (signOf s .end) (drop (signOf s .end) s) (runAt s)

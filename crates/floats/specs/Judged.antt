@@ -35,7 +35,7 @@ abbrev pub advanceOf : State → ℕ → State
 advanceOf st c = cond (eqb c 0x5f) st (stepOf st c)
 
 -- A run judged: its underscores first, then the grammar.
-unfoldable pub judgedOf : List ℕ → Judged
-judgedOf part =
+unfoldable pub floatJudged : List ℕ → Judged
+floatJudged part =
     cond (ltb (wellTo part false) (length part)) (Misplaced (wellTo part false))
     (cond (accepts (stripped part) Start) Fine Unfit)

@@ -9,7 +9,7 @@ use integers::ident::nothing;
 use text::Refusal;
 ghost use mathlib.Core.Path.{_≡_};
 ghost use Rattle.integers.specs.Words.{firstOf};
-ghost use Rattle.floats.specs.Float.{floatSuffixes, specials, behindJudged, runAt, floatOf};
+ghost use Rattle.floats.specs.Float.{floatSuffixes, specials, behindFloat, runAt, floatOf};
 
 // A float's length with its suffix, and which suffix: 32, 64, or 0 without one.
 pub struct FloatSpan {
@@ -71,7 +71,7 @@ pub fn special(t: &[u8]) -> Found
 
 // A run with its suffix: 12 before 11.
 fn behind_judged(judged: Judged, code: u8, end: usize) -> AnyFloat
-    ensures { λ r. ⌜ r ≡ behindJudged code end judged ⌝ }
+    ensures { λ r. ⌜ r ≡ behindFloat code end judged ⌝ }
 {
     match judged {
         Judged::Misplaced(at) => AnyFloat::Refused(Refusal::float_underscore(at)),

@@ -5,7 +5,7 @@ use crate::state::advance;
 use crate::state::is_final;
 use text::classes::is_digit;
 ghost use mathlib.Core.Path.{_≡_};
-ghost use Rattle.floats.specs.Judged.{mayFollow, misplaced, judgedOf};
+ghost use Rattle.floats.specs.Judged.{mayFollow, misplaced, floatJudged};
 
 // A float run has a misplaced underscore, is a float, or is none.
 pub enum Judged {
@@ -41,7 +41,7 @@ fn is_misplaced(may: bool, c: u8) -> bool
 
 // A whole run in one pass.
 pub fn judge_run(part: &[u8]) -> Judged
-    ensures { λ r. ⌜ r ≡ judgedOf (now (part .entry)) ⌝ }
+    ensures { λ r. ⌜ r ≡ floatJudged (now (part .entry)) ⌝ }
 {
     let mut may = false;
     let mut st = State::Start;

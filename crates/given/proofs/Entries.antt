@@ -1,4 +1,4 @@
--- The refusals of the string that an entry names, and of its contents, are given. Assumes nothing.
+-- The refusals of the string that an entry names, and of its contents, are 4 to 29. Assumes nothing.
 use Prim.Native.Nat.{ℕ}
 use mathlib.Core.Bool.{Bool, true, false}
 use mathlib.Core.List.{List}
@@ -15,43 +15,43 @@ use Rattle.entries.specs.Contents.{byNamed, contentsIn, decodedIn}
 use Rattle.entries.specs.Named.{byKind, insideOf, namedOf, literalOf}
 use Rattle.entries.specs.declared.named.Named.{Named}
 use Rattle.entries.specs.declared.named.Named.the-variants.{At, Unnamed}
-use Rattle.given.specs.Given.{Given, given, within}
+use Rattle.given.specs.Given.{FourTo, within}
 use Rattle.given.proofs.Both.{both}
-use Rattle.given.proofs.Front.{Given-told}
-use Rattle.given.proofs.Strings.{Given-literal, string-given, byte-string-given}
+use Rattle.given.proofs.Front.{Own-told, inner-own}
+use Rattle.given.proofs.Strings.{Inner-literal, string-inner, byte-string-inner}
 
-abbrev pub Given-named : Named → Type 0
-Given-named (At bytes place) = Unit
-Given-named (Unnamed r) = Given r
+abbrev pub Own-named : Named → Type 0
+Own-named (At bytes place) = Unit
+Own-named (Unnamed r) = FourTo 29 r
 
-by-kind : (kind place : ℕ) → Given-named (byKind kind place)
-unfolding byKind given within
-by-kind kind place = both Given-named (eqb kind 14) tt (both Given-named (eqb kind 15) tt refl)
+by-kind : (kind place : ℕ) → Own-named (byKind kind place)
+unfolding byKind within
+by-kind kind place = both Own-named (eqb kind 14) tt (both Own-named (eqb kind 15) tt refl)
 
-inside : (text : List ℕ) (room count : ℕ) (e : Entry) → Given-named (insideOf text room count e)
-unfolding insideOf given within
-inside text room count e = both Given-named (placeFits text (e .start)) (both Given-named (ltb room count) refl (by-kind (e .kind) (e .start))) refl
+inside : (text : List ℕ) (room count : ℕ) (e : Entry) → Own-named (insideOf text room count e)
+unfolding insideOf within
+inside text room count e = both Own-named (placeFits text (e .start)) (both Own-named (ltb room count) refl (by-kind (e .kind) (e .start))) refl
 
-pub named-given : (text tape : List ℕ) (count entry : ℕ) → Given-named (namedOf text tape count entry)
-unfolding namedOf given within
-named-given text tape count entry =
+pub named-own : (text tape : List ℕ) (count entry : ℕ) → Own-named (namedOf text tape count entry)
+unfolding namedOf within
+named-own text tape count entry =
     let room = roomOf (length tape) in
-    both Given-named (leb count entry) refl (both Given-named (ltb entry room) (inside text room count (entryAt tape entry)) refl)
+    both Own-named (leb count entry) refl (both Own-named (ltb entry room) (inside text room count (entryAt tape entry)) refl)
 
-pub by-named : {A : Type 0} (n : Named) (own : Bool → ℕ → Told A) → Given-named n → ((bytes : Bool) (place : ℕ) → Given-told (own bytes place)) → Given-told (byNamed n own)
+pub by-named : {A : Type 0} (n : Named) (own : Bool → ℕ → Told A) → Own-named n → ((bytes : Bool) (place : ℕ) → Own-told (own bytes place)) → Own-told (byNamed n own)
 by-named (At bytes place) own h k = k bytes place
 by-named (Unnamed r) own h k = h
 
-pub literal-given : (bytes : Bool) (s : List ℕ) → Given-literal (literalOf bytes s)
-literal-given false s = string-given s
-literal-given true s = byte-string-given s
+pub literal-inner : (bytes : Bool) (s : List ℕ) → Inner-literal (literalOf bytes s)
+literal-inner false s = string-inner s
+literal-inner true s = byte-string-inner s
 
-pub contents-in : (place : ℕ) (a : LiteralAnswer) → Given-literal a → Given-told (contentsIn place a)
-unfolding given within
-contents-in place (Read l) h = both Given-told (l .escaped) refl tt
-contents-in place (Refused r) h = h
+pub contents-in : (place : ℕ) (a : LiteralAnswer) → Inner-literal a → Own-told (contentsIn place a)
+unfolding within
+contents-in place (Read l) h = both Own-told (l .escaped) refl tt
+contents-in place (Refused r) h = inner-own r h
 
-pub decoded-in : (place room : ℕ) (a : LiteralAnswer) → Given-literal a → Given-told (decodedIn place room a)
-unfolding given within
-decoded-in place room (Read l) h = both Given-told (ltb room (l .decoded)) refl tt
-decoded-in place room (Refused r) h = h
+pub decoded-in : (place room : ℕ) (a : LiteralAnswer) → Inner-literal a → Own-told (decodedIn place room a)
+unfolding within
+decoded-in place room (Read l) h = both Own-told (ltb room (l .decoded)) refl tt
+decoded-in place room (Refused r) h = inner-own r h

@@ -19,4 +19,5 @@ pub mod Scans
 pub mod Structs
 pub mod Walks
 pub mod Typed
+pub mod Owns
 pub mod Calls

@@ -1,4 +1,4 @@
--- The refusals of tokens, and of the token reader of RON, are given. Assumes nothing.
+-- The refusals of tokens, and of the token reader of RON, are inner. Assumes nothing.
 use Prim.Native.Nat.{ℕ}
 use mathlib.Core.List.{List}
 use lib.Dec.{ltb}
@@ -24,85 +24,85 @@ use Rattle.strings.specs.declared.chars.ByteAnswer.the-variants as byte
 use Rattle.strings.specs.declared.literal.LiteralAnswer.{LiteralAnswer}
 use Rattle.strings.specs.declared.literal.LiteralAnswer.the-variants as literal
 use Rattle.tokens.specs.Lexemes.{numberLexeme, lexemeOf}
-use Rattle.tokens.specs.Ron.{behindGap, byGap, ronToken}
+use Rattle.tokens.specs.Ron.{lexemeBehind, byGap, ronToken}
 use Rattle.tokens.specs.Shapes.{shapeOf}
 use Rattle.tokens.specs.Token.{ofWord, ofChar, ofByte, ofString, ofByteString, ofAttribute, byShape, tokenOf}
 use Rattle.tokens.specs.declared.lexeme.LexemeAnswer.{LexemeAnswer}
 use Rattle.tokens.specs.declared.lexeme.LexemeAnswer.the-variants.{Read, Refused}
 use Rattle.tokens.specs.declared.shape.Shape.{Shape}
 use Rattle.tokens.specs.declared.shape.Shape.the-variants as shape
-use Rattle.given.specs.Given.{Given}
-use Rattle.given.proofs.Attributes.{Given-attribute, attribute-given}
+use Rattle.given.specs.Given.{Inner}
+use Rattle.given.proofs.Attributes.{Inner-attribute, attribute-inner}
 use Rattle.given.proofs.Both.{both}
-use Rattle.given.proofs.Chars.{Given-char, Given-byte, char-given, byte-given}
-use Rattle.given.proofs.Gaps.{Given-gap, gap-given}
-use Rattle.given.proofs.Numbers.{Given-number, number-given}
-use Rattle.given.proofs.Readings.{Given-answer}
-use Rattle.given.proofs.Strings.{Given-literal, string-given, byte-string-given}
-use Rattle.given.proofs.Words.{Given-word, word-given}
+use Rattle.given.proofs.Chars.{Inner-char, Inner-byte, char-inner, byte-inner}
+use Rattle.given.proofs.Gaps.{Inner-gap, gap-inner}
+use Rattle.given.proofs.Numbers.{Inner-number, number-inner}
+use Rattle.given.proofs.Readings.{Inner-answer}
+use Rattle.given.proofs.Strings.{Inner-literal, string-inner, byte-string-inner}
+use Rattle.given.proofs.Words.{Inner-word, word-inner}
 
-abbrev pub Given-lexeme : LexemeAnswer → Type 0
-Given-lexeme (Read l) = Unit
-Given-lexeme (Refused r) = Given r
+abbrev pub Inner-lexeme : LexemeAnswer → Type 0
+Inner-lexeme (Read l) = Unit
+Inner-lexeme (Refused r) = Inner r
 
 -- ---- by its shape
 
-of-number : (a : Number) → Given-number a → Given-lexeme (numberLexeme a)
+of-number : (a : Number) → Inner-number a → Inner-lexeme (numberLexeme a)
 of-number (number.Int w n) h = tt
 of-number (number.Float f) h = tt
 of-number (number.Refused r) h = h
 
-of-word : (a : Word) → Given-word a → Given-lexeme (lexemeOf (ofWord a))
+of-word : (a : Word) → Inner-word a → Inner-lexeme (lexemeOf (ofWord a))
 of-word (word.Plain n) h = tt
 of-word (word.Raw n) h = tt
 of-word (word.Float n suffix) h = tt
 of-word (word.Refused r) h = h
 
-of-char : (a : CharAnswer) → Given-char a → Given-lexeme (lexemeOf (ofChar a))
+of-char : (a : CharAnswer) → Inner-char a → Inner-lexeme (lexemeOf (ofChar a))
 of-char (char.Read n code) h = tt
 of-char (char.Refused r) h = h
 
-of-byte : (a : ByteAnswer) → Given-byte a → Given-lexeme (lexemeOf (ofByte a))
+of-byte : (a : ByteAnswer) → Inner-byte a → Inner-lexeme (lexemeOf (ofByte a))
 of-byte (byte.Read n value) h = tt
 of-byte (byte.Refused r) h = h
 
-of-string : (a : LiteralAnswer) → Given-literal a → Given-lexeme (lexemeOf (ofString a))
+of-string : (a : LiteralAnswer) → Inner-literal a → Inner-lexeme (lexemeOf (ofString a))
 of-string (literal.Read l) h = tt
 of-string (literal.Refused r) h = h
 
-of-byte-string : (a : LiteralAnswer) → Given-literal a → Given-lexeme (lexemeOf (ofByteString a))
+of-byte-string : (a : LiteralAnswer) → Inner-literal a → Inner-lexeme (lexemeOf (ofByteString a))
 of-byte-string (literal.Read l) h = tt
 of-byte-string (literal.Refused r) h = h
 
-of-attribute : (a : AttributeAnswer) → Given-attribute a → Given-lexeme (lexemeOf (ofAttribute a))
+of-attribute : (a : AttributeAnswer) → Inner-attribute a → Inner-lexeme (lexemeOf (ofAttribute a))
 of-attribute (attribute.Read n e) h = tt
 of-attribute (attribute.Refused r) h = h
 
-by-shape : (k : Shape) (s : List ℕ) → Given-lexeme (lexemeOf (byShape k s))
+by-shape : (k : Shape) (s : List ℕ) → Inner-lexeme (lexemeOf (byShape k s))
 by-shape (shape.Mark kind) s = tt
-by-shape shape.Attribute s = of-attribute (attributeOf s) (attribute-given s)
-by-shape shape.Str s = of-string (stringOf s) (string-given s)
-by-shape shape.Char s = of-char (charOf s) (char-given s)
-by-shape shape.Byte s = of-byte (byteOf s) (byte-given s)
-by-shape shape.ByteStr s = of-byte-string (byteStringOf s) (byte-string-given s)
-by-shape shape.Number s = of-number (numberOf s) (number-given s)
-by-shape shape.Word s = of-word (wordOf s) (word-given s)
+by-shape shape.Attribute s = of-attribute (attributeOf s) (attribute-inner s)
+by-shape shape.Str s = of-string (stringOf s) (string-inner s)
+by-shape shape.Char s = of-char (charOf s) (char-inner s)
+by-shape shape.Byte s = of-byte (byteOf s) (byte-inner s)
+by-shape shape.ByteStr s = of-byte-string (byteStringOf s) (byte-string-inner s)
+by-shape shape.Number s = of-number (numberOf s) (number-inner s)
+by-shape shape.Word s = of-word (wordOf s) (word-inner s)
 
-pub token-given : (s : List ℕ) → Given-lexeme (lexemeOf (tokenOf s))
+pub token-inner : (s : List ℕ) → Inner-lexeme (lexemeOf (tokenOf s))
 unfolding tokenOf
-token-given s = by-shape (shapeOf (getD s 0 0) (getD s 1 0) (getD s 2 0)) s
+token-inner s = by-shape (shapeOf (getD s 0 0) (getD s 1 0) (getD s 2 0)) s
 
 -- ---- behind its gap
 
-behind-gap : (g : ℕ) (a : LexemeAnswer) → Given-lexeme a → Given-answer (behindGap g a)
+behind-gap : (g : ℕ) (a : LexemeAnswer) → Inner-lexeme a → Inner-answer (lexemeBehind g a)
 behind-gap g (Read l) h = tt
 behind-gap g (Refused r) h = h
 
-by-gap : (s : List ℕ) (g : Gap) → Given-gap g → Given-answer (byGap s g)
-by-gap s (gap.Clear g) h = both Given-answer (ltb g (length s)) (behind-gap g (lexemeOf (tokenOf (drop g s))) (token-given (drop g s))) tt
+by-gap : (s : List ℕ) (g : Gap) → Inner-gap g → Inner-answer (byGap s g)
+by-gap s (gap.Clear g) h = both Inner-answer (ltb g (length s)) (behind-gap g (lexemeOf (tokenOf (drop g s))) (token-inner (drop g s))) tt
 by-gap s (gap.InLine n) h = tt
 by-gap s (gap.Refused r) h = h
 
-pub ron-given : (s : List ℕ) → Given-answer (ronToken s)
+pub ron-inner : (s : List ℕ) → Inner-answer (ronToken s)
 unfolding ronToken
-ron-given s = by-gap s (gapOf s) (gap-given s)
+ron-inner s = by-gap s (gapOf s) (gap-inner s)

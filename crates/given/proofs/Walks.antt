@@ -1,7 +1,8 @@
--- The refusals of the grammar's walk are given. Assumes nothing.
+-- The refusals of the grammar's walk are 24 to 26. Assumes nothing.
 use Prim.Native.Nat.{ℕ, _+_}
 use mathlib.Core.List.{List, [], _∷_}
-use mathlib.Core.Path.{refl}
+use mathlib.Core.Bool.{true}
+use mathlib.Core.Path.{_≡_, refl}
 use lib.Dec.{ltb}
 use lib.ListN.{length}
 use Rattle.grammar.specs.Steps.{stepOf}
@@ -15,15 +16,15 @@ use Rattle.grammar.specs.declared.states.Move.{Move}
 use Rattle.grammar.specs.declared.states.Move.the-variants.{Stay, Push, Pop, Bad}
 use Rattle.grammar.specs.declared.ends.Verdict.{Verdict}
 use Rattle.grammar.specs.declared.ends.Verdict.the-variants.{Accepted, Refused}
-use Rattle.given.specs.Given.{Given, given, within}
+use Rattle.given.specs.Given.{within}
 use Rattle.given.proofs.Both.{both}
 
-abbrev pub Given-verdict : Verdict → Type 0
-Given-verdict Accepted = Unit
-Given-verdict (Refused r) = Given r
+abbrev pub Of-walk : Verdict → Type 0
+Of-walk Accepted = Unit
+Of-walk (Refused r) = within 24 26 (r .number) ≡ true
 
-end : (f : Frame) (i : ℕ) → Given-verdict (ended f i)
-unfolding given within
+end : (f : Frame) (i : ℕ) → Of-walk (ended f i)
+unfolding within
 end Top i = tt
 end Square i = refl
 end Tuple i = refl
@@ -31,8 +32,8 @@ end Struct i = refl
 end Key i = refl
 end Pair i = refl
 
-finished : (w : Want) (f : Frame) (i : ℕ) → Given-verdict (finish w f i)
-unfolding given within
+finished : (w : Want) (f : Frame) (i : ℕ) → Of-walk (finish w f i)
+unfolding within
 finished Start f i = refl
 finished Must f i = refl
 finished Item f i = refl
@@ -43,23 +44,23 @@ finished Behind f i = end f i
 finished Field f i = refl
 finished FieldName f i = refl
 
-pop : (σ : List Frame) (on : Frame → List Frame → Verdict) (i : ℕ) → ((g : Frame) (τ : List Frame) → Given-verdict (on g τ)) → Given-verdict (popped σ on i)
-unfolding given within
+pop : (σ : List Frame) (on : Frame → List Frame → Verdict) (i : ℕ) → ((g : Frame) (τ : List Frame) → Of-walk (on g τ)) → Of-walk (popped σ on i)
+unfolding within
 pop [] on i h = refl
 pop (g ∷ σ) on i h = h g σ
 
 by-move : (m : Move) (limit : ℕ) (f : Frame) (σ : List Frame) (i : ℕ) (on : Want → Frame → List Frame → Verdict)
-    → ((w : Want) (g : Frame) (τ : List Frame) → Given-verdict (on w g τ)) → Given-verdict (byMove m limit f σ i on)
-unfolding given within
+    → ((w : Want) (g : Frame) (τ : List Frame) → Of-walk (on w g τ)) → Of-walk (byMove m limit f σ i on)
+unfolding within
 by-move (Stay w g) limit f σ i on h = h w g σ
-by-move (Push w g) limit f σ i on h = both Given-verdict (ltb (length σ) limit) (h w g (f ∷ σ)) refl
+by-move (Push w g) limit f σ i on h = both Of-walk (ltb (length σ) limit) (h w g (f ∷ σ)) refl
 by-move Pop limit f σ i on h = pop σ (λ g τ. on Behind g τ) i (h Behind)
 by-move Bad limit f σ i on h = refl
 
-checked : (ks : List Kind) (limit : ℕ) (w : Want) (f : Frame) (σ : List Frame) (i : ℕ) → Given-verdict (check ks limit w f σ i)
+checked : (ks : List Kind) (limit : ℕ) (w : Want) (f : Frame) (σ : List Frame) (i : ℕ) → Of-walk (check ks limit w f σ i)
 unfolding check
 checked [] limit w f σ i = finished w f i
 checked (k ∷ ks) limit w f σ i = by-move (stepOf w k f) limit f σ i _ (λ w′ g τ. checked ks limit w′ g τ (i + 1))
 
-pub verdict-given : (ks : List Kind) (limit : ℕ) → Given-verdict (walkOf ks limit)
-verdict-given ks limit = checked ks limit Start Top [] 0
+pub verdict-of-walk : (ks : List Kind) (limit : ℕ) → Of-walk (walkOf ks limit)
+verdict-of-walk ks limit = checked ks limit Start Top [] 0

@@ -1,4 +1,4 @@
--- The refusals of names are given. Assumes nothing.
+-- The refusals of names are inner. Assumes nothing.
 use Prim.Native.Nat.{ℕ}
 use mathlib.Core.List.{List, [], _∷_}
 use mathlib.Core.Path.{refl}
@@ -12,32 +12,32 @@ use Rattle.names.specs.declared.Identifier.{Identifier}
 use Rattle.names.specs.declared.Identifier.the-variants.{Missing, Name, RawName}
 use Rattle.names.specs.declared.Word.{Word}
 use Rattle.names.specs.declared.Word.the-variants.{Plain, Raw, Float, Refused}
-use Rattle.given.specs.Given.{Given, given, within}
+use Rattle.given.specs.Given.{Inner, within}
 use Rattle.given.proofs.Both.{both}
 
-abbrev pub Given-word : Word → Type 0
-Given-word (Plain n) = Unit
-Given-word (Raw n) = Unit
-Given-word (Float n suffix) = Unit
-Given-word (Refused r) = Given r
+abbrev pub Inner-word : Word → Type 0
+Inner-word (Plain n) = Unit
+Inner-word (Raw n) = Unit
+Inner-word (Float n suffix) = Unit
+Inner-word (Refused r) = Inner r
 
-suffix : (t : List ℕ) (n : ℕ) → Given-word (suffixed t n)
+suffix : (t : List ℕ) (n : ℕ) → Inner-word (suffixed t n)
 unfolding suffixed
-suffix t n = both Given-word (startsWith (0x66 ∷ 0x33 ∷ 0x32 ∷ []) t) tt (both Given-word (startsWith (0x66 ∷ 0x36 ∷ 0x34 ∷ []) t) tt tt)
+suffix t n = both Inner-word (startsWith (0x66 ∷ 0x33 ∷ 0x32 ∷ []) t) tt (both Inner-word (startsWith (0x66 ∷ 0x36 ∷ 0x34 ∷ []) t) tt tt)
 
-name : (s : List ℕ) (n : ℕ) → Given-word (named s n)
+name : (s : List ℕ) (n : ℕ) → Inner-word (named s n)
 unfolding named
-name s n = both Given-word (beginsFloat s) (both Given-word (eqb n 3) tt (both Given-word (eqb n 6) (suffix (drop 3 s) n) tt)) tt
+name s n = both Inner-word (beginsFloat s) (both Inner-word (eqb n 3) tt (both Inner-word (eqb n 6) (suffix (drop 3 s) n) tt)) tt
 
-none-there : (s : List ℕ) → Given (missing s)
-unfolding missing given within
-none-there s = both Given (beginsRaw s) refl refl
+none-there : (s : List ℕ) → Inner (missing s)
+unfolding missing within
+none-there s = both Inner (beginsRaw s) refl refl
 
-by-identifier : (s : List ℕ) (i : Identifier) → Given-word (byIdentifier s i)
+by-identifier : (s : List ℕ) (i : Identifier) → Inner-word (byIdentifier s i)
 by-identifier s Missing = none-there s
 by-identifier s (Name n) = name s n
 by-identifier s (RawName n) = tt
 
-pub word-given : (s : List ℕ) → Given-word (wordOf s)
+pub word-inner : (s : List ℕ) → Inner-word (wordOf s)
 unfolding wordOf
-word-given s = by-identifier s (skipIdentifierOf s)
+word-inner s = by-identifier s (skipIdentifierOf s)

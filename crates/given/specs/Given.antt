@@ -14,3 +14,11 @@ given n = oneOf (1 ∷ 2 ∷ []) n || within 4 29 n
 -- A refusal with one of them.
 abbrev pub Given : Refusal → Type 0
 Given r = given (r .number) ≡ true
+
+-- A refusal with one of the numbers 4 to `last`. 1 and 2 are told of the text alone, before a call's own answer.
+abbrev pub FourTo : ℕ → Refusal → Type 0
+FourTo last r = within 4 last (r .number) ≡ true
+
+-- A refusal of reading, which the readers inside the calls give: 4 to 21.
+abbrev pub Inner : Refusal → Type 0
+Inner r = FourTo 21 r

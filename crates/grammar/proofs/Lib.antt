@@ -8,6 +8,8 @@ pub mod Accepts
 pub mod Prefixes
 pub mod Refusals
 pub mod Nesting
+pub mod OneNesting
 pub mod Sides
+pub mod Alone
 pub mod Depth
 pub mod Worked

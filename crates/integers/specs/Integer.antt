@@ -53,13 +53,13 @@ abbrev pub otherSuffix : (found asked : ℕ) → Bool
 otherSuffix found asked = cond (eqb found 0) false (not (eqb found asked))
 
 -- The number that was read: 0 has no minus.
-abbrev pub valueOf : (minus : Bool) (magnitude : ℕ) → Number
-valueOf minus m = record { minus = cond (eqb m 0) false minus; magnitude = m }
+abbrev pub numberRead : (minus : Bool) (magnitude : ℕ) → Number
+numberRead minus m = record { minus = cond (eqb m 0) false minus; magnitude = m }
 
 -- What a typed read answers, `at` bytes behind the front of the part.
 abbrev pub typedAs : (asked : ℕ) (minus : Bool) (at : ℕ) → Numeral → Integer
 typedAs asked minus at (numeral.Read v found end) =
-    cond (otherSuffix found asked) integer.OtherSuffix (integer.Read (valueOf minus v) (at + end))
+    cond (otherSuffix found asked) integer.OtherSuffix (integer.Read (numberRead minus v) (at + end))
 typedAs asked minus at (numeral.Refused r) = integer.Refused (placedBehind at r)
 
 -- A typed read behind sign and prefix.

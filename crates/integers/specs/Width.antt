@@ -3,6 +3,7 @@ use Prim.Native.Nat.{ℕ, _-_, _^_}
 use mathlib.Core.Bool.{Bool, true, false, cond, _||_}
 use mathlib.Core.List.{List, [], _∷_}
 use lib.Dec.{leb, eqb}
+use lib.ListN.{getD}
 use Rattle.integers.specs.declared.width.Width.{Width}
 use Rattle.integers.specs.declared.width.Width.the-variants.{I8, I16, I32, I64, U8, U16, U32, U64}
 use Rattle.integers.specs.declared.ident.Found.{Found}
@@ -32,15 +33,7 @@ codeOf width = row width .code
 
 -- The width of a number; the last also for any other number.
 unfoldable pub widthAt : ℕ → Width
-widthAt code =
-    cond (eqb code 1) I8
-    (cond (eqb code 2) I16
-    (cond (eqb code 3) I32
-    (cond (eqb code 4) I64
-    (cond (eqb code 5) U8
-    (cond (eqb code 6) U16
-    (cond (eqb code 7) U32
-    U64))))))
+widthAt code = getD (U64 ∷ I8 ∷ I16 ∷ I32 ∷ I64 ∷ U8 ∷ U16 ∷ U32 ∷ U64 ∷ []) code U64
 
 -- The largest magnitude of a width of so many bits: without a minus, and after one.
 abbrev pub limitOf : (signed : Bool) (bits : ℕ) (minus : Bool) → ℕ

@@ -18,7 +18,7 @@ ghost use mathlib.Core.Path.{_≡_};
 ghost use Prim.Native.Nat.{_<_, _≤_};
 ghost use Rattle.digits.specs.Digits.{runOf};
 ghost use Rattle.integers.specs.Width.{limitAt};
-ghost use Rattle.integers.specs.Integer.{chosenOf, behindRun, numeralOf, otherSuffix, valueOf, typedOf, widthFor, anyOf};
+ghost use Rattle.integers.specs.Integer.{chosenOf, behindRun, numeralOf, otherSuffix, numberRead, typedOf, widthFor, anyOf};
 
 // A number: its magnitude, and whether it is below 0.
 pub struct Value {
@@ -110,7 +110,7 @@ fn is_other(found: u8, asked: u8) -> bool
 
 // The number that was read: 0 has no minus.
 fn value_of(minus: bool, magnitude: u64) -> Value
-    ensures { λ r. ⌜ r ≡ valueOf minus magnitude ⌝ }
+    ensures { λ r. ⌜ r ≡ numberRead minus magnitude ⌝ }
 {
     if magnitude == 0 {
         return Value {

@@ -97,17 +97,15 @@ module _ (old tape : List ℕ) (count a b e : ℕ) (new : List ℕ) (O : OldText
   unfolding freshCallTape
   accepted-tape n h = demand3-call old tape count a b e new O .1 ∙ ap (λ (y : Told ℕ). freshBy y tape count new) h
 
-  mended : (n : ℕ) → readAnswer new (length tape) ≡ accepted n → Mended old tape count a b e new n
+  mended : (n : ℕ) → readAnswer new (length tape) ≡ accepted n → Mended old tape count a b e new n (repairedTape tape count (length old) a b new)
   mended n h =
       let now : List ℕ = repairedTape tape count (length old) a b new in
       let held : Held new now n = subst (λ (t : List ℕ). Held new t n) (sym (demand3-call old tape count a b e new O .1)) (after-repair new tape count n (O .room) h) in
       let is : entriesOf n now ≡ rows = held-rows new now n held in
       record {
-        now = now;
         before = before;
         behind = behind;
         answer = accepted-call n h;
-        left = refl;
         as-read = λ other l. is ∙ sym (read-rows new other n (ap (readAnswer new) l ∙ h));
         zeros = accepted-tape n h ∙ ap (λ (es : List Entry). laid es (cleared count tape)) (sym is);
         counts-before = refl;

@@ -20,14 +20,12 @@ pub data Left : List ℕ → List ℕ → ℕ → Type 0 where
   by-repair : (old tape : List ℕ) (count a b e : ℕ) (new : List ℕ) (p : Repaired) → Left old tape count → Replaced old new a b e
       → repairOf tape count (length old) a b new ≡ accepted p → Left new (repairedTape tape count (length old) a b new) (p .count)
 
--- The repair of a tape of `count` entries comes to n entries, which are those that `read` of the new text leaves in a tape of that length; of these the first are old ones that
+-- The repair of a tape of `count` entries comes to n entries on the tape `now`, which are those that `read` of the new text leaves in a tape of that length; of these the first are old ones that
 -- document 01 counts, and the last are old ones moved, as many as it counts; behind the entries stand zeros up to the old count, and beyond it what stood there.
-pub record Mended (old tape : List ℕ) (count a b e : ℕ) (new : List ℕ) (n : ℕ) : Type 0 where
-  pub now : List ℕ
+pub record Mended (old tape : List ℕ) (count a b e : ℕ) (new : List ℕ) (n : ℕ) (now : List ℕ) : Type 0 where
   pub before : ℕ
   pub behind : ℕ
   pub answer : repairOf tape count (length old) a b new ≡ accepted (record { count = n; before = before; behind = behind })
-  pub left : repairedTape tape count (length old) a b new ≡ now
   pub as-read : (other : List ℕ) → length other ≡ length tape → entriesOf n now ≡ entriesOf n (readTape new other)
   pub zeros : now ≡ laid (entriesOf n now) (cleared count tape)
   pub counts-before : before ≡ keptBefore quietByte old a (entriesOf count tape)
@@ -38,4 +36,4 @@ pub record Mended (old tape : List ℕ) (count a b e : ℕ) (new : List ℕ) (n 
 -- A repair answers as `read` of the new text in a tape of that length does: it is refused with the same refusal, or comes to the same entries.
 pub record AsRead (old tape : List ℕ) (count a b e : ℕ) (new : List ℕ) : Type 0 where
   pub refuses : (r : Refusal) → (repairOf tape count (length old) a b new ≡ refused r) ↔ (readAnswer new (length tape) ≡ refused r)
-  pub accepts : (n : ℕ) → readAnswer new (length tape) ≡ accepted n → Mended old tape count a b e new n
+  pub accepts : (n : ℕ) → readAnswer new (length tape) ≡ accepted n → Mended old tape count a b e new n (repairedTape tape count (length old) a b new)

@@ -17,7 +17,7 @@ use Rattle.integers.specs.Integer.{numeralOf, anyOf}
 use Rattle.integers.specs.declared.width.Width.the-variants.{I8, I16, U8, U16}
 use Rattle.floats.specs.Classes.{floatGoes}
 use Rattle.floats.specs.Grammar.{stepOf, accepts}
-use Rattle.floats.specs.Judged.{wellTo, stripped, judgedOf}
+use Rattle.floats.specs.Judged.{wellTo, stripped, floatJudged}
 use Rattle.floats.specs.Float.{runAt, floatOf}
 use Rattle.numbers.specs.Numbers.{floatAhead, numberOf}
 use Rattle.numbers.specs.declared.Number.{Number}
@@ -203,5 +203,5 @@ pub worked : answers ≡
     ∷ Int U8 3
     ∷ Float (record { len = 4; suffix = 0 })
     ∷ []
-unfolding within digit letter hexDigit intChar floatChar asciiNext identNext nextAhead charIf charLen codeOf codeOf4 widthOf behindThree behindFour secondByte xidContinue inRows table run run2 hexOf turnOf digitsFrom runOf startsWith identOf firstOf limitAt firstFit widthAt suffixWord suffixOf signOf prefixOf frontOf numeralOf anyOf floatGoes stepOf accepts wellTo stripped judgedOf runAt floatOf floatAhead numberOf
+unfolding within digit letter hexDigit intChar floatChar asciiNext identNext nextAhead charIf charLen codeOf codeOf4 widthOf behindThree behindFour secondByte xidContinue inRows table run run2 hexOf turnOf digitsFrom runOf startsWith identOf firstOf limitAt firstFit widthAt suffixWord suffixOf signOf prefixOf frontOf numeralOf anyOf floatGoes stepOf accepts wellTo stripped floatJudged runAt floatOf floatAhead numberOf
 worked = refl

@@ -20,7 +20,7 @@ use Rattle.reading.specs.Readings.{broken, entry, readFrom, readPart}
 use Rattle.reading.specs.Tokens.{Answer, refuse, stop, token}
 use Rattle.tokens.proofs.RonLaws.{gap-end, gap-token, laws}
 use Rattle.tokens.specs.Lexemes.{lexemeOf}
-use Rattle.tokens.specs.Ron.{behindGap, byGap, ronToken}
+use Rattle.tokens.specs.Ron.{lexemeBehind, byGap, ronToken}
 use Rattle.tokens.specs.Token.{tokenOf}
 use Rattle.tokens.specs.declared.lexeme.LexemeAnswer.{LexemeAnswer}
 use Rattle.tokens.specs.declared.lexeme.LexemeAnswer.the-variants as lexeme
@@ -31,7 +31,7 @@ later (token t) = token (record { gap = 1 + t .gap; len = t .len; kind = t .kind
 later stop = stop
 later (refuse r) = refuse (placedBehind 1 r)
 
-later-lexeme : (g : ℕ) (l : LexemeAnswer) → behindGap (1 + g) l ≡ later (behindGap g l)
+later-lexeme : (g : ℕ) (l : LexemeAnswer) → lexemeBehind (1 + g) l ≡ later (lexemeBehind g l)
 later-lexeme g (lexeme.Read l) = refl
 later-lexeme g (lexeme.Refused r) = ap (λ (p : ℕ). refuse (refusal (r .number) p)) (omega arith)
 
@@ -40,7 +40,7 @@ later-gap a s (gap.Clear g) =
     let z : 1 + g ≡ suc g = omega arith in
     either (lt-or-le g (length s))
     (λ h. gap-token (a ∷ s) (1 + g) (omega arith)
-    ∙ ap (λ (k : ℕ). behindGap (1 + g) (lexemeOf (tokenOf (drop k (a ∷ s))))) z
+    ∙ ap (λ (k : ℕ). lexemeBehind (1 + g) (lexemeOf (tokenOf (drop k (a ∷ s))))) z
     ∙ later-lexeme g (lexemeOf (tokenOf (drop g s)))
     ∙ ap later (sym (gap-token s g h)))
     (λ h. gap-end (a ∷ s) (1 + g) (omega arith) ∙ ap later (sym (gap-end s g h)))

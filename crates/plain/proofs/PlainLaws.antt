@@ -23,11 +23,11 @@ use Rattle.tokens.specs.Shapes.{markKind, shapeOf}
 use Rattle.tokens.specs.Token.{tokenOf}
 use Rattle.tokens.specs.declared.lexeme.Lexeme.{Lexeme}
 use Rattle.plain_names.proofs.PlainNames.{plain-name}
-use Rattle.plain_names.specs.PlainNames.{plainName}
+use Rattle.plain_names.specs.inner.PlainNames.{plainName}
 use Rattle.plain_numbers.proofs.PlainNumbers.{plain-number}
 use Rattle.plain_strings.proofs.PlainStrings.{plain-string}
-use Rattle.plain_strings.specs.PlainStrings.{plainString}
-use Rattle.plain.specs.Plain.{plainOf}
+use Rattle.plain_strings.specs.inner.PlainStrings.{plainString}
+use Rattle.plain.specs.inner.Plain.{plainOf}
 
 -- ---- marks
 

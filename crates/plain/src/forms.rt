@@ -7,7 +7,7 @@ use tokens::lexeme::Lexeme;
 ghost use mathlib.Core.Path.{_≡_};
 ghost use Prim.Native.Nat.{_<_};
 ghost use lib.ListN.{length, drop};
-ghost use Rattle.plain.specs.Plain.{plainOf};
+ghost use Rattle.plain.specs.inner.Plain.{plainOf};
 
 // Its length is 0 where none stands there; names come first, since their first byte takes one test.
 pub fn plain(text: &[u8], at: usize) -> Lexeme

@@ -16,7 +16,7 @@ use Rattle.text.proofs.WordLaws.{starts-other}
 use Rattle.text.specs.Classes.{asciiFirst, asciiNext}
 use Rattle.text.specs.Runs.{run}
 use Rattle.text.specs.Words.{startsWith}
-use Rattle.plain_names.specs.PlainNames.{plainName}
+use Rattle.plain_names.specs.inner.PlainNames.{plainName}
 use Rattle.plain_names.proofs.NameRuns.{first-next}
 
 -- where no first character of a name stands

@@ -39,7 +39,7 @@ use Rattle.tokens.specs.Shapes.{behindB, behindR, markKind, shapeOf, startsNumb
 use Rattle.tokens.specs.Token.{byShape, ofWord, tokenOf}
 use Rattle.tokens.specs.declared.shape.Shape.{Shape}
 use Rattle.tokens.specs.declared.shape.Shape.the-variants.{ByteStr, Word}
-use Rattle.plain_names.specs.PlainNames.{plainName}
+use Rattle.plain_names.specs.inner.PlainNames.{plainName}
 use Rattle.plain_names.proofs.NameRuns.{below-80, chars-run, first-next, unequal}
 
 -- ---- the first byte of a name begins no gap, no mark and no number

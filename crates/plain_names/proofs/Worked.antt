@@ -6,7 +6,7 @@ use Rattle.reading.specs.Owed.{quietByte}
 use Rattle.text.specs.Classes.{digit, asciiFirst, asciiNext, letter, within}
 use Rattle.text.specs.Runs.{run}
 use Rattle.text.specs.Words.{startsWith}
-use Rattle.plain_names.specs.PlainNames.{plainName}
+use Rattle.plain_names.specs.inner.PlainNames.{plainName}
 
 -- `id:`, `_1,`, `r(`, `Na `: plain
 plain : (plainName (0x69 ∷ 0x64 ∷ 0x3a ∷ []) ≡ 2)

@@ -1,1 +1,1 @@
-pub mod PlainNames
+pub mod inner

@@ -7,7 +7,7 @@ ghost use mathlib.Core.Path.{_≡_};
 ghost use Prim.Native.Nat.{_+_, _<_, _≤_};
 ghost use lib.ListN.{drop, length};
 ghost use Rattle.names.specs.Classify.{beginsFloat};
-ghost use Rattle.plain_names.specs.PlainNames.{plainName};
+ghost use Rattle.plain_names.specs.inner.PlainNames.{plainName};
 ghost use Rattle.text.specs.Classes.{asciiNext};
 ghost use Rattle.text.specs.Runs.{run};
 

@@ -19,7 +19,7 @@ use Rattle.floats.proofs.Laws.{float-none, float-plain, judged-fine, run-judged
 use Rattle.floats.specs.Classes.{floatGoes, floatRun, sign}
 use Rattle.floats.specs.Float.{floatOf, floatSuffixes, runAt, specials}
 use Rattle.floats.specs.Grammar as g
-use Rattle.floats.specs.Judged.{judgedOf, mayFollow, stripped, wellTo}
+use Rattle.floats.specs.Judged.{floatJudged, mayFollow, stripped, wellTo}
 use Rattle.floats.specs.declared.float.AnyFloat.the-variants.{Read}
 use Rattle.floats.specs.declared.judge.Judged.the-variants.{Fine}
 use Rattle.floats.specs.declared.state.State.the-variants.{Start}
@@ -32,7 +32,7 @@ use Rattle.numbers.specs.declared.Number.the-variants.{Float}
 use Rattle.reading.specs.Owed.{quietByte}
 use Rattle.plain_numbers.proofs.Begins.{sign-cases}
 use Rattle.plain_numbers.proofs.Runs.{digit-goes, digit-in, digit-int, quiet-float, quiet-not, run-wider, run2-none, run2-passed}
-use Rattle.plain_numbers.specs.PlainNumbers.{fractionOf}
+use Rattle.plain_numbers.specs.inner.PlainNumbers.{fractionOf}
 use Rattle.text.proofs.RunLaws.{run-holds}
 
 -- ---- a run without underscores
@@ -55,7 +55,7 @@ digits-clean : (a x : List ℕ) → g.Digits a → Clean x → Clean (a ++ x)
 digits-clean [] x d h = h
 digits-clean (c ∷ a) x (g.Digits.next b s e d) h = let i = digit-in c e in next c (a ++ x) (ne-eqb c 0x5f (λ z. omega arith)) (digits-clean a x d h)
 
-clean-fine : (s : List ℕ) → Clean s → g.Float s → Fine ≡ judgedOf s
+clean-fine : (s : List ℕ) → Clean s → g.Float s → Fine ≡ floatJudged s
 clean-fine s h f = judged-fine s (omega (arith, clean-well s false h)) (ap (λ (l : List ℕ). g.accepts l Start) (clean-stripped s h) ∙ complete s f)
 
 -- ---- digits of the grammar
@@ -222,7 +222,7 @@ module _ (s : List ℕ) (some : 0 < run digit (drop (signOf s .end) s)) (frac : 
       let is = fraction-is (drop n t) frac in
       let long : m ≡ floatRun s = em ∙ sym (run-from s e (sign-cases s) ∙ ap (λ (k : ℕ). e + k) (whole-run t f some is)) in
       let text = text-from s e (n + f) (sign-cases s) (whole-text t f some is .0) (whole-text t f some is .1) in
-      let fine : Fine ≡ judgedOf (take m s) = clean-fine (take m s) (rw em (text .1)) (rw em (text .0)) in
+      let fine : Fine ≡ floatJudged (take m s) = clean-fine (take m s) (rw em (text .1)) (rw em (text .0)) in
       let behind : quietByte (getD (drop m s) 0 0) ≡ true = ap quietByte (head-at s m ∙ ap (λ (k : ℕ). getD s k 0) em ∙ sym (getD-drop e s (n + f) 0)) ∙ whole-quiet t f some is in
       ap (λ (k : ℕ). Read (record { len = k; suffix = 0 })) (sym (add-zero m))
       ∙ run-judged s m Fine nothingFound long (λ z. omega arith) fine (no-float-suffix (drop m s) (quiet-not _ behind 0x66 loud))

@@ -19,7 +19,7 @@ use Rattle.integers.specs.Width.{codeOf, firstFit}
 use Rattle.integers.specs.declared.front.Sign.{Sign}
 use Rattle.reading.specs.Owed.{quietByte}
 use Rattle.plain_numbers.proofs.Values.{value-four, value-two}
-use Rattle.plain_numbers.specs.PlainNumbers.{behindSign, fitOf, fractionOf, notPlain, plainFloat, plainInteger, plainNumber}
+use Rattle.plain_numbers.specs.inner.PlainNumbers.{behindSign, fitOf, fractionOf, notPlain, plainFloat, plainInteger, plainNumber}
 
 -- ---- a fraction
 

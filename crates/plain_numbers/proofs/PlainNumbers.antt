@@ -24,7 +24,7 @@ use Rattle.tokens.specs.declared.lexeme.Lexeme.{Lexeme}
 use Rattle.plain_numbers.proofs.Begins.{begins, begins-clear, begins-shape}
 use Rattle.plain_numbers.proofs.Floats.{float-is}
 use Rattle.plain_numbers.proofs.Integers.{integer-is}
-use Rattle.plain_numbers.specs.PlainNumbers.{fitOf, fractionOf, notPlain, plainFloat, plainInteger, plainNumber}
+use Rattle.plain_numbers.specs.inner.PlainNumbers.{fitOf, fractionOf, notPlain, plainFloat, plainInteger, plainNumber}
 
 -- the general reader's token at the front of s is that lexeme
 abbrev Told : List ℕ → Lexeme → Type 0

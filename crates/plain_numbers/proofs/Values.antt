@@ -14,7 +14,7 @@ use Rattle.text.specs.Classes.{digit}
 use Rattle.text.specs.Runs.{run}
 use Rattle.digits.proofs.Exact.{value-grows}
 use Rattle.digits.specs.Digits.{hexOf}
-use Rattle.digits.specs.Value.{stepOf, valueFrom, valueOf}
+use Rattle.digits.specs.Value.{digitStep, valueFrom, valueOf}
 use Rattle.plain_numbers.proofs.Runs.{digit-in}
 
 module _ (c : ℕ) (e : digit c ≡ true) where
@@ -22,7 +22,7 @@ module _ (c : ℕ) (e : digit c ≡ true) where
   unfolding hexOf digit
   digit-value = rw e
 
-  pub step-digit : (acc : ℕ) → stepOf 10 acc c ≡ acc * 10 + (c - 0x30)
+  pub step-digit : (acc : ℕ) → digitStep 10 acc c ≡ acc * 10 + (c - 0x30)
   step-digit acc = let i = digit-in c e in rw (ne-eqb c 0x5f (λ z. omega arith), digit-value)
 
 -- only digits
@@ -41,8 +41,8 @@ value-below (c ∷ s) acc h =
     let e = h 0 (omega arith) in
     let i = digit-in c e in
     let step = step-digit c e acc in
-    let next : valueFrom 10 (stepOf 10 acc c) s < (stepOf 10 acc c + 1) * 10 ^ length s = value-below s (stepOf 10 acc c) (λ j k. h (suc j) (omega (arith, k))) in
-    let more : (stepOf 10 acc c + 1) * 10 ^ length s ≤ ((acc + 1) * 10) * 10 ^ length s = mul-le-mul-right (10 ^ length s) (omega arith) in
+    let next : valueFrom 10 (digitStep 10 acc c) s < (digitStep 10 acc c + 1) * 10 ^ length s = value-below s (digitStep 10 acc c) (λ j k. h (suc j) (omega (arith, k))) in
+    let more : (digitStep 10 acc c + 1) * 10 ^ length s ≤ ((acc + 1) * 10) * 10 ^ length s = mul-le-mul-right (10 ^ length s) (omega arith) in
     let same : ((acc + 1) * 10) * 10 ^ length s ≡ (acc + 1) * 10 ^ suc (length s) =
     mul-assoc (acc + 1) 10 (10 ^ length s) ∙ ap (λ (x : ℕ). (acc + 1) * x) (mul-comm 10 (10 ^ length s) ∙ sym (pow-suc 10 (length s))) in
     omega arith
@@ -65,8 +65,8 @@ pub value-least : (s : List ℕ) (acc : ℕ) → OnlyDigits s → acc * 10 ^ len
 unfolding valueFrom
 value-least [] acc h = omega arith
 value-least (c ∷ s) acc h =
-    let next : stepOf 10 acc c * 10 ^ length s ≤ valueFrom 10 (stepOf 10 acc c) s = value-least s (stepOf 10 acc c) (λ j k. h (suc j) (omega (arith, k))) in
-    let more : (acc * 10) * 10 ^ length s ≤ stepOf 10 acc c * 10 ^ length s = mul-le-mul-right (10 ^ length s) (omega (arith, step-digit c (h 0 (omega arith)) acc)) in
+    let next : digitStep 10 acc c * 10 ^ length s ≤ valueFrom 10 (digitStep 10 acc c) s = value-least s (digitStep 10 acc c) (λ j k. h (suc j) (omega (arith, k))) in
+    let more : (acc * 10) * 10 ^ length s ≤ digitStep 10 acc c * 10 ^ length s = mul-le-mul-right (10 ^ length s) (omega (arith, step-digit c (h 0 (omega arith)) acc)) in
     let same : (acc * 10) * 10 ^ length s ≡ acc * 10 ^ suc (length s) =
     mul-assoc acc 10 (10 ^ length s) ∙ ap (λ (x : ℕ). acc * x) (mul-comm 10 (10 ^ length s) ∙ sym (pow-suc 10 (length s))) in
     omega arith
@@ -79,9 +79,9 @@ value-four (c ∷ s) h n =
     let only = run-only (c ∷ s) 4 h in
     let long : length (take 3 s) ≡ 3 = length-take-le 3 s (omega (arith, run-le digit (c ∷ s))) in
     let e : digit c ≡ true = only 0 (omega arith) in
-    let some : 1 ≤ stepOf 10 0 c = omega (arith, step-digit c e 0, digit-in c e .0) in
-    let least : stepOf 10 0 c * 10 ^ length (take 3 s) ≤ valueFrom 10 (stepOf 10 0 c) (take 3 s) = value-least (take 3 s) (stepOf 10 0 c) (λ j k. only (suc j) (omega (arith, k))) in
-    let thousand : stepOf 10 0 c * 1000 ≤ valueFrom 10 (stepOf 10 0 c) (take 3 s) = rw long at least in
+    let some : 1 ≤ digitStep 10 0 c = omega (arith, step-digit c e 0, digit-in c e .0) in
+    let least : digitStep 10 0 c * 10 ^ length (take 3 s) ≤ valueFrom 10 (digitStep 10 0 c) (take 3 s) = value-least (take 3 s) (digitStep 10 0 c) (λ j k. only (suc j) (omega (arith, k))) in
+    let thousand : digitStep 10 0 c * 1000 ≤ valueFrom 10 (digitStep 10 0 c) (take 3 s) = rw long at least in
     (omega arith, value-within (c ∷ s) 4 4 h (omega arith))
 
 -- ---- one digit of the loop between two places

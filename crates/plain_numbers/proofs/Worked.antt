@@ -9,7 +9,7 @@ use Rattle.integers.specs.Front.{signOf}
 use Rattle.integers.specs.Width.{firstFit}
 use Rattle.reading.specs.Owed.{quietByte}
 use Rattle.tokens.specs.declared.lexeme.Lexeme.{Lexeme}
-use Rattle.plain_numbers.specs.PlainNumbers.{fitOf, fractionOf, notPlain, plainFloat, plainInteger, plainNumber}
+use Rattle.plain_numbers.specs.inner.PlainNumbers.{fitOf, fractionOf, notPlain, plainFloat, plainInteger, plainNumber}
 
 -- `1000,`, `255 `, `256)`, `007]`, `65536⟨LF⟩`, `999999999,`, `-129,`, `+5:`, `10590.5,`, `-1.63816)`.
 abbrev plain : List Lexeme

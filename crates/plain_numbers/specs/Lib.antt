@@ -1,1 +1,1 @@
-pub mod PlainNumbers
+pub mod inner

@@ -10,7 +10,7 @@ ghost use mathlib.Core.Path.{_≡_};
 ghost use Prim.Native.Nat.{_≤_, _<_};
 ghost use lib.ListN.{length, drop};
 ghost use Rattle.integers.specs.Front.{signBy};
-ghost use Rattle.plain_numbers.specs.PlainNumbers.{plainNumber, behindSign};
+ghost use Rattle.plain_numbers.specs.inner.PlainNumbers.{plainNumber, behindSign};
 
 pub mod parts;
 pub mod width;

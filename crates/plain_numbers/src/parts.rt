@@ -6,7 +6,7 @@ ghost use lib.ListN.{length, drop, getD};
 ghost use Rattle.reading.specs.Owed.{quietByte};
 ghost use Rattle.text.specs.Classes.{digit};
 ghost use Rattle.text.specs.Runs.{run};
-ghost use Rattle.plain_numbers.specs.PlainNumbers.{fractionOf};
+ghost use Rattle.plain_numbers.specs.inner.PlainNumbers.{fractionOf};
 
 // A quiet byte stands there; none stands at the end.
 pub fn quiet_at(text: &[u8], at: usize) -> bool

@@ -6,7 +6,7 @@ ghost use Rattle.text.specs.Classes.{digit};
 ghost use Rattle.text.specs.Runs.{run};
 ghost use Rattle.digits.specs.Value.{valueOf};
 ghost use Rattle.integers.specs.Width.{codeOf, firstFit};
-ghost use Rattle.plain_numbers.specs.PlainNumbers.{fitOf};
+ghost use Rattle.plain_numbers.specs.inner.PlainNumbers.{fitOf};
 
 // The value of the digits between two places, at most nine.
 fn value(text: &[u8], from: usize, end: usize) -> u32

@@ -11,7 +11,7 @@ use borrow.Author.Tests.{eq-eqb, ne-eqb}
 use Rattle.text.proofs.Lists.{head-at}
 use Rattle.text.specs.Runs.{run}
 use Rattle.strings.specs.Pieces.{plain}
-use Rattle.plain_strings.specs.PlainStrings.{plainString}
+use Rattle.plain_strings.specs.inner.PlainStrings.{plainString}
 
 -- where no quote stands
 pub not-quote : (text : List ℕ) (at : ℕ) → (getD text at 0 ≡ 0x22 → ⊥) → 0 ≡ plainString (drop at text)

@@ -30,7 +30,7 @@ use Rattle.tokens.specs.Lexemes.{lexeme, lexemeOf}
 use Rattle.tokens.specs.Ron.{ronToken}
 use Rattle.tokens.specs.Token.{ofString, tokenOf}
 use Rattle.tokens.specs.Shapes.{shapeOf, markKind}
-use Rattle.plain_strings.specs.PlainStrings.{plainString}
+use Rattle.plain_strings.specs.inner.PlainStrings.{plainString}
 
 -- ---- what the definition says
 

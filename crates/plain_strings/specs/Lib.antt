@@ -1,1 +1,1 @@
-pub mod PlainStrings
+pub mod inner

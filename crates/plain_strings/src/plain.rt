@@ -3,7 +3,7 @@ use strings::runs::find_end;
 ghost use mathlib.Core.Path.{_≡_};
 ghost use Prim.Native.Nat.{_<_};
 ghost use lib.ListN.{drop, length};
-ghost use Rattle.plain_strings.specs.PlainStrings.{plainString};
+ghost use Rattle.plain_strings.specs.inner.PlainStrings.{plainString};
 
 // The length of the plain string at `at` with its quotes, 0 where there is none.
 pub fn plain_string(text: &[u8], at: usize) -> usize

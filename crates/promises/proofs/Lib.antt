@@ -1,1 +1,9 @@
+pub mod Skips
+pub mod Integers
+pub mod Strings
+pub mod StructKinds
+pub mod Reads
+pub mod Walks
+pub mod Repairs
+pub mod Hosts
 pub mod Promises

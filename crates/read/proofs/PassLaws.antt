@@ -16,7 +16,7 @@ use Rattle.text.specs.Refusals.{Told, accepted, refused}
 use Rattle.text.specs.declared.refusal.Refusal.{Refusal}
 use Rattle.tokens.proofs.RonLaws.{kinds, laws}
 use Rattle.tokens.specs.Ron.{ronToken}
-use Rattle.read.specs.Pass.{passedTape, upTo}
+use Rattle.read.specs.inner.Pass.{passedTape, upTo}
 
 -- ---- the first entries of a reading
 

@@ -12,7 +12,7 @@ use Rattle.text.specs.Runs.{run}
 use Rattle.text.specs.declared.refusal.Refusal.{Refusal}
 use Rattle.plain.proofs.PlainBlanks.{from-blanks}
 use Rattle.plain.proofs.PlainLaws.{plain-token}
-use Rattle.plain.specs.Plain.{plainOf}
+use Rattle.plain.specs.inner.Plain.{plainOf}
 use Rattle.reading.proofs.Steps.{from-token, from-stop, from-refuse}
 use Rattle.reading.specs.Owed.{quietByte}
 use Rattle.reading.specs.Readings.{broken, complete, entry, readFrom}

@@ -16,7 +16,7 @@ ghost use Rattle.reading.specs.Readings.{readFrom, counted};
 ghost use Rattle.rows.specs.Rows.{roomOf, written};
 ghost use Rattle.tokens.specs.Ron.{ronToken};
 ghost use Rattle.read.specs.Read.{toldRead};
-ghost use Rattle.read.specs.Pass.{upTo, passedTape};
+ghost use Rattle.read.specs.inner.Pass.{upTo, passedTape};
 
 // A lexeme between two places.
 fn entry_of(l: Lexeme, start: usize, end: usize) -> Entry

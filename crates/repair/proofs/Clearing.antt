@@ -8,7 +8,7 @@ use lib.ListN.{drop, length, length-append, length-drop, length-replicate, repli
 use lib.Seq.{drop-append-add, drop-append-le, drop-at, drop-drop, take-add, take-at}
 use Rattle.repair.proofs.Laying.{drop-front}
 use Rattle.repair.specs.Repair.{cleared, noEntry}
-use Rattle.repair.specs.Steps.{emptied, laidAt}
+use Rattle.repair.specs.inner.Steps.{emptied, laidAt}
 use Rattle.rows.proofs.RowLaws.{flat-append, length-entries, length-flat}
 use Rattle.rows.specs.Rows.{cells, entriesOf, entryOf, flat, laid, width}
 use Rattle.rows.specs.declared.Entry.{Entry}

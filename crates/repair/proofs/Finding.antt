@@ -16,7 +16,7 @@ use Rattle.reading.specs.Readings.Reading.{broken, complete, entry}
 use Rattle.repair.proofs.Checks.{Fits}
 use Rattle.repair.proofs.Leading.{lead-at, lead-le}
 use Rattle.repair.specs.Repair.{endsBefore, foundOf, joins, keptOf, leading, movedAt, newEnd, noEntry, resumeAt, scanOf, seekOf}
-use Rattle.repair.specs.Steps.{Movable, startsBefore}
+use Rattle.repair.specs.inner.Steps.{Movable, startsBefore}
 use Rattle.repair.specs.declared.join.Scan.the-variants.{Found}
 use Rattle.rows.proofs.OrderLaws.{in-order-first, in-order-row, in-order-short}
 use Rattle.rows.proofs.RowLaws.{length-entries}

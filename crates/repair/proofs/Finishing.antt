@@ -14,7 +14,7 @@ use Rattle.repair.proofs.Clearing.{tape-is}
 use Rattle.repair.proofs.Finding.{join-behind, join-le}
 use Rattle.repair.proofs.Rows.{entries-drop, entries-take}
 use Rattle.repair.specs.Repair.{Repaired, answerBy, cleared, entriesBy, foundOf, keptOf, movedFrom, newEnd, repairAnswerOf, repairFits, repairTapeOf, resumeAt, tapeBy}
-use Rattle.repair.specs.Steps.{Movable, clipped, clippedFrom, finishAnswer, finishTape}
+use Rattle.repair.specs.inner.Steps.{Movable, clipped, clippedFrom, finishAnswer, finishTape}
 use Rattle.repair.specs.declared.join.Scan.{Scan}
 use Rattle.repair.specs.declared.join.Scan.the-variants.{Found, Refused as Failed}
 use Rattle.repair.specs.declared.rewrite.Rest.{Rest}

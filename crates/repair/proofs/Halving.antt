@@ -7,7 +7,7 @@ use lib.ListN.{getD, length}
 use borrow.Author.Tests.{ltb-false, ltb-true}
 use Rattle.repair.proofs.Leading.{lead-at, lead-not}
 use Rattle.repair.specs.Repair.{endsBefore, leading, noEntry}
-use Rattle.repair.specs.Steps.{InOrder}
+use Rattle.repair.specs.inner.Steps.{InOrder}
 use Rattle.rows.proofs.OrderLaws.{in-order-rise, in-order-row}
 use Rattle.rows.proofs.RowLaws.{entries-at, length-entries}
 use Rattle.rows.specs.Order.{inOrder}

@@ -7,7 +7,7 @@ use mathlib.Core.Path.{_∙_, _≡_, ap, ap₂, refl, subst, sym}
 use lib.ListN.{drop, drop-of-length-le, length, length-append, length-drop, length-map, length-replicate, replicate, take, take-append-drop}
 use lib.Seq.{drop-at, drop-cons, drop-drop, length-take-le, take-append-le, take-at, take-take}
 use Rattle.repair.specs.Repair.{noEntry}
-use Rattle.repair.specs.Steps.{Movable, MovableRow, clipped, clippedFrom, emptied, laidAt, shifted}
+use Rattle.repair.specs.inner.Steps.{Movable, MovableRow, clipped, clippedFrom, emptied, laidAt, shifted}
 use Rattle.rows.proofs.OrderLaws.{in-order-row}
 use Rattle.rows.proofs.RowLaws.{entries-at, entries-last, entry-agree, entry-part, flat-append, length-entries, length-flat}
 use Rattle.rows.specs.Rows.{cells, entriesOf, entryAt, entryOf, flat, width, written}

@@ -11,7 +11,7 @@ use Rattle.reading.specs.Readings.{Reading}
 use Rattle.reading.specs.Readings.Reading.{broken, complete, entry}
 use Rattle.repair.proofs.Leading.{lead-le, lead-more, lead-same, lead-skip}
 use Rattle.repair.specs.Repair.{joins, leading, movedBefore, noEntry, scanOf, seekOf}
-use Rattle.repair.specs.Steps.{metOf, seekFrom, startsBefore}
+use Rattle.repair.specs.inner.Steps.{metOf, seekFrom, startsBefore}
 use Rattle.repair.specs.declared.join.Scan.the-variants.{Found, Refused}
 use Rattle.repair.specs.declared.search.Met.the-variants.{At, Next}
 use Rattle.rows.specs.declared.Entry.{Entry}

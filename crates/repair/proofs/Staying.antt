@@ -7,7 +7,7 @@ use mathlib.Core.Path.{_∙_, _≡_, ap, ap₂, refl, sym}
 use lib.ListN.{drop, length, length-drop, take, take-append-drop}
 use lib.Seq.{take-add}
 use Rattle.repair.proofs.Clearing.{flat-take}
-use Rattle.repair.specs.Steps.{Movable, clipped, clippedFrom, laidAt, shifted}
+use Rattle.repair.specs.inner.Steps.{Movable, clipped, clippedFrom, laidAt, shifted}
 use Rattle.rows.proofs.OrderLaws.{in-order-first, in-order-within}
 use Rattle.rows.proofs.RowLaws.{length-entries}
 use Rattle.rows.specs.Order.{inOrderFrom}

@@ -1,2 +1,2 @@
 pub mod Repair
-pub mod Steps
+pub mod inner

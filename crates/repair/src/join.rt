@@ -12,7 +12,7 @@ ghost use Rattle.reading.specs.Readings.{readFrom};
 ghost use Rattle.rows.specs.Rows.{roomOf, entriesOf};
 ghost use Rattle.tokens.specs.Ron.{ronToken};
 ghost use Rattle.repair.specs.Repair.{leading, scanOf};
-ghost use Rattle.repair.specs.Steps.{startsBefore};
+ghost use Rattle.repair.specs.inner.Steps.{startsBefore};
 
 pub enum Scan {
     // How many new entries stand before the join, and the number of the old entry there.

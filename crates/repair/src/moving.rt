@@ -7,7 +7,7 @@ ghost use Prim.Native.Nat.{_≤_, _<_, _+_, _*_};
 ghost use lib.ListN.{length, drop};
 ghost use Rattle.rows.specs.Rows.{width, roomOf, entryAt, entriesOf, written};
 ghost use Rattle.repair.specs.Repair.{noEntry};
-ghost use Rattle.repair.specs.Steps.{MovableRow, Movable, clippedFrom, shifted, emptied};
+ghost use Rattle.repair.specs.inner.Steps.{MovableRow, Movable, clippedFrom, shifted, emptied};
 
 // One row to another, its places moved.
 fn shift_row(tape: &mut [u32], f: usize, g: usize, b: usize, e: usize)

@@ -1,7 +1,7 @@
 // Places as a tape has them.
 ghost use mathlib.Core.Path.{_≡_};
 ghost use Prim.Native.Nat.{_≤_, _+_};
-ghost use Rattle.repair.specs.Steps.{clipped};
+ghost use Rattle.repair.specs.inner.Steps.{clipped};
 
 pub fn wide(place: u32) -> usize
     ensures { λ r. ⌜ r ≡ place ⌝ }

@@ -16,7 +16,7 @@ ghost use Rattle.reading.specs.Readings.{readFrom, entries};
 ghost use Rattle.rows.specs.Rows.{width, roomOf, entriesOf};
 ghost use Rattle.tokens.specs.Ron.{ronToken};
 ghost use Rattle.repair.specs.Repair.{toldRepair, repairAnswerOf, repairTapeOf};
-ghost use Rattle.repair.specs.Steps.{Movable, finishAnswer, finishTape};
+ghost use Rattle.repair.specs.inner.Steps.{Movable, finishAnswer, finishTape};
 
 pub enum RepairAnswer {
     // How many entries the tape holds now, and how many were kept before and behind.

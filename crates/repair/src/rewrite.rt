@@ -10,7 +10,7 @@ ghost use Rattle.reading.specs.Readings.{readFrom, entries};
 ghost use Rattle.rows.specs.Rows.{width, roomOf, entriesOf, laid};
 ghost use Rattle.tokens.specs.Ron.{ronToken};
 ghost use Rattle.repair.specs.Repair.{cleared};
-ghost use Rattle.repair.specs.Steps.{Movable, clippedFrom};
+ghost use Rattle.repair.specs.inner.Steps.{Movable, clippedFrom};
 
 // What the part is to hold: n entries of the text from a place on, then its own m rows from row f on, moved from b to e.
 pub struct Rest {

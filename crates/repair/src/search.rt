@@ -7,7 +7,7 @@ ghost use lib.ListN.{length, take};
 ghost use Rattle.reading.specs.Readings.{endOf};
 ghost use Rattle.rows.specs.Rows.{roomOf, entriesOf};
 ghost use Rattle.repair.specs.Repair.{leading, endsBefore, seekOf};
-ghost use Rattle.repair.specs.Steps.{InOrder, seekFrom, metOf};
+ghost use Rattle.repair.specs.inner.Steps.{InOrder, seekFrom, metOf};
 
 // Whether a new entry joins at an old one, and the row where the search stands.
 pub enum Met {

@@ -12,7 +12,7 @@ use Rattle.floats.specs.Float.{floatOf}
 use Rattle.floats.specs.declared.float.AnyFloat.{AnyFloat}
 use Rattle.floats.specs.declared.float.AnyFloat.the-variants as float
 use Rattle.integers.specs.Front.{frontOf}
-use Rattle.integers.specs.Integer.{anyOf, valueOf}
+use Rattle.integers.specs.Integer.{anyOf, numberRead}
 use Rattle.integers.specs.Width.{codeOf}
 use Rattle.integers.specs.declared.integer.AnyInteger.{AnyInteger}
 use Rattle.integers.specs.declared.integer.AnyInteger.the-variants as any
@@ -79,7 +79,7 @@ byte-literal s n c =
 pub number-again : (s : List ℕ) (w : Width) (n : ℕ) → numberOf s ≡ number.Int w n → Again s n (codeOf w)
 number-again s w n e =
     let q = any-written s w n (number-any s w n e) in
-    let v : Value = valueOf (frontOf s .minus) (magnitudeIn s) in
+    let v : Value = numberRead (frontOf s .minus) (magnitudeIn s) in
     record { width = w; width-is = refl; value = v; read = written-at w s (q .0) ∙ ap (integer.Read v) (sym (q .1)) }
 
 pub byte-again : (s : List ℕ) (n c : ℕ) → byteOf s ≡ byte.Read n c → Again s n (codeOf U8)

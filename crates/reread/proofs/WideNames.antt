@@ -24,7 +24,7 @@ use Rattle.reading.specs.Owed.{quietByte}
 use Rattle.reading.specs.Readings.{Reading, _▸_, broken, counted, entry, readFrom}
 use Rattle.tokens.proofs.RonLaws.{gap-token, laws}
 use Rattle.tokens.specs.Lexemes.{lexemeOf}
-use Rattle.tokens.specs.Ron.{behindGap, byGap, ronToken}
+use Rattle.tokens.specs.Ron.{lexemeBehind, byGap, ronToken}
 use Rattle.tokens.specs.Shapes.{markKind, shapeOf, startsNumber}
 use Rattle.tokens.specs.Token.{byShape, ofWord, tokenOf}
 use Rattle.tokens.specs.declared.shape.Shape.{Shape}
@@ -66,20 +66,20 @@ module _ (c : ℕ) (t : List ℕ) (scalar : Scalar c) (wide : 0x80 ≤ c) where
     inside : g < length (drop at text)
     inside = omega (arith, ap length here, length-drop g (drop at text), length-append (encode c) t, char-pos (char-encode c scalar))
 
-    first-is : ronToken (drop at text) ≡ behindGap g (lexemeOf (ofWord (wordOf (encode c ++ t))))
+    first-is : ronToken (drop at text) ≡ lexemeBehind g (lexemeOf (ofWord (wordOf (encode c ++ t))))
     unfolding ronToken
-    first-is = ap (byGap (drop at text)) gap ∙ gap-token (drop at text) g inside ∙ ap (λ (s : List ℕ). behindGap g (lexemeOf (tokenOf s))) here ∙ ap (λ x. behindGap g (lexemeOf x)) token-wide
+    first-is = ap (byGap (drop at text)) gap ∙ gap-token (drop at text) g inside ∙ ap (λ (s : List ℕ). lexemeBehind g (lexemeOf (tokenOf s))) here ∙ ap (λ x. lexemeBehind g (lexemeOf x)) token-wide
 
     pub starts-nothing : xidStart c ≡ false → readFrom ronToken text at ≡ broken (unexpectedChar (at + g))
     starts-nothing e =
-        from-refuse ronToken quietByte laws text at (unexpectedChar (g + 0)) (first-is ∙ ap (λ w. behindGap g (lexemeOf (ofWord w))) (wide-nothing c t scalar wide e))
+        from-refuse ronToken quietByte laws text at (unexpectedChar (g + 0)) (first-is ∙ ap (λ w. lexemeBehind g (lexemeOf (ofWord w))) (wide-nothing c t scalar wide e))
         ∙ ap (λ (p : ℕ). broken (unexpectedChar (at + p))) (omega arith)
 
     pub starts-name : xidStart c ≡ true
         → (n : ℕ) × IsName (encode c ++ t) n × (readFrom ronToken text at ≡ entry (record { kind = 9; start = at + g; end = at + (g + n); detail = 0 }) (readFrom ronToken text (at + (g + n))))
     starts-name e =
         let w = wide-name c t scalar wide e in
-        (w .0, w .2, from-token ronToken quietByte laws text at _ (first-is ∙ ap (λ x. behindGap g (lexemeOf (ofWord x))) (w .1)))
+        (w .0, w .2, from-token ronToken quietByte laws text at _ (first-is ∙ ap (λ x. lexemeBehind g (lexemeOf (ofWord x))) (w .1)))
 
     -- and so the call, behind the entries before
     pub read-nothing : (es : List Entry) (numbers : ℕ) → judgedOf text ≡ Fit → readingOf text ≡ es ▸ readFrom ronToken text at → xidStart c ≡ false → readAnswer text numbers ≡ refused (unexpectedChar (at + g))

@@ -5,7 +5,7 @@ use mathlib.Core.Path.{_∙_, _≡_, ap, refl, sym}
 use Rattle.cursor.specs.declared.ParserCursor.{ParserCursor}
 use Rattle.cursor.specs.declared.skip.Step.{Step}
 use Rattle.cursor.specs.declared.skip.Step.the-variants.{Moved, Refused}
-use Rattle.sarridok.specs.Skip.{told, skipOf}
+use Rattle.sarridok.specs.Skip.{toldSkip, skipOf}
 use Rattle.text.specs.Refusals.{Told}
 use Rattle.text.specs.Refusals.Told.{accepted, refused}
 
@@ -14,10 +14,10 @@ meant : Told ParserCursor → Step
 meant (accepted c) = Moved c
 meant (refused r) = Refused r
 
-meant-told : (a : Step) → meant (told a) ≡ a
+meant-told : (a : Step) → meant (toldSkip a) ≡ a
 unfolding meant
 meant-told (Moved c) = refl
 meant-told (Refused r) = refl
 
-pub skip-determined : (text : List ℕ) (c : ParserCursor) (a b : Step) → told a ≡ skipOf text c → told b ≡ skipOf text c → a ≡ b
+pub skip-determined : (text : List ℕ) (c : ParserCursor) (a b : Step) → toldSkip a ≡ skipOf text c → toldSkip b ≡ skipOf text c → a ≡ b
 skip-determined text c a b p q = sym (meant-told a) ∙ ap meant (p ∙ sym q) ∙ meant-told b

@@ -4,7 +4,7 @@ use mathlib.Core.List.{List}
 use mathlib.Core.Path.{_∙_, _≡_, ap, refl, sym}
 use Rattle.text.specs.Refusals.{Told}
 use Rattle.text.specs.Refusals.Told.{accepted, refused}
-use Rattle.sarridok.specs.Walked.{told, walkOf, linksAfter}
+use Rattle.sarridok.specs.Walked.{toldWalk, walkOf, linksAfter}
 use Rattle.sarridok.specs.declared.walk_call.WalkAnswer.{WalkAnswer}
 use Rattle.sarridok.specs.declared.walk_call.WalkAnswer.the-variants as answer
 
@@ -12,12 +12,12 @@ meant : Told Unit → WalkAnswer
 meant (accepted t) = answer.Walked
 meant (refused r) = answer.Refused r
 
-meant-told : (a : WalkAnswer) → meant (told a) ≡ a
+meant-told : (a : WalkAnswer) → meant (toldWalk a) ≡ a
 unfolding meant
 meant-told answer.Walked = refl
 meant-told (answer.Refused r) = refl
 
-pub walk-determined : (tape : List ℕ) (count limit links : ℕ) (a b : WalkAnswer) → told a ≡ walkOf tape count limit links → told b ≡ walkOf tape count limit links → a ≡ b
+pub walk-determined : (tape : List ℕ) (count limit links : ℕ) (a b : WalkAnswer) → toldWalk a ≡ walkOf tape count limit links → toldWalk b ≡ walkOf tape count limit links → a ≡ b
 walk-determined tape count limit links a b p q = sym (meant-told a) ∙ ap meant (p ∙ sym q) ∙ meant-told b
 
 pub links-determined : (tape : List ℕ) (count limit : ℕ) (out a b : List ℕ) → a ≡ linksAfter tape count limit out → b ≡ linksAfter tape count limit out → a ≡ b

@@ -9,10 +9,10 @@ use Rattle.cursor.specs.declared.skip.Step.the-variants.{Moved, Refused}
 use Rattle.cursor.specs.Skip.{cursorFits, skipWsOf}
 
 -- The paper's answer for each case of the code's.
-abbrev pub told : Step → Told ParserCursor
-told (Moved c) = accepted c
-told (Refused r) = refused r
+abbrev pub toldSkip : Step → Told ParserCursor
+toldSkip (Moved c) = accepted c
+toldSkip (Refused r) = refused r
 
 -- The whole answer.
 unfoldable pub skipOf : List ℕ → ParserCursor → Told ParserCursor
-skipOf text c = behindFront text (cursorFits text c) (told (skipWsOf text c))
+skipOf text c = behindFront text (cursorFits text c) (toldSkip (skipWsOf text c))

@@ -28,13 +28,13 @@ pub record Typed : Type 0 where
   pub end : ℕ
 
 -- The number itself.
-abbrev pub numberOf : Value → ℤ
-numberOf v = signedOf (v .minus) (v .magnitude)
+abbrev pub signedNumber : Value → ℤ
+signedNumber v = signedOf (v .minus) (v .magnitude)
 
 -- The paper's answer for each case of the code's.
-abbrev pub told : IntegerAnswer → Told Typed
-told (answer.Value v end) = accepted (record { number = v; end = end })
-told (answer.Refused r) = refused r
+abbrev pub toldInteger : IntegerAnswer → Told Typed
+toldInteger (answer.Value v end) = accepted (record { number = v; end = end })
+toldInteger (answer.Refused r) = refused r
 
 -- A byte literal is u8, and for any other width of another kind.
 abbrev pub byteAs : Width → ByteAnswer → Integer
@@ -59,4 +59,4 @@ Fitting place (integer.Refused r) = place + r .place < 2 ^ 64
 
 -- The whole answer.
 unfoldable pub integerOf : List ℕ → ℕ → Width → Told Typed
-integerOf text place width = behindFront text (placeFits text place) (told (placedAt place (integerAt width (drop place text))))
+integerOf text place width = behindFront text (placeFits text place) (toldInteger (placedAt place (integerAt width (drop place text))))

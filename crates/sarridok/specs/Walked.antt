@@ -20,9 +20,9 @@ use Rattle.sarridok.specs.declared.walk_call.WalkAnswer.{WalkAnswer}
 use Rattle.sarridok.specs.declared.walk_call.WalkAnswer.the-variants as answer
 
 -- The paper's answer for each case of the code's.
-abbrev pub told : WalkAnswer → Told Unit
-told answer.Walked = accepted tt
-told (answer.Refused r) = refused r
+abbrev pub toldWalk : WalkAnswer → Told Unit
+toldWalk answer.Walked = accepted tt
+toldWalk (answer.Refused r) = refused r
 
 -- The grammar's verdict as an answer.
 abbrev pub judged : Verdict → Told Unit

@@ -14,7 +14,7 @@ use text::judge::place_fits;
 use text::refusal::placed_behind;
 ghost use mathlib.Core.Path.{_≡_};
 ghost use Prim.Native.Nat.{_<_};
-ghost use Rattle.sarridok.specs.Typed.{byteAs, integerAt, Fitting, placedAt, told, integerOf};
+ghost use Rattle.sarridok.specs.Typed.{byteAs, integerAt, Fitting, placedAt, toldInteger, integerOf};
 
 // The number and the place behind it, or a refusal.
 pub enum IntegerAnswer {
@@ -64,7 +64,7 @@ fn placed(read: Integer, place: usize) -> IntegerAnswer
 }
 
 pub fn integer(text: &[u8], place: usize, width: Width) -> IntegerAnswer
-    ensures { λ r. ⌜ told r ≡ integerOf (now (text .entry)) place width ⌝ }
+    ensures { λ r. ⌜ toldInteger r ≡ integerOf (now (text .entry)) place width ⌝ }
 {
     let judged = judge(text);
     if let Judged::Refused(refusal) = judged {

@@ -5,10 +5,10 @@ use text::Refusal;
 use text::judge::Judged;
 use text::judge::judge;
 ghost use mathlib.Core.Path.{_≡_};
-ghost use Rattle.sarridok.specs.Skip.{told, skipOf};
+ghost use Rattle.sarridok.specs.Skip.{toldSkip, skipOf};
 
 pub fn skip(text: &[u8], c: ParserCursor) -> Step
-    ensures { λ r. ⌜ told r ≡ skipOf (now (text .entry)) c ⌝ }
+    ensures { λ r. ⌜ toldSkip r ≡ skipOf (now (text .entry)) c ⌝ }
 {
     let judged = judge(text);
     if let Judged::Refused(r) = judged {

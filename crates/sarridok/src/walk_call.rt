@@ -7,7 +7,7 @@ use walk::joining::join;
 use walk::judging::judge;
 ghost use mathlib.Core.Path.{_≡_};
 ghost use lib.ListN.{length};
-ghost use Rattle.sarridok.specs.Walked.{told, walkOf, linksAfter};
+ghost use Rattle.sarridok.specs.Walked.{toldWalk, walkOf, linksAfter};
 
 // The links are written, or a refusal.
 pub enum WalkAnswer {
@@ -16,7 +16,7 @@ pub enum WalkAnswer {
 }
 
 pub fn walk(tape: &[u32], count: usize, limit: usize, links: &mut [u32]) -> WalkAnswer
-    ensures answer { λ r. ⌜ told r ≡ walkOf (now (tape .entry)) count limit (length (now (links .entry))) ⌝ }
+    ensures answer { λ r. ⌜ toldWalk r ≡ walkOf (now (tape .entry)) count limit (length (now (links .entry))) ⌝ }
     ensures left { λ r. ⌜ now (links .exit) ≡ linksAfter (now (tape .entry)) count limit (now (links .entry)) ⌝ }
 {
     if 128 < limit {

@@ -1,3 +1,4 @@
 pub mod Packed
 pub mod Words
 pub mod Numbered
+pub mod Whole

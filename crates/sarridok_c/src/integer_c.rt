@@ -6,13 +6,13 @@ use crate::packing::unfit_in;
 use integers::width::width_at;
 use sarridok::IntegerAnswer;
 ghost use mathlib.Core.Path.{_≡_};
-ghost use Rattle.sarridok.specs.Typed.{told};
+ghost use Rattle.sarridok.specs.Typed.{toldInteger};
 ghost use Rattle.sarridok_c.specs.Packed.{packed, lentAfter};
 ghost use Rattle.sarridok_c.specs.Words.{typedWord, magnitudeOf};
 ghost use Rattle.sarridok_c.specs.Numbered.{integerNumbered};
 
 fn word(answer: IntegerAnswer, magnitude: &mut u64) -> u64
-    ensures { λ r. ⌜ (r ≡ packed typedWord (told answer)) × (now (magnitude .exit) ≡ lentAfter magnitudeOf (told answer) (now (magnitude .entry))) ⌝ }
+    ensures { λ r. ⌜ (r ≡ packed typedWord (toldInteger answer)) × (now (magnitude .exit) ≡ lentAfter magnitudeOf (toldInteger answer) (now (magnitude .entry))) ⌝ }
 {
     match answer {
         IntegerAnswer::Value(value, end) => {

@@ -5,12 +5,12 @@ use sarridok::ParserCursor;
 use sarridok::Step;
 ghost use mathlib.Core.Path.{_≡_};
 ghost use Rattle.cursor.specs.Cursor.{cursor as cursorOf};
-ghost use Rattle.sarridok.specs.Skip.{told, skipOf};
+ghost use Rattle.sarridok.specs.Skip.{toldSkip, skipOf};
 ghost use Rattle.sarridok_c.specs.Packed.{packed, lentAfter};
 ghost use Rattle.sarridok_c.specs.Words.{cursorWord, preOf, lengthOf};
 
 fn word(step: Step, pre: &mut u64, len: &mut u64) -> u64
-    ensures { λ r. ⌜ (r ≡ packed cursorWord (told step)) × (now (pre .exit) ≡ lentAfter preOf (told step) (now (pre .entry))) × (now (len .exit) ≡ lentAfter lengthOf (told step) (now (len .entry))) ⌝ }
+    ensures { λ r. ⌜ (r ≡ packed cursorWord (toldSkip step)) × (now (pre .exit) ≡ lentAfter preOf (toldSkip step) (now (pre .entry))) × (now (len .exit) ≡ lentAfter lengthOf (toldSkip step) (now (len .entry))) ⌝ }
 {
     match step {
         Step::Moved(c) => {

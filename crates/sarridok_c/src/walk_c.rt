@@ -3,12 +3,12 @@ use crate::packing::refused;
 use sarridok::WalkAnswer;
 ghost use mathlib.Core.Path.{_≡_};
 ghost use lib.ListN.{length};
-ghost use Rattle.sarridok.specs.Walked.{told, walkOf, linksAfter};
+ghost use Rattle.sarridok.specs.Walked.{toldWalk, walkOf, linksAfter};
 ghost use Rattle.sarridok_c.specs.Packed.{packed};
 ghost use Rattle.sarridok_c.specs.Words.{doneWord};
 
 fn word(answer: WalkAnswer) -> u64
-    ensures { λ r. ⌜ r ≡ packed doneWord (told answer) ⌝ }
+    ensures { λ r. ⌜ r ≡ packed doneWord (toldWalk answer) ⌝ }
 {
     match answer {
         WalkAnswer::Walked => 0,

@@ -12,7 +12,7 @@ use borrow.Author.Tests.{lt-ltb, le-ltb, ltb-true, ltb-false}
 use Rattle.text.specs.Runs.{run}
 use Rattle.text.proofs.Choices.{bool-cases, either, lt-or-le}
 use Rattle.text.proofs.RunLaws.{run-more, run-out, run-end}
-use Rattle.search.specs.Others.{other, neither, atMost}
+use Rattle.search.specs.inner.Others.{other, neither, atMost}
 
 -- ---- at a place
 

@@ -1,1 +1,1 @@
-pub mod Others
+pub mod inner

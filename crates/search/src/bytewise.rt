@@ -3,7 +3,7 @@ ghost use mathlib.Core.Path.{_≡_};
 ghost use Prim.Native.Nat.{_+_, _≤_};
 ghost use lib.ListN.{length, drop};
 ghost use Rattle.text.specs.Runs.{run};
-ghost use Rattle.search.specs.Others.{other, neither, atMost};
+ghost use Rattle.search.specs.inner.Others.{other, neither, atMost};
 
 pub fn find_one(s: &[u8], from: usize, b: u8) -> usize
     requires { ⌜ from ≤ length (now s) ⌝ }

@@ -10,7 +10,7 @@ ghost use mathlib.Core.Path.{_≡_};
 ghost use Prim.Native.Nat.{_+_, _≤_};
 ghost use lib.ListN.{length, drop};
 ghost use Rattle.text.specs.Runs.{run};
-ghost use Rattle.search.specs.Others.{other, neither};
+ghost use Rattle.search.specs.inner.Others.{other, neither};
 
 // The place of the first b at or behind `from`, or the end.
 pub fn find(s: &[u8], from: usize, b: u8) -> usize

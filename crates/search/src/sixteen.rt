@@ -4,7 +4,7 @@ ghost use Prim.Native.Nat.{_+_, _≤_};
 ghost use lib.Dec.{ltb};
 ghost use lib.ListN.{length, drop};
 ghost use Rattle.text.specs.Runs.{run};
-ghost use Rattle.search.specs.Others.{other, neither};
+ghost use Rattle.search.specs.inner.Others.{other, neither};
 
 // The first b at or behind `at` is fewer than sixteen bytes away.
 pub fn has(s: &[u8], at: usize, b: u8) -> bool

@@ -1,7 +1,7 @@
 // The answer of a typed integer.
 ghost use mathlib.Core.Path.{_≡_};
 ghost use Rattle.lines.specs.Out.{put};
-ghost use Rattle.sarridok.specs.Typed.{numberOf, told};
+ghost use Rattle.sarridok.specs.Typed.{signedNumber, toldInteger};
 ghost use Rattle.show.specs.Answers.{answerText};
 ghost use Rattle.show.specs.Integers.{signedText, typedText};
 use lines::out;
@@ -10,7 +10,7 @@ use sarridok::Value;
 
 // The sign and digits of a value; zero has no sign.
 fn value(o: &mut [u8], at: usize, v: Value) -> usize
-    ensures { λ r. ⌜ (now (o .exit), r) ≡ put (now (o .entry), at) (signedText (numberOf v)) ⌝ }
+    ensures { λ r. ⌜ (now (o .exit), r) ≡ put (now (o .entry), at) (signedText (signedNumber v)) ⌝ }
 {
     if v.minus {
         if 0 < v.magnitude {
@@ -22,7 +22,7 @@ fn value(o: &mut [u8], at: usize, v: Value) -> usize
 }
 
 pub fn read(o: &mut [u8], at: usize, r: IntegerAnswer) -> usize
-    ensures { λ p. ⌜ (now (o .exit), p) ≡ put (now (o .entry), at) (answerText typedText (told r)) ⌝ }
+    ensures { λ p. ⌜ (now (o .exit), p) ≡ put (now (o .entry), at) (answerText typedText (toldInteger r)) ⌝ }
 {
     match r {
         IntegerAnswer::Value(v, end) => {

@@ -1,7 +1,7 @@
 // The answer of a skip.
 ghost use mathlib.Core.Path.{_≡_};
 ghost use Rattle.lines.specs.Out.{put};
-ghost use Rattle.sarridok.specs.Skip.{told};
+ghost use Rattle.sarridok.specs.Skip.{toldSkip};
 ghost use Rattle.show.specs.Answers.{answerText};
 ghost use Rattle.show.specs.Skips.{lengthText, cursorText, movedText};
 use cursor::ParserCursor;
@@ -27,7 +27,7 @@ fn cursor(o: &mut [u8], at: usize, c: ParserCursor) -> usize
 }
 
 pub fn skipped(o: &mut [u8], at: usize, s: Step) -> usize
-    ensures { λ r. ⌜ (now (o .exit), r) ≡ put (now (o .entry), at) (answerText movedText (told s)) ⌝ }
+    ensures { λ r. ⌜ (now (o .exit), r) ≡ put (now (o .entry), at) (answerText movedText (toldSkip s)) ⌝ }
 {
     match s {
         Step::Moved(c) => {

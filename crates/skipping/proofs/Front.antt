@@ -12,9 +12,9 @@ use Rattle.comments.specs.declared.gap.Gap.{Gap as Answer}
 use Rattle.comments.specs.declared.gap.Gap.the-variants as answer
 use Rattle.cursor.proofs.SkipLaws.{skip-at-end, skip-runs}
 use Rattle.cursor.specs.Cursor.{cursor}
-use Rattle.cursor.specs.Skip.{behindGap, cursorFits, preOf, skipWsOf}
+use Rattle.cursor.specs.Skip.{cursorBehind, cursorFits, preOf, skipWsOf}
 use Rattle.cursor.specs.declared.ParserCursor.{ParserCursor}
-use Rattle.sarridok.specs.Skip.{skipOf, told}
+use Rattle.sarridok.specs.Skip.{skipOf, toldSkip}
 use Rattle.skipping.specs.Skips.{Fits, ahead}
 use Rattle.text.proofs.Choices.{cond-cases, either, lt-or-le}
 use Rattle.text.proofs.JudgeLaws.{front-fit, front-refused, front-unfit}
@@ -53,9 +53,9 @@ refused-apart r (refused x) o e =
     (λ h. omega arith, λ h. omega arith)
 
 module _ (text : List ℕ) (c : ParserCursor) where
-  pub own-answer : Fits text c → skipOf text c ≡ told (skipWsOf text c)
+  pub own-answer : Fits text c → skipOf text c ≡ toldSkip (skipWsOf text c)
   unfolding skipOf
-  own-answer f = front-fit text (told (skipWsOf text c)) (cursorFits text c) (f .text-fit) (f .cursor-fit)
+  own-answer f = front-fit text (toldSkip (skipWsOf text c)) (cursorFits text c) (f .text-fit) (f .cursor-fit)
 
   -- an answer of its own is given to a text and cursor that fit
   pub only-own : (a : Told ParserCursor) → Own a → skipOf text c ≡ a → Fits text c
@@ -64,16 +64,16 @@ module _ (text : List ℕ) (c : ParserCursor) where
     where
       go : (j : Judged) → judgedOf text ≡ j → (f : Bool) → cursorFits text c ≡ f → Fits text c
       go Fit e true f = record { text-fit = e; cursor-fit = f }
-      go Fit e false f = absurd (refused-apart unfit a o (sym (front-unfit text (told (skipWsOf text c)) (cursorFits text c) e f) ∙ h) .1 (omega arith))
-      go (Refused r) e b f = absurd (refused-apart r a o (sym (front-refused text (told (skipWsOf text c)) (cursorFits text c) r e) ∙ h) .0 (judged-low text r e))
+      go Fit e false f = absurd (refused-apart unfit a o (sym (front-unfit text (toldSkip (skipWsOf text c)) (cursorFits text c) e f) ∙ h) .1 (omega arith))
+      go (Refused r) e b f = absurd (refused-apart r a o (sym (front-refused text (toldSkip (skipWsOf text c)) (cursorFits text c) r e) ∙ h) .0 (judged-low text r e))
 
   -- ---- behind the front
 
   pub says-end : Fits text c → length text ≤ c .cursor → skipOf text c ≡ accepted (cursor (c .cursor) (preOf c) (c .«last_ws_len»))
-  says-end f h = own-answer f ∙ ap told (skip-at-end text c h)
+  says-end f h = own-answer f ∙ ap toldSkip (skip-at-end text c h)
 
-  pub says-gap : Fits text c → c .cursor < length text → skipOf text c ≡ told (behindGap (c .cursor) (preOf c) (gapOf (ahead text c)))
-  says-gap f h = own-answer f ∙ ap told (skip-runs text c h)
+  pub says-gap : Fits text c → c .cursor < length text → skipOf text c ≡ toldSkip (cursorBehind (c .cursor) (preOf c) (gapOf (ahead text c)))
+  says-gap f h = own-answer f ∙ ap toldSkip (skip-runs text c h)
 
   -- where something is ahead, the text is not at its end
   pub some-ahead : (g : Answer) → gapOf (ahead text c) ≡ g → (answer.Clear 0 ≡ g → ⊥) → c .cursor < length text
@@ -89,7 +89,7 @@ refusals n m j i e = let r : refusal n j ≡ refusal m i = cc in (ap (λ (x : Re
 abbrev pub Refuses : ℕ → Answer → ℕ → ℕ → Type 0
 Refuses at g n p = (q : ℕ) × (g ≡ answer.Refused (refusal n q)) × (p ≡ at + q)
 
-gap-refused : (at pre : ℕ) (g : Answer) (n p : ℕ) → told (behindGap at pre g) ≡ refused (refusal n p) → Refuses at g n p
+gap-refused : (at pre : ℕ) (g : Answer) (n p : ℕ) → toldSkip (cursorBehind at pre g) ≡ refused (refusal n p) → Refuses at g n p
 gap-refused at pre (answer.Clear k) n p e = let z : _≡_ {A = ℕ} 0 1 = cc in absurd (omega arith)
 gap-refused at pre (answer.InLine k) n p e = let z : _≡_ {A = ℕ} 0 1 = cc in absurd (omega arith)
 gap-refused at pre (answer.Refused r) n p e =
@@ -114,5 +114,5 @@ refused-exactly text c n p l m = (to, from)
     from : Fits text c × Refuses (c .cursor) (gapOf (ahead text c)) n p → skipOf text c ≡ refused (refusal n p)
     from (f, (q, e, i)) =
         says-gap text c f (some-ahead text c (answer.Refused (refusal n q)) e (clear-apart 0 (refusal n q)))
-        ∙ ap (λ (g : Answer). told (behindGap (c .cursor) (preOf c) g)) e
+        ∙ ap (λ (g : Answer). toldSkip (cursorBehind (c .cursor) (preOf c) g)) e
         ∙ ap (λ (k : ℕ). refused (refusal n k)) (sym i)

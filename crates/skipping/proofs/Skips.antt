@@ -17,12 +17,12 @@ use Rattle.comments.specs.declared.gap.Gap.{Gap as Answer}
 use Rattle.comments.specs.declared.gap.Gap.the-variants as answer
 use Rattle.cursor.proofs.SkipLaws.{fits-places}
 use Rattle.cursor.specs.Cursor.{cursor, unclosedLine}
-use Rattle.cursor.specs.Skip.{behindGap, preOf}
+use Rattle.cursor.specs.Skip.{cursorBehind, preOf}
 use Rattle.cursor.specs.declared.ParserCursor.{ParserCursor}
 use Rattle.gapped.proofs.Exactly as gap
 use Rattle.gapped.proofs.Passing.{gap-passed}
 use Rattle.gapped.specs.Gap.{LastSlash, OpenBlock, Whole}
-use Rattle.sarridok.specs.Skip.{skipOf, told}
+use Rattle.sarridok.specs.Skip.{skipOf, toldSkip}
 use Rattle.skipping.proofs.Front.{only-own, refused-exactly, says-end, says-gap, some-ahead}
 use Rattle.skipping.proofs.Stray.{char-stands, stray-char}
 use Rattle.skipping.specs.Skips.{Fits, Skips, StrayChar, ahead}
@@ -39,7 +39,7 @@ module _ (text : List ℕ) (c : ParserCursor) where
     left : c .cursor + length (ahead text c) ≡ length text
     left = omega (arith, length-drop (c .cursor) text, fits-places text c (fits .cursor-fit) .0)
 
-    by-gap : c .cursor < length text → (d : ParserCursor) (g : Answer) → gapOf (ahead text c) ≡ g → told (behindGap (c .cursor) (preOf c) g) ≡ accepted d → Skips text c d
+    by-gap : c .cursor < length text → (d : ParserCursor) (g : Answer) → gapOf (ahead text c) ≡ g → toldSkip (cursorBehind (c .cursor) (preOf c) g) ≡ accepted d → Skips text c d
     by-gap h d (answer.Clear n) e i =
         let at = c .cursor in
         let w = gap.clear-exactly (ahead text c) n .0 e in
@@ -59,8 +59,8 @@ module _ (text : List ℕ) (c : ParserCursor) where
         subst (Skips text c) q (at-end (omega (arith, left))))
 
     -- the gap's answer, where the text is not at its end
-    told-as : (g : Answer) → gapOf (ahead text c) ≡ g → c .cursor < length text → skipOf text c ≡ told (behindGap (c .cursor) (preOf c) g)
-    told-as g e h = says-gap text c fits h ∙ ap (λ (x : Answer). told (behindGap (c .cursor) (preOf c) x)) e
+    told-as : (g : Answer) → gapOf (ahead text c) ≡ g → c .cursor < length text → skipOf text c ≡ toldSkip (cursorBehind (c .cursor) (preOf c) g)
+    told-as g e h = says-gap text c fits h ∙ ap (λ (x : Answer). toldSkip (cursorBehind (c .cursor) (preOf c) x)) e
 
     is-skipped : {d : ParserCursor} → Skips text c d → skipOf text c ≡ accepted d
     is-skipped (at-end e) = says-end text c fits (omega arith)

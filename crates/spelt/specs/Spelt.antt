@@ -12,7 +12,7 @@ use Rattle.names.specs.Names.{Run, startsName}
 use Rattle.digits.specs.Value.{valueOf}
 use Rattle.integers.specs.Width.{codeOf, firstFit}
 use Rattle.rows.specs.declared.Entry.{Entry}
-use Rattle.tiled.specs.Forms.{FloatForm, Mark}
+use Rattle.tiled.specs.Forms.{FloatName, Mark}
 
 -- Each byte is a decimal digit.
 pub data Decimal : List ℕ → Type 0 where
@@ -27,7 +27,7 @@ pub data Unescaped : List ℕ → Type 0 where
 -- `Plain kind detail w`: the bytes w are a plain token of this kind and with this detail.
 pub data Plain : ℕ → ℕ → List ℕ → Type 0 where
   mark : {a k : ℕ} → Mark a k → Plain k 0 (a ∷ [])
-  name : {c : ℕ} {w : List ℕ} → Scalar c → startsName c ≡ true → Run xidContinue w → ((d : ℕ) → FloatForm d (encode c ++ w) → ⊥) → Plain 9 0 (encode c ++ w)
+  name : {c : ℕ} {w : List ℕ} → Scalar c → startsName c ≡ true → Run xidContinue w → ((d : ℕ) → FloatName d (encode c ++ w) → ⊥) → Plain 9 0 (encode c ++ w)
   integer : {ds : List ℕ} → Decimal ds → valueOf 10 ds < 18446744073709551616 → Plain 11 (codeOf (firstFit false (valueOf 10 ds))) ds
   string : {w : List ℕ} → Encoded w → Unescaped w → Plain 14 (length w) (0x22 ∷ (w ++ 0x22 ∷ []))
 

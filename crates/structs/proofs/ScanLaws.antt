@@ -12,7 +12,7 @@ use Rattle.text.proofs.Choices.{cond-cases}
 use Rattle.text.specs.Refusals.{eof, placedBehind, refusal}
 use Rattle.structs.proofs.PassLaws.{gap-fits}
 use Rattle.structs.proofs.StepLaws.{Sized, step-none, step-sized}
-use Rattle.structs.specs.Kinds.{Fitting, placedAt}
+use Rattle.structs.specs.Kinds.{Fitting, placedKind}
 use Rattle.structs.specs.Passes.{Fits, pastGap}
 use Rattle.structs.specs.Scan.{afterComma, byStep, commaThen, scanFrom, scanOf, stepOf}
 use Rattle.structs.specs.declared.kinds.StructAnswer.{StructAnswer}
@@ -52,7 +52,7 @@ behind a s (suc m) b at p q =
     stepped s m b (at + 1) (le-of-suc-le-suc q) ∙ ap (λ (n : ℕ). scanFrom (drop m s) 0 b n) e
 
 first : (a : ℕ) (s : List ℕ) (b at : ℕ)
-    → scanFrom (a ∷ s) 0 b at ≡ byStep (stepOf (a ∷ s)) b (λ n level. scanFrom s (pred n) level (at + 1)) (λ n. placedAt (at + n) (afterComma (drop n (a ∷ s)))) at
+    → scanFrom (a ∷ s) 0 b at ≡ byStep (stepOf (a ∷ s)) b (λ n level. scanFrom s (pred n) level (at + 1)) (λ n. placedKind (at + n) (afterComma (drop n (a ∷ s)))) at
 unfolding scanFrom
 first a s b at = refl
 
@@ -61,22 +61,22 @@ unfolding scanFrom
 ended b at = ap (λ (p : ℕ). answer.Refused (refusal 6 p)) (sym (add-zero at))
 
 turn : (t : List ℕ) (x : Step) (b at : ℕ) → stepOf t ≡ x
-    → scanFrom t 0 b at ≡ byStep x b (λ n level. scanFrom (drop n t) 0 level (at + n)) (λ n. placedAt (at + n) (afterComma (drop n t))) at
+    → scanFrom t 0 b at ≡ byStep x b (λ n level. scanFrom (drop n t) 0 level (at + n)) (λ n. placedKind (at + n) (afterComma (drop n t))) at
 turn [] x b at h =
     ended b at
-    ∙ ap (λ (y : Step). byStep y b (λ n level. scanFrom (drop n []) 0 level (at + n)) (λ n. placedAt (at + n) (afterComma (drop n []))) at) (sym step-none ∙ h)
+    ∙ ap (λ (y : Step). byStep y b (λ n level. scanFrom (drop n []) 0 level (at + n)) (λ n. placedKind (at + n) (afterComma (drop n []))) at) (sym step-none ∙ h)
 turn (a ∷ s) x b at h =
     first a s b at
-    ∙ ap (λ (y : Step). byStep y b (λ n level. scanFrom s (pred n) level (at + 1)) (λ n. placedAt (at + n) (afterComma (drop n (a ∷ s)))) at) h
+    ∙ ap (λ (y : Step). byStep y b (λ n level. scanFrom s (pred n) level (at + 1)) (λ n. placedKind (at + n) (afterComma (drop n (a ∷ s)))) at) h
     ∙ same (a ∷ s) x b _ _ _ _ at (step-sized (a ∷ s) x h) (λ n level p q. behind a s n level at p q) (λ n. refl)
 
 pub scan-at : (s : List ℕ) (i b : ℕ) (x : Step) → stepOf (drop i s) ≡ x
-    → scanFrom (drop i s) 0 b i ≡ byStep x b (λ n level. scanFrom (drop (i + n) s) 0 level (i + n)) (λ n. placedAt (i + n) (afterComma (drop (i + n) s))) i
+    → scanFrom (drop i s) 0 b i ≡ byStep x b (λ n level. scanFrom (drop (i + n) s) 0 level (i + n)) (λ n. placedKind (i + n) (afterComma (drop (i + n) s))) i
 scan-at s i b x h =
     turn (drop i s) x b i h
     ∙ same (drop i s) x b _ _ _ _ i (step-sized (drop i s) x h)
     (λ n level p q. ap (λ (t : List ℕ). scanFrom t 0 level (i + n)) (drop-drop n i s))
-    (λ n. ap (λ (t : List ℕ). placedAt (i + n) (afterComma t)) (drop-drop n i s))
+    (λ n. ap (λ (t : List ℕ). placedKind (i + n) (afterComma t)) (drop-drop n i s))
 
 -- ---- a refusal's place lies within the part
 
@@ -84,7 +84,7 @@ abbrev pub Within : ℕ → StructAnswer → Type 0
 Within m (answer.Kind k) = Unit {0}
 Within m (answer.Refused r) = r .place ≤ m
 
-pub placed-within : (m n place : ℕ) (a : StructAnswer) → Within n a → place + n ≤ m → Within m (placedAt place a)
+pub placed-within : (m n place : ℕ) (a : StructAnswer) → Within n a → place + n ≤ m → Within m (placedKind place a)
 placed-within m n place (answer.Kind k) w h = tt
 placed-within m n place (answer.Refused r) w h = omega arith
 
@@ -111,7 +111,7 @@ step-ends t (Comma n) b on comma at m z f g h = cond-cases (Within m) (eqb b 1) 
 step-ends t (Plain n) b on comma at m z f g h = f n b
 step-ends t (Refused r) b on comma at m z f g h = omega arith
 
-behind-within : (t : List ℕ) (at m n : ℕ) → at + length t ≤ m → n ≤ length t → Within m (placedAt (at + n) (afterComma (drop n t)))
+behind-within : (t : List ℕ) (at m n : ℕ) → at + length t ≤ m → n ≤ length t → Within m (placedKind (at + n) (afterComma (drop n t)))
 behind-within t at m n h l = placed-within m (length (drop n t)) (at + n) (afterComma (drop n t)) (comma-within (drop n t)) (omega (arith, length-drop n t))
 
 from-within : (s : List ℕ) (left b at m : ℕ) → at + length s ≤ m → Within m (scanFrom s left b at)

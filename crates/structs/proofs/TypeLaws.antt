@@ -15,7 +15,7 @@ use Rattle.structs.proofs.PassLaws.{gap-fits}
 use Rattle.structs.proofs.ScanLaws.{Within, comma-within, placed-within, scan-within}
 use Rattle.structs.specs.Passes.{Fits, pastGap}
 use Rattle.structs.specs.Scan.{afterComma}
-use Rattle.structs.specs.Structs.{afterName, byName, contentsOf, decided, insideNewtype, parenthesized, reached, structTypeOf, undecidedOf, unlessEmpty}
+use Rattle.structs.specs.Structs.{afterName, byName, insideBrackets, decided, insideNewtype, parenthesized, reached, structTypeOf, undecidedOf, unlessEmpty}
 use Rattle.structs.specs.declared.kinds.NewtypeMode.{NewtypeMode}
 use Rattle.structs.specs.declared.kinds.NewtypeMode.the-variants.{InsideNewtype, NoParensMeanUnit}
 use Rattle.structs.specs.declared.kinds.StructAnswer.{StructAnswer}
@@ -69,8 +69,8 @@ module _ (s : List ℕ) where
   by-name tuple at (name.Name n) h f = name-within tuple (at + n) f
   by-name tuple at (name.RawName n) h f = name-within tuple (at + n) f
 
-  contents-within : (tuple : TupleMode) (at : ℕ) → at ≤ length s → Within (length s) (contentsOf tuple s at)
-  unfolding contentsOf
+  contents-within : (tuple : TupleMode) (at : ℕ) → at ≤ length s → Within (length s) (insideBrackets tuple s at)
+  unfolding insideBrackets
   contents-within tuple at h = by-name tuple at (skipIdentifierOf (drop at s)) h (name-at s at _ h refl)
 
   unless-within : (tuple : TupleMode) (i : ℕ) → i ≤ length s → Within (length s) (unlessEmpty tuple s i)
@@ -84,4 +84,4 @@ module _ (s : List ℕ) where
       (λ e. reached-within (length s) (pastGap s (To 1)) (unlessEmpty tuple s) (gap-fits s (To 1) (none-here s 0 0x28 (omega arith) e)) (λ i l. unless-within tuple i l))
       (λ e. tt)
   struct-bounded InsideNewtype tuple =
-      reached-within (length s) (pastGap s (To 0)) (contentsOf tuple s) (gap-fits s (To 0) (omega arith)) (λ i l. contents-within tuple i l)
+      reached-within (length s) (pastGap s (To 0)) (insideBrackets tuple s) (gap-fits s (To 0) (omega arith)) (λ i l. contents-within tuple i l)

@@ -5,9 +5,9 @@ use Rattle.structs.specs.declared.kinds.StructAnswer.{StructAnswer}
 use Rattle.structs.specs.declared.kinds.StructAnswer.the-variants.{Kind, Refused}
 
 -- The answer for a part that begins at a place, seen from the front.
-abbrev pub placedAt : ℕ → StructAnswer → StructAnswer
-placedAt place (Kind k) = Kind k
-placedAt place (Refused r) = Refused (placedBehind place r)
+abbrev pub placedKind : ℕ → StructAnswer → StructAnswer
+placedKind place (Kind k) = Kind k
+placedKind place (Refused r) = Refused (placedBehind place r)
 
 -- Its place is a number of 64 bits there.
 abbrev pub Fitting : ℕ → StructAnswer → Type 0

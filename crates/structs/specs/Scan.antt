@@ -7,7 +7,7 @@ use lib.Dec.{eqb, ltb}
 use lib.ListN.{length, getD, drop}
 use Rattle.text.specs.Refusals.{eof, placedBehind}
 use Rattle.text.specs.Classes.{oneOf}
-use Rattle.structs.specs.Kinds.{placedAt}
+use Rattle.structs.specs.Kinds.{placedKind}
 use Rattle.structs.specs.Passes.{pastGap, pastChar, pastString, pastByteString}
 use Rattle.structs.specs.declared.kinds.StructAnswer.{StructAnswer}
 use Rattle.structs.specs.declared.kinds.StructAnswer.the-variants as answer
@@ -63,7 +63,7 @@ unfoldable pub scanFrom : List ℕ → ℕ → ℕ → ℕ → StructAnswer
 scanFrom [] left braces at = answer.Refused (eof at)
 scanFrom (a ∷ s) (suc left) braces at = scanFrom s left braces (at + 1)
 scanFrom (a ∷ s) zero braces at =
-    byStep (stepOf (a ∷ s)) braces (λ n level. scanFrom s (pred n) level (at + 1)) (λ n. placedAt (at + n) (afterComma (drop n (a ∷ s)))) at
+    byStep (stepOf (a ∷ s)) braces (λ n level. scanFrom s (pred n) level (at + 1)) (λ n. placedKind (at + n) (afterComma (drop n (a ∷ s)))) at
 
 -- From a place inside one bracket.
 unfoldable pub scanOf : List ℕ → ℕ → StructAnswer

@@ -9,7 +9,7 @@ use Rattle.text.specs.Refusals.{placedBehind}
 use Rattle.names.specs.Identifiers.{skipIdentifierOf}
 use Rattle.names.specs.declared.Identifier.{Identifier}
 use Rattle.names.specs.declared.Identifier.the-variants as name
-use Rattle.structs.specs.Kinds.{placedAt}
+use Rattle.structs.specs.Kinds.{placedKind}
 use Rattle.structs.specs.Passes.{pastGap}
 use Rattle.structs.specs.Scan.{afterComma, scanOf}
 use Rattle.structs.specs.declared.kinds.NewtypeMode.{NewtypeMode}
@@ -36,7 +36,7 @@ undecidedOf DifferentiateNewtype s at = scanOf s at
 unfoldable pub decided : TupleMode → List ℕ → ℕ → StructAnswer
 decided tuple s i =
     cond (eqb (getD s i 0) 0x3A) (Kind kind.Named)
-    (cond (eqb (getD s i 0) 0x2C) (placedAt (i + 1) (afterComma (drop (i + 1) s)))
+    (cond (eqb (getD s i 0) 0x2C) (placedKind (i + 1) (afterComma (drop (i + 1) s)))
     (cond (eqb (getD s i 0) 0x29) (Kind kind.NewtypeTuple) (undecidedOf tuple s i)))
 
 -- Behind a name.
@@ -50,12 +50,12 @@ byName (name.Name n) tuple s at = afterName tuple s (at + n)
 byName (name.RawName n) tuple s at = afterName tuple s (at + n)
 
 -- The contents, which begin at `at`.
-unfoldable pub contentsOf : TupleMode → List ℕ → ℕ → StructAnswer
-contentsOf tuple s at = byName (skipIdentifierOf (drop at s)) tuple s at
+unfoldable pub insideBrackets : TupleMode → List ℕ → ℕ → StructAnswer
+insideBrackets tuple s at = byName (skipIdentifierOf (drop at s)) tuple s at
 
 -- Contents in brackets: none are an empty tuple.
 unfoldable pub unlessEmpty : TupleMode → List ℕ → ℕ → StructAnswer
-unlessEmpty tuple s i = cond (eqb (getD s i 0) 0x29) (Kind kind.EmptyTuple) (contentsOf tuple s i)
+unlessEmpty tuple s i = cond (eqb (getD s i 0) 0x29) (Kind kind.EmptyTuple) (insideBrackets tuple s i)
 
 -- Behind a `(` at the front.
 unfoldable pub parenthesized : TupleMode → List ℕ → StructAnswer
@@ -63,7 +63,7 @@ parenthesized tuple s = reached (pastGap s (passed.To 1)) (unlessEmpty tuple s)
 
 -- Behind a bracket that was passed already.
 unfoldable pub insideNewtype : TupleMode → List ℕ → StructAnswer
-insideNewtype tuple s = reached (pastGap s (passed.To 0)) (contentsOf tuple s)
+insideNewtype tuple s = reached (pastGap s (passed.To 0)) (insideBrackets tuple s)
 
 -- The whole answer: without a bracket in front a unit struct.
 unfoldable pub structTypeOf : List ℕ → NewtypeMode → TupleMode → StructAnswer

@@ -3,7 +3,7 @@ use text::Refusal;
 use text::refusal::placed_behind;
 ghost use mathlib.Core.Path.{_≡_};
 ghost use Prim.Native.Nat.{_+_, _^_, _<_};
-ghost use Rattle.structs.specs.Kinds.{Fitting, placedAt};
+ghost use Rattle.structs.specs.Kinds.{Fitting, placedKind};
 
 // Whether a bracket has to stand in front, or was passed already.
 pub enum NewtypeMode {
@@ -34,7 +34,7 @@ pub enum StructAnswer {
 // An answer for a part that begins at a place, seen from the front.
 pub fn placed(answer: StructAnswer, place: usize) -> StructAnswer
     requires { ⌜ Fitting place answer ⌝ }
-    ensures { λ r. ⌜ r ≡ placedAt place answer ⌝ }
+    ensures { λ r. ⌜ r ≡ placedKind place answer ⌝ }
 {
     match answer {
         StructAnswer::Kind(kind) => StructAnswer::Kind(kind),

@@ -14,7 +14,7 @@ use text::bytes::peek;
 ghost use mathlib.Core.Path.{_≡_};
 ghost use Prim.Native.Nat.{_≤_};
 ghost use lib.ListN.{length};
-ghost use Rattle.structs.specs.Structs.{undecidedOf, afterName, contentsOf, parenthesized, insideNewtype, structTypeOf};
+ghost use Rattle.structs.specs.Structs.{undecidedOf, afterName, insideBrackets, parenthesized, insideNewtype, structTypeOf};
 
 // Neither named nor empty: only a scan over the value tells more.
 fn undecided(s: &[u8], at: usize, tuple: TupleMode) -> StructAnswer
@@ -54,7 +54,7 @@ fn behind_name(s: &[u8], at: usize, tuple: TupleMode) -> StructAnswer
 
 fn contents(s: &[u8], at: usize, tuple: TupleMode) -> StructAnswer
     requires { ⌜ at ≤ length (now s) ⌝ }
-    ensures { λ r. ⌜ r ≡ contentsOf tuple (now (s .entry)) at ⌝ }
+    ensures { λ r. ⌜ r ≡ insideBrackets tuple (now (s .entry)) at ⌝ }
 {
     let name = skip_identifier(&s[at..]);
     match name {

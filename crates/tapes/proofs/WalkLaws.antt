@@ -10,7 +10,7 @@ use Rattle.lines.specs.Out.{put}
 use Rattle.lines.specs.Over.{over}
 use Rattle.lines.proofs.OutLaws.{then}
 use Rattle.read.specs.Read.{readAnswer, readTape}
-use Rattle.sarridok.specs.Walked.{told, walkOf, linksAfter}
+use Rattle.sarridok.specs.Walked.{toldWalk, walkOf, linksAfter}
 use Rattle.sarridok.specs.declared.walk_call.WalkAnswer.{WalkAnswer}
 use Rattle.sarridok.specs.declared.walk_call.WalkAnswer.the-variants as answer
 use Rattle.show.specs.Answers.{badText, cleanText, refusedText}
@@ -46,7 +46,7 @@ module _ (tape : List ℕ) (q : Asked) (links before left : List ℕ) (m : befor
   links-left = e ∙ ap (linksAfter tape (q .count) (q .limit)) m
 
   module _ (out mid end : List ℕ × ℕ) (clean : Bool) (z : end ≡ put mid (cleanText clean)) where
-    -- what was told is the walk's answer
+    -- what was toldWalk is the walk's answer
     by-told : (a : Told Unit) → a ≡ walkOf tape (q .count) (q .limit) (length before) → end ≡ put out (walkedText a (q .count) left)
         → end ≡ put out (walksText tape q links)
     unfolding walksText
@@ -55,18 +55,18 @@ module _ (tape : List ℕ) (q : Asked) (links before left : List ℕ) (m : befor
         s ∙ ap (λ (x : Told Unit). put out (walkedText x (q .count) left)) (t ∙ ap (walkOf tape (q .count) (q .limit)) same)
         ∙ ap (λ (x : List ℕ). put out (walkedText (walkOf tape (q .count) (q .limit) (length links)) (q .count) x)) links-left
 
-    pub walked-said : (a : WalkAnswer) → told a ≡ walkOf tape (q .count) (q .limit) (length before) → a ≡ answer.Walked → (s : List ℕ) → s ≡ take (q .count) left
+    pub walked-said : (a : WalkAnswer) → toldWalk a ≡ walkOf tape (q .count) (q .limit) (length before) → a ≡ answer.Walked → (s : List ℕ) → s ≡ take (q .count) left
         → mid ≡ put out (linksText s) → clean ≡ keptFrom markAt (drop (q .count) left) (q .count)
         → end ≡ put out (walksText tape q links)
     walked-said a t g s f p k =
-        by-told (accepted tt) (sym (ap (λ (x : WalkAnswer). told x) g) ∙ t)
+        by-told (accepted tt) (sym (ap (λ (x : WalkAnswer). toldWalk x) g) ∙ t)
         (then out mid end (linksText s) (cleanText clean) p z ∙ ap (λ (x : List ℕ). put out (linksText x ++ cleanText clean)) f
         ∙ ap (λ (b : Bool). put out (linksText (take (q .count) left) ++ cleanText b)) k)
 
-    pub refused-said : (a : WalkAnswer) → told a ≡ walkOf tape (q .count) (q .limit) (length before) → (r : Refusal) → a ≡ answer.Refused r
+    pub refused-said : (a : WalkAnswer) → toldWalk a ≡ walkOf tape (q .count) (q .limit) (length before) → (r : Refusal) → a ≡ answer.Refused r
         → mid ≡ put out (refusedText r) → clean ≡ keptFrom markAt left 0 → end ≡ put out (walksText tape q links)
     refused-said a t r g p k =
-        by-told (refused r) (sym (ap (λ (x : WalkAnswer). told x) g) ∙ t)
+        by-told (refused r) (sym (ap (λ (x : WalkAnswer). toldWalk x) g) ∙ t)
         (then out mid end (refusedText r) (cleanText clean) p z ∙ ap (λ (b : Bool). put out (refusedText r ++ cleanText b)) k)
 
 -- ---- the first three words of `W`

@@ -37,10 +37,14 @@ pub data Suffix : ℕ → List ℕ → Type 0 where
   f32 : Suffix 32 (0x66 ∷ 0x33 ∷ 0x32 ∷ [])
   f64 : Suffix 64 (0x66 ∷ 0x36 ∷ 0x34 ∷ [])
 
--- A float: a text of the grammar once its underscores are left out, or `inf` or `NaN` with a sign or without; and its suffix.
+-- `inf` or `NaN`, alone or with a suffix: the names that are floats.
+pub data FloatName : ℕ → List ℕ → Type 0 where
+  named : {d : ℕ} (w : List ℕ) {x : List ℕ} → Special w → Suffix d x → FloatName d (w ++ x)
+
+-- A float: a text of the grammar once its underscores are left out, and its suffix; or such a name with a sign or without.
 pub data FloatForm : ℕ → List ℕ → Type 0 where
   number : {d : ℕ} (w : List ℕ) {x : List ℕ} → Float (stripped w) → Suffix d x → FloatForm d (w ++ x)
-  special : {d : ℕ} (w : List ℕ) {x : List ℕ} → Signable Special w → Suffix d x → FloatForm d (w ++ x)
+  special : {d : ℕ} {w : List ℕ} → Signable (FloatName d) w → FloatForm d w
 
 -- The width of an integer: its suffix's, or without one the first that fits.
 abbrev pub WidthOf : Width → List ℕ → Type 0
@@ -49,7 +53,7 @@ WidthOf w s = (suffixIn s .code ≡ codeOf w) ⊎ ((suffixIn s .code ≡ 0) × (
 -- `Form kind detail s t`: at the front of s stand an entry's bytes, of this kind and with this detail, and then t.
 pub data Form : ℕ → ℕ → List ℕ → List ℕ → Type 0 where
   mark : {a k : ℕ} {t : List ℕ} → Mark a k → Form k 0 (a ∷ t) t
-  name : {n : ℕ} {s : List ℕ} → IsName s n → ((d : ℕ) → FloatForm d (take n s) → ⊥) → Form 9 0 s (drop n s)
+  name : {n : ℕ} {s : List ℕ} → IsName s n → ((d : ℕ) → FloatName d (take n s) → ⊥) → Form 9 0 s (drop n s)
   raw-name : {n : ℕ} {s : List ℕ} → IsRawName s n → Form 10 0 s (drop n s)
   integer : {w : Width} {s : List ℕ} → IsWritten w s → WidthOf w s → Form 11 (codeOf w) s (drop (writtenLen s) s)
   byte : {b : ℕ} {s t : List ℕ} → ByteAt s b t → Form 11 5 s t

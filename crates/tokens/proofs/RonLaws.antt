@@ -24,7 +24,7 @@ use Rattle.reading.specs.Owed.{Laws, quietByte}
 use Rattle.reading.specs.Tokens.{Answer, Token as Answered, reach, refuse, stop, token, ungapped}
 use Rattle.tokens.proofs.TokenLaws.{Fits, Lexed, token-bounded, token-window}
 use Rattle.tokens.specs.Lexemes.{lexeme, lexemeOf}
-use Rattle.tokens.specs.Ron.{behindGap, byGap, ronToken}
+use Rattle.tokens.specs.Ron.{lexemeBehind, byGap, ronToken}
 use Rattle.tokens.specs.Token.{tokenOf}
 use Rattle.tokens.specs.declared.lexeme.Lexeme.{Lexeme}
 use Rattle.tokens.specs.declared.lexeme.LexemeAnswer.{LexemeAnswer}
@@ -36,7 +36,7 @@ use Rattle.tokens.specs.declared.token.Token.{Token}
 pub behind-said : (s : List ℕ) (g : ℕ) (t : Token) (l l′ : LexemeAnswer) → t ≡ tokenOf (take (length s - g) (drop g s)) → l ≡ lexemeOf t → l ≡ l′ → lexemeOf (tokenOf (drop g s)) ≡ l′
 behind-said s g t l l′ et el e = ap lexemeOf (ap tokenOf (sym (tail-part s g)) ∙ sym et) ∙ sym el ∙ e
 
-pub gap-token : (s : List ℕ) (g : ℕ) → g < length s → byGap s (gap.Clear g) ≡ behindGap g (lexemeOf (tokenOf (drop g s)))
+pub gap-token : (s : List ℕ) (g : ℕ) → g < length s → byGap s (gap.Clear g) ≡ lexemeBehind g (lexemeOf (tokenOf (drop g s)))
 gap-token s g h = rw (lt-ltb g (length s) h)
 
 pub gap-end : (s : List ℕ) (g : ℕ) → length s ≤ g → byGap s (gap.Clear g) ≡ stop
@@ -54,7 +54,7 @@ same-token : (g : ℕ) (l : Lexeme) (t : Answered) → token (record { gap = g; 
     → (g ≡ t .gap) × (lexemeAnswer.Read l ≡ lexeme (t .len) (t .kind) (t .detail))
 same-token g l t h = let e : record { gap = g; len = l .len; kind = l .kind; detail = l .detail } ≡ t = cc in (ap (λ (x : Answered). x .gap) e, ap (λ (x : Answered). lexeme (x .len) (x .kind) (x .detail)) e)
 
-at-lexeme : (s : List ℕ) (g : ℕ) (t : Answered) (a : LexemeAnswer) → gapOf s ≡ gap.Clear g → g < length s → lexemeOf (tokenOf (drop g s)) ≡ a → behindGap g a ≡ token t → At s t
+at-lexeme : (s : List ℕ) (g : ℕ) (t : Answered) (a : LexemeAnswer) → gapOf s ≡ gap.Clear g → g < length s → lexemeOf (tokenOf (drop g s)) ≡ a → lexemeBehind g a ≡ token t → At s t
 at-lexeme s g t (lexemeAnswer.Read l) eg i el h =
     let q = same-token g l t h in
     record {
@@ -78,7 +78,7 @@ token-is s t h = at-gap s t (gapOf s) refl h
 
 pub is-token : (s : List ℕ) (t : Answered) → At s t → ronToken s ≡ token t
 unfolding ronToken
-is-token s t a = ap (byGap s) (a .gap-is) ∙ gap-token s (t .gap) (a .inside) ∙ ap (behindGap (t .gap)) (a .lexeme-is)
+is-token s t a = ap (byGap s) (a .gap-is) ∙ gap-token s (t .gap) (a .inside) ∙ ap (lexemeBehind (t .gap)) (a .lexeme-is)
 
 -- ---- the laws
 
@@ -113,7 +113,7 @@ module _ (s : List ℕ) (t : Answered) (h : ronToken s ≡ token t) where
       }
 
 -- the place of a refusal
-by-lexeme : (s : List ℕ) (g : ℕ) (r : Refusal) (a : LexemeAnswer) → g < length s → Lexed (length (drop g s)) a → behindGap g a ≡ refuse r → r .place ≤ length s
+by-lexeme : (s : List ℕ) (g : ℕ) (r : Refusal) (a : LexemeAnswer) → g < length s → Lexed (length (drop g s)) a → lexemeBehind g a ≡ refuse r → r .place ≤ length s
 by-lexeme s g r (lexemeAnswer.Read l) i b h = let z : _≡_ {A = ℕ} 0 1 = cc in absurd (omega arith)
 by-lexeme s g r (lexemeAnswer.Refused q) i b h =
     let e : placedBehind g q ≡ r = cc in

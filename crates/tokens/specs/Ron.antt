@@ -23,13 +23,13 @@ answerOf End = stop
 answerOf (Refused r) = refuse r
 
 -- A lexeme behind g bytes.
-abbrev pub behindGap : ℕ → LexemeAnswer → Answer
-behindGap g (lexeme.Read l) = token (record { gap = g; len = l .len; kind = l .kind; detail = l .detail })
-behindGap g (lexeme.Refused r) = refuse (placedBehind g r)
+abbrev pub lexemeBehind : ℕ → LexemeAnswer → Answer
+lexemeBehind g (lexeme.Read l) = token (record { gap = g; len = l .len; kind = l .kind; detail = l .detail })
+lexemeBehind g (lexeme.Refused r) = refuse (placedBehind g r)
 
 -- What stands behind a gap: a token, unless the text ends there.
 abbrev pub byGap : List ℕ → Gap → Answer
-byGap s (gap.Clear g) = let found = behindGap g (lexemeOf (tokenOf (drop g s))) in cond (ltb g (length s)) found stop
+byGap s (gap.Clear g) = let found = lexemeBehind g (lexemeOf (tokenOf (drop g s))) in cond (ltb g (length s)) found stop
 byGap s (gap.InLine n) = stop
 byGap s (gap.Refused r) = refuse r
 

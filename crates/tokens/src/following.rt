@@ -12,7 +12,7 @@ ghost use Prim.Native.Nat.{_<_};
 ghost use lib.ListN.{length, drop};
 ghost use Rattle.tokens.specs.Token.{tokenOf};
 ghost use Rattle.tokens.specs.Lexemes.{lexemeOf};
-ghost use Rattle.tokens.specs.Ron.{behindGap, answerOf, ronToken};
+ghost use Rattle.tokens.specs.Ron.{lexemeBehind, answerOf, ronToken};
 
 pub enum Following {
     // How many bytes stand in front of it, and the lexeme.
@@ -24,7 +24,7 @@ pub enum Following {
 // The lexeme behind g bytes.
 fn behind_gap(s: &[u8], g: usize) -> Following
     requires { ⌜ g < length (now s) ⌝ }
-    ensures { λ r. ⌜ answerOf r ≡ behindGap g (lexemeOf (tokenOf (drop g (now (s .entry))))) ⌝ }
+    ensures { λ r. ⌜ answerOf r ≡ lexemeBehind g (lexemeOf (tokenOf (drop g (now (s .entry))))) ⌝ }
 {
     let found = lexeme_of(token_at(&s[g..]));
     match found {

@@ -3,7 +3,7 @@ use mathlib.Core.Path.{refl}
 use Rattle.text.specs.Classes.{within, blank, blank1, blank2, blank3, blankWidth, digit, letter, hexDigit, intChar, floatChar, identFirst, identNext, identRaw, continuationBlank, asciiFirst, asciiNext, asciiRaw}
 use Rattle.text.specs.Ahead.{nextAhead}
 use Rattle.text.specs.Judged.{judgedOf as judgedOf·text, placeFits, behindFront}
-use Rattle.floats.specs.Judged.{judgedOf as judgedOf·floats, wellTo, stripped}
+use Rattle.floats.specs.Judged.{floatJudged as judgedOf·floats, wellTo, stripped}
 use Rattle.text.specs.Runs.{run, run2, asciiFor}
 use Rattle.text.specs.Utf8.{encode, secondByte, behindThree, behindFour, widthOf, charLen, utf8From, utf8Of, codeOf4, codeOf, scalar, encodedLen, encodeAnswer, encodedInto}
 use Rattle.text.specs.Words.{startsWith}
@@ -21,14 +21,14 @@ use Rattle.reading.specs.Readings.{place, entries, counted, endOf}
 use Rattle.reading.specs.Tokens.{tokensFrom}
 use Rattle.names.specs.Characters.{charIf, charsFrom, chars}
 use Rattle.names.specs.Classify.{beginsFloat, suffixed, named, missing, wordOf as wordOf·names}
-use Rattle.attributes.specs.Words.{wordOf as wordOf·attributes, byWord, keywordAt}
+use Rattle.attributes.specs.Words.{keywordOf as wordOf·attributes, byWord, keywordAt}
 use Rattle.names.specs.Identifiers.{nameLen, plainOf, rawOf as rawOf·names, skipIdentifierOf, strictOf, identifierOf}
 use Rattle.strings.specs.Raw.{rawOf as rawOf·strings, rawEnd, rawContents}
 use Rattle.names.specs.Starts.{beginsString, beginsRaw}
 use Rattle.integers.specs.Words.{identOf, firstOf}
 use Rattle.digits.specs.Digits.{turnOf, digitsFrom, runOf}
 use Rattle.digits.specs.Value.{valueFrom as valueFrom·digits}
-use Rattle.attributes.specs.Attributes.{valueFrom as valueFrom·attributes, enableFrom, keywordFrom, openedOf, attributeOf}
+use Rattle.attributes.specs.Attributes.{stringValueFrom as valueFrom·attributes, enableFrom, keywordFrom, openedOf, attributeOf}
 use Rattle.integers.specs.Front.{signOf, prefixOf, frontOf}
 use Rattle.integers.specs.Integer.{numeralOf, typedOf, anyOf}
 use Rattle.integers.specs.Width.{widthAt, limitAt, firstFit, suffixWord, suffixOf}
@@ -48,10 +48,10 @@ use Rattle.tokens.specs.Shapes.{markKind, startsNumber, behindB, behindR, shape
 use Rattle.tokens.specs.Token.{tokenOf}
 use Rattle.read.specs.Read.{readAnswer, readTape}
 use Rattle.repair.specs.Repair.{cutFits, repairFits, leading, joins, scanOf as scanOf·repair, repairAnswerOf, cleared, repairTapeOf, repairOf, repairedTape}
-use Rattle.repair.specs.Steps.{laidAt}
+use Rattle.repair.specs.inner.Steps.{laidAt}
 use Rattle.entries.specs.Named.{byKind, insideOf, namedOf}
 use Rattle.structs.specs.Passes.{pastGap, pastChar, pastString, pastByteString}
-use Rattle.structs.specs.Structs.{decided, afterName, contentsOf as contentsOf·structs, unlessEmpty, parenthesized, insideNewtype, structTypeOf}
+use Rattle.structs.specs.Structs.{decided, afterName, insideBrackets as contentsOf·structs, unlessEmpty, parenthesized, insideNewtype, structTypeOf}
 use Rattle.sarridok.specs.Contents.{contentsOf as contentsOf·sarridok, decodedAnswer, decodedOut}
 use Rattle.sarridok.specs.Skip.{skipOf}
 use Rattle.sarridok.specs.StructKind.{structKindOf}

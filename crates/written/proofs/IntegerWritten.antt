@@ -20,7 +20,7 @@ use Rattle.text.specs.Words.{startsWith}
 use Rattle.digits.specs.Digits.{hexOf}
 use Rattle.digits.specs.Value.{Fit as DigitFit}
 use Rattle.integers.specs.Front.{frontOf, prefixOf, signOf}
-use Rattle.integers.specs.Integer.{typedOf, valueOf}
+use Rattle.integers.specs.Integer.{typedOf, numberRead}
 use Rattle.integers.specs.Range.{InWidth}
 use Rattle.integers.specs.declared.integer.Integer.{Integer}
 use Rattle.integers.specs.declared.integer.Integer.the-variants as integer
@@ -31,7 +31,7 @@ use Rattle.integers.specs.declared.width.Width.the-variants.{U8}
 use Rattle.strings.specs.Chars.{byteOf}
 use Rattle.strings.specs.declared.chars.ByteAnswer.{ByteAnswer}
 use Rattle.strings.specs.declared.chars.ByteAnswer.the-variants as byte
-use Rattle.sarridok.specs.Typed.{Typed, byteAs, integerAt, integerOf, numberOf, placedAt, told}
+use Rattle.sarridok.specs.Typed.{Typed, byteAs, integerAt, integerOf, signedNumber, placedAt, toldInteger}
 use Rattle.written.specs.Written.{AsByte, AsWritten, IsWritten, bitsOf, byteLiteral, isSigned, magnitudeIn, writtenLen}
 use Rattle.written.proofs.TypedWritten.{typed-written, width-of, written-typed}
 
@@ -46,7 +46,7 @@ front-accepted {A} text fits own a h = go (judgedOf text) fits h
     go (NotFit r) f e = let z : _≡_ {A = ℕ} 0 1 = cc in absurd (omega arith)
 
 -- what was read at the place
-placed-read : (place : ℕ) (i : Integer) (t : Typed) → told (placedAt place i) ≡ accepted t → (len : ℕ) × (i ≡ integer.Read (t .number) len) × (t .end ≡ place + len)
+placed-read : (place : ℕ) (i : Integer) (t : Typed) → toldInteger (placedAt place i) ≡ accepted t → (len : ℕ) × (i ≡ integer.Read (t .number) len) × (t .end ≡ place + len)
 placed-read place (integer.Read v len) t h =
     let e : record { number = v; end = place + len } ≡ t = cc in
     (len, ap (λ (x : Typed). integer.Read (x .number) len) e, sym (ap (λ (x : Typed). x .end) e))
@@ -76,7 +76,7 @@ unfolding integerAt
 at-front width s b = rw b
 
 -- what is written at the front of a part
-pub written-at : (width : Width) (s : List ℕ) → IsWritten width s → integerAt width s ≡ integer.Read (valueOf (frontOf s .minus) (magnitudeIn s)) (writtenLen s)
+pub written-at : (width : Width) (s : List ℕ) → IsWritten width s → integerAt width s ≡ integer.Read (numberRead (frontOf s .minus) (magnitudeIn s)) (writtenLen s)
 written-at width s w = at-front width s (no-byte width s w) ∙ written-typed width s w
 
 -- what is read at the front of a part is answered at its place
@@ -84,7 +84,7 @@ pub front-answered : (text : List ℕ) (place : ℕ) (width : Width) (v : Value)
     → integerAt width (drop place text) ≡ integer.Read v len → integerOf text place width ≡ accepted (record { number = v; end = place + len })
 unfolding integerOf
 front-answered text place width v len j f e =
-    front-fit text (told (placedAt place (integerAt width (drop place text)))) (placeFits text place) j f ∙ ap (λ (i : Integer). told (placedAt place i)) e
+    front-fit text (toldInteger (placedAt place (integerAt width (drop place text)))) (placeFits text place) j f ∙ ap (λ (i : Integer). toldInteger (placedAt place i)) e
 
 byte-read : (width : Width) (a : ByteAnswer) (v : Value) (len : ℕ) → byteAs width a ≡ integer.Read v len
     → (b : ℕ) × (a ≡ byte.Read len b) × (width ≡ U8) × (record { minus = false; magnitude = b } ≡ v)
@@ -106,16 +106,16 @@ module _ (text : List ℕ) (place : ℕ) (width : Width) where
   unfolding integerOf
   accepted-byte t b h =
       let s : List ℕ = drop place text in
-      let p = placed-read place (integerAt width s) t (front-accepted text (placeFits text place) (told (placedAt place (integerAt width s))) t h) in
+      let p = placed-read place (integerAt width s) t (front-accepted text (placeFits text place) (toldInteger (placedAt place (integerAt width s))) t h) in
       let q = byte-read width (byteOf s) (t .number) (p .0) (sym (byte-at width s b) ∙ p .1) in
-      record { byte = q .0; len = p .0; read = q .1; width-is = q .2; number-is = ap numberOf (sym (q .3)); end-is = p .2 }
+      record { byte = q .0; len = p .0; read = q .1; width-is = q .2; number-is = ap signedNumber (sym (q .3)); end-is = p .2 }
 
   pub accepted-written : (t : Typed) → byteLiteral (drop place text) ≡ false → integerOf text place width ≡ accepted t
       → IsWritten width (drop place text) × AsWritten width (drop place text) place t
   unfolding integerOf
   accepted-written t b h =
       let s : List ℕ = drop place text in
-      let p = placed-read place (integerAt width s) t (front-accepted text (placeFits text place) (told (placedAt place (integerAt width s))) t h) in
+      let p = placed-read place (integerAt width s) t (front-accepted text (placeFits text place) (toldInteger (placedAt place (integerAt width s))) t h) in
       let w = typed-written width s (t .number) (p .0) (sym (at-front width s b) ∙ p .1) in (
         w .0,
         record {
@@ -128,4 +128,4 @@ module _ (text : List ℕ) (place : ℕ) (width : Width) where
   pub written-accepted : judgedOf text ≡ Fit → placeFits text place ≡ true → IsWritten width (drop place text) → (t : Typed) × (integerOf text place width ≡ accepted t)
   written-accepted j f w =
       let s : List ℕ = drop place text in
-      (_, front-answered text place width (valueOf (frontOf s .minus) (magnitudeIn s)) (writtenLen s) j f (written-at width s w))
+      (_, front-answered text place width (numberRead (frontOf s .minus) (magnitudeIn s)) (writtenLen s) j f (written-at width s w))

@@ -20,7 +20,7 @@ use Rattle.digits.specs.declared.Run.the-variants.{Value, Empty, Underscore, No
 use Rattle.integers.proofs.Exactly.{reads-exactly}
 use Rattle.integers.proofs.Fronts.{front-base}
 use Rattle.integers.specs.Front.{frontOf}
-use Rattle.integers.specs.Integer.{behindRun, chosenOf, numeralOf, otherSuffix, typedAs, typedOf, valueOf}
+use Rattle.integers.specs.Integer.{behindRun, chosenOf, numeralOf, otherSuffix, typedAs, typedOf, numberRead}
 use Rattle.integers.specs.Range.{Reads, signedOf}
 use Rattle.integers.specs.Width.{codeOf, limitAt, limitOf, suffixOf, widthAt}
 use Rattle.integers.specs.declared.ident.Found.{Found}
@@ -30,7 +30,7 @@ use Rattle.integers.specs.declared.integer.Numeral.the-variants as numeral
 use Rattle.integers.specs.declared.integer.Value.{Value as Number}
 use Rattle.integers.specs.declared.width.Width.{Width}
 use Rattle.integers.specs.declared.width.Width.the-variants.{I8, I16, I32, I64, U8, U16, U32, U64}
-use Rattle.sarridok.specs.Typed.{numberOf}
+use Rattle.sarridok.specs.Typed.{signedNumber}
 use Rattle.written.specs.Written.{IsWritten, bitsOf, digitsIn, isSigned, magnitudeIn, suffixIn, unprefixed, written, writtenLen}
 
 -- ---- widths and signs
@@ -72,7 +72,7 @@ pub one-width : (v w : Width) → codeOf v ≡ codeOf w → v ≡ w
 one-width v w e = sym (width-of v) ∙ ap widthAt e ∙ width-of w
 
 -- 0 has no minus, and is the same number
-number-signed : (minus : Bool) (m : ℕ) → numberOf (valueOf minus m) ≡ signedOf minus m
+number-signed : (minus : Bool) (m : ℕ) → signedNumber (numberRead minus m) ≡ signedOf minus m
 number-signed false zero = refl
 number-signed false (suc m) = rw (ne-eqb (suc m) 0 (λ z. omega arith))
 number-signed true zero = refl
@@ -121,7 +121,7 @@ record Read-typed (asked : ℕ) (minus : Bool) (at : ℕ) (n : Numeral) (number 
   to : ℕ
   numeral-is : n ≡ numeral.Read value code to
   own : (code ≡ 0) ⊎ (code ≡ asked)
-  number-is : valueOf minus value ≡ number
+  number-is : numberRead minus value ≡ number
   len-is : at + to ≡ len
 
 typed-read : (asked : ℕ) (minus : Bool) (at : ℕ) (n : Numeral) (number : Number) (len : ℕ) → typedAs asked minus at n ≡ integer.Read number len
@@ -129,7 +129,7 @@ typed-read : (asked : ℕ) (minus : Bool) (at : ℕ) (n : Numeral) (number : Num
 typed-read asked minus at (numeral.Read v code to) number len h =
     either (bool-cases (otherSuffix code asked))
     (λ p. let q : integer.OtherSuffix ≡ integer.Read number len = rw p at h in let z : _≡_ {A = ℕ} 0 1 = cc in absurd (omega arith))
-    (λ p. let q : integer.Read (valueOf minus v) (at + to) ≡ integer.Read number len = rw p at h in
+    (λ p. let q : integer.Read (numberRead minus v) (at + to) ≡ integer.Read number len = rw p at h in
     record { value = v; code = code; to = to; numeral-is = refl; own = own-suffix code asked p; number-is = cc; len-is = cc })
 typed-read asked minus at (numeral.Refused r) number len h = let z : _≡_ {A = ℕ} 0 1 = cc in absurd (omega arith)
 
@@ -158,7 +158,7 @@ module _ (width : Width) (s : List ℕ) where
       (record { digits = subst (Reads (isSigned width) (bitsOf width) minus base (digitsIn s)) (sym (reads .value)) reads; suffix = own }, reads .value)
 
   -- what a typed read accepts is written
-  pub typed-written : (number : Number) (len : ℕ) → typedOf width s ≡ integer.Read number len → IsWritten width s × (numberOf number ≡ written s) × (len ≡ writtenLen s)
+  pub typed-written : (number : Number) (len : ℕ) → typedOf width s ≡ integer.Read number len → IsWritten width s × (signedNumber number ≡ written s) × (len ≡ writtenLen s)
   typed-written number len h =
       let asked : ℕ = codeOf width in
       let minus : Bool = frontOf s .minus in
@@ -167,7 +167,7 @@ module _ (width : Width) (s : List ℕ) where
       let own : (suffixIn s .code ≡ 0) ⊎ (suffixIn s .code ≡ asked) = subst (λ (c : ℕ). (c ≡ 0) ⊎ (c ≡ asked)) (sym (n .code-is)) (r .own) in
       let w = is-written (r .value) own (n .run-is) in (
         w .0,
-        ap numberOf (sym (r .number-is)) ∙ number-signed minus (r .value) ∙ ap (signedOf minus) (sym (w .1)),
+        ap signedNumber (sym (r .number-is)) ∙ number-signed minus (r .value) ∙ ap (signedOf minus) (sym (w .1)),
         sym (r .len-is) ∙ ap (λ (k : ℕ). frontOf s .end + k) (sym (n .end-is)),
       )
 
@@ -177,7 +177,7 @@ module _ (width : Width) (s : List ℕ) where
       (omega (arith, length-take-le (run intChar (unprefixed s)) (unprefixed s) (run-le intChar (unprefixed s)), run-le intChar (unprefixed s), length-drop (frontOf s .end) s))
 
   -- and what is written is accepted
-  pub written-typed : IsWritten width s → typedOf width s ≡ integer.Read (valueOf (frontOf s .minus) (magnitudeIn s)) (writtenLen s)
+  pub written-typed : IsWritten width s → typedOf width s ≡ integer.Read (numberRead (frontOf s .minus) (magnitudeIn s)) (writtenLen s)
   unfolding typedOf numeralOf
   written-typed w =
       let minus : Bool = frontOf s .minus in

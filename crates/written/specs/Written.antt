@@ -1,10 +1,11 @@
 -- The number written at a place (document 01): "Typed integer at a place, in one of eight widths." "A typed read answers the value and the place behind it; with
 -- another suffix it is 27, and a byte literal is u8." Written are a sign, the prefix of a base, digits below the base with underscores between them, and a suffix.
-use Prim.Native.Nat.{ℕ, _+_}
-use mathlib.Core.Bool.{Bool, true, false}
+use Prim.Native.Nat.{ℕ, _+_, _-_, _^_, _%_}
+use mathlib.Core.Bool.{Bool}
 use mathlib.Core.List.{List, [], _∷_}
 use mathlib.Core.Logic.{_⊎_}
 use mathlib.Core.Path.{_≡_}
+use lib.Dec.{ltb}
 use lib.IntN.{ℤ, pos}
 use lib.ListN.{length, take, drop}
 use Rattle.text.specs.Classes.{intChar}
@@ -16,32 +17,18 @@ use Rattle.integers.specs.Range.{InWidth, Reads, signedOf}
 use Rattle.integers.specs.Width.{codeOf, suffixOf}
 use Rattle.integers.specs.declared.ident.Found.{Found}
 use Rattle.integers.specs.declared.width.Width.{Width}
-use Rattle.integers.specs.declared.width.Width.the-variants.{I8, I16, I32, I64, U8, U16, U32, U64}
+use Rattle.integers.specs.declared.width.Width.the-variants.{U8}
 use Rattle.strings.specs.Chars.{byteOf}
 use Rattle.strings.specs.declared.chars.ByteAnswer.the-variants.{Read}
-use Rattle.sarridok.specs.Typed.{Typed, numberOf}
+use Rattle.sarridok.specs.Typed.{Typed, signedNumber}
 
--- A width holds numbers below 0.
+-- A width holds numbers below 0: i8 to i64, whose numbers are 1 to 4.
 abbrev pub isSigned : Width → Bool
-isSigned I8 = true
-isSigned I16 = true
-isSigned I32 = true
-isSigned I64 = true
-isSigned U8 = false
-isSigned U16 = false
-isSigned U32 = false
-isSigned U64 = false
+isSigned width = ltb (codeOf width) 5
 
--- How many bits a width has.
+-- How many bits a width has: 8, 16, 32 or 64, in this order for 1 to 4 and again for 5 to 8.
 abbrev pub bitsOf : Width → ℕ
-bitsOf I8 = 8
-bitsOf I16 = 16
-bitsOf I32 = 32
-bitsOf I64 = 64
-bitsOf U8 = 8
-bitsOf U16 = 16
-bitsOf U32 = 32
-bitsOf U64 = 64
+bitsOf width = 2 ^ (3 + (codeOf width - 1) % 4)
 
 -- What stands behind sign and prefix.
 abbrev pub unprefixed : List ℕ → List ℕ
@@ -78,8 +65,8 @@ pub record IsWritten (width : Width) (s : List ℕ) : Type 0 where
 
 -- The number that is answered for a part at a place: the one written there, a number of the width; the place behind it is behind its digits and its suffix.
 pub record AsWritten (width : Width) (s : List ℕ) (place : ℕ) (t : Typed) : Type 0 where
-  pub number-is : numberOf (t .number) ≡ written s
-  pub fits : InWidth (isSigned width) (bitsOf width) (numberOf (t .number))
+  pub number-is : signedNumber (t .number) ≡ written s
+  pub fits : InWidth (isSigned width) (bitsOf width) (signedNumber (t .number))
   pub end-is : t .end ≡ place + writtenLen s
 
 -- A byte literal stands at the front: `b'`.
@@ -92,5 +79,5 @@ pub record AsByte (width : Width) (s : List ℕ) (place : ℕ) (t : Typed) : Typ
   pub len : ℕ
   pub read : byteOf s ≡ Read len byte
   pub width-is : width ≡ U8
-  pub number-is : numberOf (t .number) ≡ pos byte
+  pub number-is : signedNumber (t .number) ≡ pos byte
   pub end-is : t .end ≡ place + len

@@ -1,7 +1,7 @@
 use mathlib.Core.Path.{_∙_, ap, sym}
 use borrow.Author.Needs.{needs}
 use Rattle.attributes.proofs.value.Statement.{statement}
-use Rattle.attributes.specs.Attributes.{valueFrom}
+use Rattle.attributes.specs.Attributes.{stringValueFrom}
 use Rattle.attributes.specs.Close.{answerAt, stringFrom}
 use Rattle.attributes.specs.declared.steps.Step.{Step}
 use Rattle.attributes.proofs.value.Tie as tie
@@ -19,11 +19,11 @@ enum-known-given-2 : tie.Need-enum-known-given-2
 enum-known-given-2 c = search needs
 
 returns : tie.Need-returns
-unfolding valueFrom
+unfolding stringValueFrom
 returns c = c .string-value .ensures ∙ ap (λ (r : Step). answerAt r (stringFrom (c .before .before .before .before .before .before .args .s .now))) (sym (c .before .before .given .given .1) ∙ c .before .before .before .before .sign .ensures)
 
 returns-2 : tie.Need-returns-2
-unfolding valueFrom
+unfolding stringValueFrom
 returns-2 c = ap (λ (r : Step). answerAt r (stringFrom (c .before .before .before .before .before .args .s .now))) (sym (c .before .given2 .given .1) ∙ c .before .before .before .sign .ensures)
 
 pub value-spec : {M : Type 1} → statement M

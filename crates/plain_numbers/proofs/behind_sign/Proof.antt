@@ -2,7 +2,7 @@ use native.Mathlib.Omega.{arith}
 use mathlib.Core.Path.{ap, sym, _∙_}
 use lib.ListN.{drop, length-drop}
 use Rattle.plain_numbers.proofs.Places.{digits-le, fraction-le, said-float, said-integer, said-long, said-loud, said-none}
-use Rattle.plain_numbers.specs.PlainNumbers.{plainInteger}
+use Rattle.plain_numbers.specs.inner.PlainNumbers.{plainInteger}
 use borrow.Author.Needs.{needs}
 use Rattle.plain_numbers.proofs.behind_sign.Statement.{statement}
 use Rattle.plain_numbers.proofs.behind_sign.Tie as tie

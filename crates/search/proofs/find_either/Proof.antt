@@ -6,7 +6,7 @@ use lib.ListN.{drop}
 use borrow.Author.Needs.{needs}
 use Rattle.text.proofs.Choices.{either, lt-or-le}
 use Rattle.text.specs.Runs.{run}
-use Rattle.search.specs.Others.{neither}
+use Rattle.search.specs.inner.Others.{neither}
 use Rattle.search.proofs.SearchLaws.{at-most-below, at-most-bound, run-past}
 use Rattle.search.proofs.find_either.Statement.{statement}
 use Rattle.search.proofs.find_either.Tie as tie

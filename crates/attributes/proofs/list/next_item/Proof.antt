@@ -6,7 +6,7 @@ use borrow.Author.Needs.{needs}
 use Rattle.attributes.proofs.ListLaws.{identifier-by, identifier-fits}
 use Rattle.attributes.proofs.list.next_item.Statement.{statement}
 use Rattle.attributes.specs.Extensions.{extensionOf}
-use Rattle.attributes.specs.List.{byNamed}
+use Rattle.attributes.specs.List.{byExtensionName}
 use Rattle.names.specs.declared.Identifier.the-variants.{Missing, Name, RawName}
 use Rattle.text.proofs.Lists.{tail-part}
 use Rattle.attributes.proofs.list.next_item.Tie as tie
@@ -51,10 +51,10 @@ returns : tie.Need-returns
 returns c = identifier-by (c .before .before .before .before .args .t .now) Missing (sym (c .enum-told .given .1) ∙ c .before .before .identifier .ensures)
 
 returns-2 : tie.Need-returns-2
-returns-2 c = c .by-named .ensures ∙ ap (byNamed (c .before .before .before .before .before .before .before .args .t .now) (c .before .before .before .name .given .0 .0)) (c .before .from-ident .ensures) ∙ identifier-by (c .before .before .before .before .before .before .before .args .t .now) (Name _) (sym (c .before .before .before .name .given .1) ∙ c .before .before .before .before .before .identifier .ensures)
+returns-2 c = c .by-named .ensures ∙ ap (byExtensionName (c .before .before .before .before .before .before .before .args .t .now) (c .before .before .before .name .given .0 .0)) (c .before .from-ident .ensures) ∙ identifier-by (c .before .before .before .before .before .before .before .args .t .now) (Name _) (sym (c .before .before .before .name .given .1) ∙ c .before .before .before .before .before .identifier .ensures)
 
 returns-3 : tie.Need-returns-3
-returns-3 c = c .by-named2 .ensures ∙ ap (byNamed (c .before .before .before .before .before .before .before .before .args .t .now) (c .before .before .before .before .name2 .given .0 .0)) (c .before .from-ident2 .ensures ∙ ap (λ (x : List ℕ). extensionOf x (c .before .before .before .before .name2 .given .0 .0 - 2)) (tail-part (c .before .before .before .before .before .before .before .before .args .t .now) 2)) ∙ identifier-by (c .before .before .before .before .before .before .before .before .args .t .now) (RawName _) (sym (c .before .before .before .before .name2 .given .1) ∙ c .before .before .before .before .before .before .identifier .ensures)
+returns-3 c = c .by-named2 .ensures ∙ ap (byExtensionName (c .before .before .before .before .before .before .before .before .args .t .now) (c .before .before .before .before .name2 .given .0 .0)) (c .before .from-ident2 .ensures ∙ ap (λ (x : List ℕ). extensionOf x (c .before .before .before .before .name2 .given .0 .0 - 2)) (tail-part (c .before .before .before .before .before .before .before .before .args .t .now) 2)) ∙ identifier-by (c .before .before .before .before .before .before .before .before .args .t .now) (RawName _) (sym (c .before .before .before .before .name2 .given .1) ∙ c .before .before .before .before .before .before .identifier .ensures)
 
 pub next-item-spec : {M : Type 1} → statement M
 next-item-spec =

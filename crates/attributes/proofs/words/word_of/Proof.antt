@@ -2,7 +2,7 @@ use mathlib.Core.Path.{_∙_, sym}
 use borrow.Author.Needs.{needs}
 use borrow.Author.Tests.{eq-eqb, ne-eqb}
 use Rattle.attributes.proofs.words.word_of.Statement.{statement}
-use Rattle.attributes.specs.Words.{wordOf}
+use Rattle.attributes.specs.Words.{keywordOf}
 use Rattle.integers.specs.Words.{firstOf}
 use Rattle.attributes.proofs.words.word_of.Tie as tie
 
@@ -13,7 +13,7 @@ check-ident-requires : tie.Need-check-ident-requires
 check-ident-requires c κs = search needs
 
 returns : tie.Need-returns
-unfolding wordOf firstOf
+unfolding keywordOf firstOf
 returns c = simp (sym (c .before .check-ident .ensures), ne-eqb _ 0 (c .if1 .taken))
 
 slice-aggregate-check-ident-2 : tie.Need-slice-aggregate-check-ident-2
@@ -23,7 +23,7 @@ check-ident-requires-2 : tie.Need-check-ident-requires-2
 check-ident-requires-2 c κs = search needs
 
 returns-2 : tie.Need-returns-2
-unfolding wordOf firstOf
+unfolding keywordOf firstOf
 returns-2 c = simp (sym (c .before .before .before .before .check-ident .ensures), eq-eqb _ 0 (c .before .before .before .if1 .left), sym (c .before .check-ident2 .ensures), ne-eqb _ 0 (c .if2 .taken))
 
 slice-aggregate-check-ident-3 : tie.Need-slice-aggregate-check-ident-3
@@ -33,14 +33,14 @@ check-ident-requires-3 : tie.Need-check-ident-requires-3
 check-ident-requires-3 c κs = search needs
 
 returns-3 : tie.Need-returns-3
-unfolding wordOf firstOf
+unfolding keywordOf firstOf
 returns-3 c = simp (sym (c .before .before .before .before .before .before .before .check-ident .ensures), eq-eqb _ 0 (c .before .before .before .before .before .before .if1 .left), sym (c .before .before .before .before .check-ident2 .ensures), eq-eqb _ 0 (c .before .before .before .if2 .left), sym (c .before .check-ident3 .ensures), ne-eqb _ 0 (c .if3 .taken))
 
 nothing-requires : tie.Need-nothing-requires
 nothing-requires c κs = search needs
 
 returns-4 : tie.Need-returns-4
-unfolding wordOf firstOf
+unfolding keywordOf firstOf
 returns-4 c = c .nothing .ensures ∙ simp (sym (c .before .before .before .before .before .before .before .before .check-ident .ensures), eq-eqb _ 0 (c .before .before .before .before .before .before .before .if1 .left), sym (c .before .before .before .before .before .check-ident2 .ensures), eq-eqb _ 0 (c .before .before .before .before .if2 .left), sym (c .before .before .check-ident3 .ensures), eq-eqb _ 0 (c .before .if3 .left))
 
 pub word-of-spec : {M : Type 1} → statement M

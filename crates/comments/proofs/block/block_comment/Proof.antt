@@ -8,7 +8,7 @@ use Rattle.comments.proofs.BlockLaws.{Decided, block-passes, block-shor
 use Rattle.comments.specs.Blocks.{blockEnd, blockFrom}
 use Rattle.comments.specs.declared.block.Decision.{Decision}
 use Rattle.comments.specs.declared.block.Decision.the-variants.{Open, CloseLast, CloseInner, PassOn}
-use Rattle.search.specs.Others.{neither}
+use Rattle.search.specs.inner.Others.{neither}
 use Rattle.text.proofs.RunLaws.{run-le}
 use Rattle.comments.proofs.block.block_comment.Statement.{statement}
 use Rattle.comments.proofs.block.block_comment.Tie as tie

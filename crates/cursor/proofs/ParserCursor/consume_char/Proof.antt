@@ -4,7 +4,7 @@ use borrow.Author.Needs.{needs}
 use borrow.Author.Tests.{eq-eqb, ne-eqb}
 use Rattle.cursor.proofs.CharLaws.{begins-end, begins-here}
 use Rattle.cursor.proofs.ParserCursor.consume_char.Statement.{statement}
-use Rattle.cursor.specs.Chars.{consumedOf}
+use Rattle.cursor.specs.inner.Chars.{consumedOf}
 use Rattle.cursor.specs.Cursor.{cursor}
 use Rattle.cursor.specs.declared.ParserCursor.{ParserCursor}
 use Rattle.cursor.proofs.ParserCursor.consume_char.Tie as tie

@@ -6,7 +6,7 @@ use lib.ListN.{drop, length}
 use borrow.Author.Needs.{needs}
 use Rattle.cursor.proofs.EscapePlaces.{escape-end, escape-within, reach}
 use Rattle.cursor.proofs.ParserCursor.parse_escape.Statement.{statement}
-use Rattle.cursor.specs.Escape.{behindEscape, escapedOf}
+use Rattle.cursor.specs.inner.Escape.{behindEscape, escapedOf}
 use Rattle.cursor.specs.declared.ParserCursor.{ParserCursor}
 use Rattle.cursor.specs.declared.escape.Escaped.the-variants.{Byte, Point, Refused}
 use Rattle.escapes.specs.Escapes.{escapeOf}

@@ -11,7 +11,7 @@ use Rattle.comments.specs.declared.gap.Gap.the-variants.{Clear, InLine, Refused
 use Rattle.cursor.proofs.ParserCursor.skip_ws.Statement.{statement}
 use Rattle.cursor.proofs.SkipLaws.{skip-at-end, skip-runs}
 use Rattle.cursor.specs.Cursor.{cursor}
-use Rattle.cursor.specs.Skip.{behindGap, preOf, skipWsOf}
+use Rattle.cursor.specs.Skip.{cursorBehind, preOf, skipWsOf}
 use Rattle.cursor.specs.declared.ParserCursor.{ParserCursor}
 use Rattle.cursor.specs.declared.skip.Step.the-variants.{Moved, Refused}
 use Rattle.text.proofs.Lists.{tail-part}
@@ -32,10 +32,10 @@ short : (p : tie.After-skip-gap) (r : Gap) → p .skip-gap .result ≡ r → End
 short p r e = subst (EndsBy (length (text p) - own p .cursor)) (gap-is p r e) (rw (← length-drop (own p .cursor) (text p)) (gap-bounded (drop (own p .cursor) (text p))))
 
 -- and the answer is by it
-ran : (p : tie.After-skip-gap) (r : Gap) → p .skip-gap .result ≡ r → behindGap (own p .cursor) (p .before .before .before .pre-ws .result) r ≡ skipWsOf (text p) (own p)
+ran : (p : tie.After-skip-gap) (r : Gap) → p .skip-gap .result ≡ r → cursorBehind (own p .cursor) (p .before .before .before .pre-ws .result) r ≡ skipWsOf (text p) (own p)
 ran p r e =
-    ap (λ (n : ℕ). behindGap (own p .cursor) n r) (p .before .before .before .pre-ws .ensures)
-    ∙ ap (behindGap (own p .cursor) (preOf (own p))) (sym (gap-is p r e))
+    ap (λ (n : ℕ). cursorBehind (own p .cursor) n r) (p .before .before .before .pre-ws .ensures)
+    ∙ ap (cursorBehind (own p .cursor) (preOf (own p))) (sym (gap-is p r e))
     ∙ sym (skip-runs (text p) (own p) (p .before .before .if1 .left))
 
 pre-ws-requires : tie.Need-pre-ws-requires

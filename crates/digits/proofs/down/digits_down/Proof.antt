@@ -10,7 +10,7 @@ use Rattle.digits.proofs.Laws.{from-end, from-next, from-not, from-over
 use Rattle.digits.proofs.Neg.{down-next, down-not, down-over, natAbs-neg, self}
 use Rattle.digits.proofs.down.digits_down.Statement.{statement}
 use Rattle.digits.specs.Digits.{digitsFrom, digitsOf, turnOf}
-use Rattle.digits.specs.Down.{downOf}
+use Rattle.digits.specs.inner.Down.{downOf}
 use Rattle.digits.specs.declared.Run.the-variants.{Value}
 use Rattle.text.specs.Runs.{run}
 use Rattle.digits.proofs.Neg as neg

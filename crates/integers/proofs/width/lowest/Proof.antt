@@ -1,4 +1,3 @@
-use borrow.Author.Tests.{eq-eqb, ne-eqb}
 use Rattle.integers.proofs.WidthRows.{none-below}
 use Rattle.integers.proofs.width.lowest.Statement.{statement}
 use Rattle.integers.specs.Width.{limitAt, widthAt}
@@ -6,19 +5,19 @@ use Rattle.integers.proofs.width.lowest.Tie as tie
 
 returns : tie.Need-returns
 unfolding limitAt widthAt
-returns c = simp (eq-eqb _ _ (c .if1 .taken))
+returns c = rw (c .if1 .taken)
 
 returns-2 : tie.Need-returns-2
 unfolding limitAt widthAt
-returns-2 c = simp (ne-eqb _ _ (c .before .if1 .left), eq-eqb _ _ (c .if2 .taken))
+returns-2 c = rw (c .if2 .taken)
 
 returns-3 : tie.Need-returns-3
 unfolding limitAt widthAt
-returns-3 c = simp (ne-eqb _ _ (c .before .before .if1 .left), ne-eqb _ _ (c .before .if2 .left), eq-eqb _ _ (c .if3 .taken))
+returns-3 c = rw (c .if3 .taken)
 
 returns-4 : tie.Need-returns-4
 unfolding limitAt widthAt
-returns-4 c = simp (ne-eqb _ _ (c .before .before .before .if1 .left), ne-eqb _ _ (c .before .before .if2 .left), ne-eqb _ _ (c .before .if3 .left), eq-eqb _ _ (c .if4 .taken))
+returns-4 c = rw (c .if4 .taken)
 
 returns-5 : tie.Need-returns-5
 returns-5 c = rw (none-below _ (c .before .before .before .if1 .left) (c .before .before .if2 .left) (c .before .if3 .left) (c .if4 .left))

@@ -5,7 +5,7 @@ use lib.ListN.{drop}
 use borrow.Author.Tests.{le-ltb, lt-ltb}
 use Rattle.text.proofs.Lists.{head-at}
 use Rattle.plain_strings.proofs.PlainStrings.{two-quotes}
-use Rattle.plain.specs.Plain.{plainOf}
+use Rattle.plain.specs.inner.Plain.{plainOf}
 use borrow.Author.Needs.{needs}
 use Rattle.plain.proofs.forms.plain.Statement.{statement}
 use Rattle.plain.proofs.forms.plain.Tie as tie

@@ -7,7 +7,7 @@ use borrow.Author.Needs.{needs}
 use borrow.Author.Tests.{not-false, not-true}
 use Rattle.names.specs.Classify.{beginsFloat}
 use Rattle.reading.specs.Owed.{quietByte}
-use Rattle.plain_names.specs.PlainNames.{plainName}
+use Rattle.plain_names.specs.inner.PlainNames.{plainName}
 use Rattle.plain_names.proofs.PlaceLaws.{from-first, none-behind, not-first}
 use Rattle.plain_names.proofs.plain.plain_name.Statement.{statement}
 use Rattle.plain_names.proofs.plain.plain_name.Tie as tie

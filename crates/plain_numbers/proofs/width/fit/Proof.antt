@@ -5,7 +5,7 @@ use lib.ListN.{drop}
 use Rattle.integers.specs.Width.{codeOf, firstFit}
 use Rattle.plain_numbers.proofs.Places.{four-said, two-said}
 use Rattle.plain_numbers.proofs.Values.{value-nine}
-use Rattle.plain_numbers.specs.PlainNumbers.{fitOf}
+use Rattle.plain_numbers.specs.inner.PlainNumbers.{fitOf}
 use borrow.Author.Needs.{needs}
 use Rattle.plain_numbers.proofs.width.fit.Statement.{statement}
 use Rattle.plain_numbers.proofs.width.fit.Tie as tie

@@ -2,7 +2,7 @@ use Prim.Native.Nat.{ℕ}
 use mathlib.Core.Path.{_∙_, ap}
 use borrow.Author.Needs.{needs}
 use Rattle.repair.proofs.moving.shift.Statement.{statement}
-use Rattle.repair.specs.Steps.{shifted}
+use Rattle.repair.specs.inner.Steps.{shifted}
 use Rattle.repair.proofs.moving.shift.Tie as tie
 
 -- src/moving.rt:68:9

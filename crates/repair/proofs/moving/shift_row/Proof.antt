@@ -3,7 +3,7 @@ use mathlib.Core.Path.{subst, sym}
 use borrow.Author.Needs.{needs}
 use Rattle.repair.proofs.Laying.{row-moved}
 use Rattle.repair.proofs.moving.shift_row.Statement.{statement}
-use Rattle.repair.specs.Steps.{MovableRow}
+use Rattle.repair.specs.inner.Steps.{MovableRow}
 use Rattle.repair.proofs.moving.shift_row.Tie as tie
 
 -- src/moving.rt:38:9

@@ -7,7 +7,7 @@ use lib.Seq.{length-take-le}
 use Rattle.reading.specs.Readings.{entries, readFrom}
 use Rattle.repair.proofs.Clearing.{part-is}
 use Rattle.repair.proofs.rewrite.rewrite.Statement.{statement}
-use Rattle.repair.specs.Steps.{clippedFrom, emptied}
+use Rattle.repair.specs.inner.Steps.{clippedFrom, emptied}
 use Rattle.rows.proofs.RowLaws.{length-entries}
 use Rattle.rows.specs.Rows.{entriesOf, laid, width}
 use Rattle.tokens.specs.Ron.{ronToken}

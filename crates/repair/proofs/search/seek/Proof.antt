@@ -7,7 +7,7 @@ use borrow.Author.Tests.{le-ltb, lt-ltb}
 use Rattle.repair.proofs.Leading.{lead-end, lead-on, lead-out}
 use Rattle.repair.proofs.search.seek.Statement.{statement}
 use Rattle.repair.specs.Repair.{leading}
-use Rattle.repair.specs.Steps.{seekFrom, startsBefore}
+use Rattle.repair.specs.inner.Steps.{seekFrom, startsBefore}
 use Rattle.rows.specs.Rows.{entriesOf}
 use Rattle.repair.proofs.search.seek.Tie as tie
 

@@ -4,7 +4,7 @@ use borrow.Author.Needs.{needs}
 use borrow.Author.Tests.{not-false, not-true}
 use Rattle.sarridok.proofs.Places.{at-fits}
 use Rattle.sarridok.proofs.integer_call.integer.Statement.{statement}
-use Rattle.sarridok.specs.Typed.{integerAt, integerOf, placedAt, told}
+use Rattle.sarridok.specs.Typed.{integerAt, integerOf, placedAt, toldInteger}
 use Rattle.text.proofs.JudgeLaws.{front-fit, front-refused, front-unfit, place-within}
 use Rattle.text.proofs.Lists.{tail-part}
 use Rattle.text.specs.Refusals.Told.{refused}
@@ -50,7 +50,7 @@ placed-requires c κs = rw (c .integer-at .ensures ∙ ap (integerAt (c .before 
 
 returns-3 : tie.Need-returns-3
 unfolding integerOf
-returns-3 c = ap told (c .placed .ensures ∙ ap (placedAt (c .before .before .before .before .before .before .before .before .before .args .place)) (c .before .integer-at .ensures ∙ ap (integerAt (c .before .before .before .before .before .before .before .before .before .args .width)) (tail-part (c .before .before .before .before .before .before .before .before .before .args .text .now) (c .before .before .before .before .before .before .before .before .before .args .place)))) ∙ sym (front-fit _ _ _ (sym (c .before .before .before .before .before .before .before .judge .ensures) ∙ c .before .before .before .before .before .enum-told .given .1) (sym (c .before .before .before .before .place-fits .ensures) ∙ not-false _ (c .before .before .before .if1 .left)))
+returns-3 c = ap toldInteger (c .placed .ensures ∙ ap (placedAt (c .before .before .before .before .before .before .before .before .before .args .place)) (c .before .integer-at .ensures ∙ ap (integerAt (c .before .before .before .before .before .before .before .before .before .args .width)) (tail-part (c .before .before .before .before .before .before .before .before .before .args .text .now) (c .before .before .before .before .before .before .before .before .before .args .place)))) ∙ sym (front-fit _ _ _ (sym (c .before .before .before .before .before .before .before .judge .ensures) ∙ c .before .before .before .before .before .enum-told .given .1) (sym (c .before .before .before .before .place-fits .ensures) ∙ not-false _ (c .before .before .before .if1 .left)))
 
 pub integer-spec : {M : Type 1} → statement M
 integer-spec =

@@ -2,7 +2,7 @@ use mathlib.Core.Path.{_∙_, ap, sym}
 use borrow.Author.Needs.{needs}
 use borrow.Author.Tests.{not-false, not-true}
 use Rattle.sarridok.proofs.skip_call.skip.Statement.{statement}
-use Rattle.sarridok.specs.Skip.{told, skipOf}
+use Rattle.sarridok.specs.Skip.{toldSkip, skipOf}
 use Rattle.text.proofs.JudgeLaws.{front-fit, front-refused, front-unfit}
 use Rattle.text.specs.Refusals.Told.{refused}
 use Rattle.sarridok.proofs.skip_call.skip.Tie as tie
@@ -35,7 +35,7 @@ skip-ws-requires c κs = search needs
 
 returns-3 : tie.Need-returns-3
 unfolding skipOf
-returns-3 c = ap told (c .skip-ws .ensures) ∙ sym (front-fit _ _ _ (sym (c .before .before .before .before .before .judge .ensures) ∙ c .before .before .before .enum-told .given .1) (sym (c .before .before .fits2 .ensures) ∙ not-false _ (c .before .if1 .left)))
+returns-3 c = ap toldSkip (c .skip-ws .ensures) ∙ sym (front-fit _ _ _ (sym (c .before .before .before .before .before .judge .ensures) ∙ c .before .before .before .enum-told .given .1) (sym (c .before .before .fits2 .ensures) ∙ not-false _ (c .before .if1 .left)))
 
 pub skip-spec : {M : Type 1} → statement M
 skip-spec =

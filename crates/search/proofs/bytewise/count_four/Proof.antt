@@ -5,7 +5,7 @@ use lib.ListN.{drop}
 use borrow.Author.Needs.{needs}
 use borrow.Author.Tests.{eq-eqb, ne-eqb}
 use Rattle.text.specs.Runs.{run}
-use Rattle.search.specs.Others.{neither}
+use Rattle.search.specs.inner.Others.{neither}
 use Rattle.search.proofs.SearchLaws.{at-most-below, at-most-bound, goes-on, stops-at}
 use Rattle.search.proofs.bytewise.count_four.Statement.{statement}
 use Rattle.search.proofs.bytewise.count_four.Tie as tie

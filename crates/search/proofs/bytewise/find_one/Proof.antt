@@ -6,7 +6,7 @@ use borrow.Author.Needs.{needs}
 use borrow.Author.Tests.{eq-eqb, ne-eqb}
 use Rattle.text.proofs.RunLaws.{run-end, run-more, run-out}
 use Rattle.text.specs.Runs.{run}
-use Rattle.search.specs.Others.{other}
+use Rattle.search.specs.inner.Others.{other}
 use Rattle.search.proofs.bytewise.find_one.Statement.{statement}
 use Rattle.search.proofs.bytewise.find_one.Tie as tie
 

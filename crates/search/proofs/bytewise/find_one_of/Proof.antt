@@ -6,7 +6,7 @@ use borrow.Author.Needs.{needs}
 use borrow.Author.Tests.{eq-eqb, ne-eqb}
 use Rattle.text.proofs.RunLaws.{run-end, run-more, run-out}
 use Rattle.text.specs.Runs.{run}
-use Rattle.search.specs.Others.{neither}
+use Rattle.search.specs.inner.Others.{neither}
 use Rattle.search.proofs.bytewise.find_one_of.Statement.{statement}
 use Rattle.search.proofs.bytewise.find_one_of.Tie as tie
 

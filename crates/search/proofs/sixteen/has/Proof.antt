@@ -7,7 +7,7 @@ use lib.ListN.{drop, length}
 use borrow.Author.Needs.{needs}
 use borrow.Author.Tests.{eq-eqb, ne-eqb, le-ltb}
 use Rattle.text.specs.Runs.{run}
-use Rattle.search.specs.Others.{other}
+use Rattle.search.specs.inner.Others.{other}
 use Rattle.search.proofs.SearchLaws.{found-before, found-now}
 use Rattle.search.proofs.sixteen.has.Statement.{statement}
 use Rattle.search.proofs.sixteen.has.Tie as tie

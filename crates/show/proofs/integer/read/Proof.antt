@@ -7,7 +7,7 @@ use Rattle.lines.proofs.OutLaws.{then}
 use Rattle.lines.specs.Ascii.{ascii}
 use Rattle.lines.specs.Decimal.{wordOf}
 use Rattle.lines.specs.Out.{put}
-use Rattle.sarridok.specs.Typed.{numberOf, told}
+use Rattle.sarridok.specs.Typed.{signedNumber, toldInteger}
 use Rattle.sarridok.specs.declared.integer_call.IntegerAnswer.{IntegerAnswer}
 use Rattle.show.specs.Answers.{answerText}
 use Rattle.show.specs.Integers.{signedText, typedText}
@@ -44,9 +44,9 @@ returns c =
     let out : List ℕ × ℕ = (c .before .before .before .before .before .before .before .before .before .before .before .before .before .before .before .before .before .args .o .now, c .before .before .before .before .before .before .before .before .before .before .before .before .before .before .before .before .before .args .at) in
     let v : Value = c .before .before .before .before .before .before .before .before .before .before .before .before .before .before .r .given .0 .0 in
     let end : ℕ = c .before .before .before .before .before .before .before .before .before .before .before .before .before .before .r .given .0 .1 .0 in
-    then out _ _ (ascii "ok ") (signedText (numberOf v) ++ wordOf end) (c .before .before .before .before .before .before .before .before .before .before .bytes .ensures)
-    (then _ _ _ (signedText (numberOf v)) (wordOf end) (c .before .before .before .before .before .before .value .ensures) (c .before .before .word .ensures))
-    ∙ ap (λ (a : IntegerAnswer). put out (answerText typedText (told a))) (sym (c .before .before .before .before .before .before .before .before .before .before .before .before .before .before .r .given .1))
+    then out _ _ (ascii "ok ") (signedText (signedNumber v) ++ wordOf end) (c .before .before .before .before .before .before .before .before .before .before .bytes .ensures)
+    (then _ _ _ (signedText (signedNumber v)) (wordOf end) (c .before .before .before .before .before .before .value .ensures) (c .before .before .word .ensures))
+    ∙ ap (λ (a : IntegerAnswer). put out (answerText typedText (toldInteger a))) (sym (c .before .before .before .before .before .before .before .before .before .before .before .before .before .before .r .given .1))
 
 same-length-2 : tie.Need-same-length-2
 same-length-2 c = search needs
@@ -54,7 +54,7 @@ same-length-2 c = search needs
 returns-2 : tie.Need-returns-2
 returns-2 c =
     let out : List ℕ × ℕ = (c .before .before .before .before .before .before .before .before .args .o .now, c .before .before .before .before .before .before .before .before .args .at) in
-    c .before .before .refused .ensures ∙ ap (λ (a : IntegerAnswer). put out (answerText typedText (told a))) (sym (c .before .before .before .before .before .r2 .given .1))
+    c .before .before .refused .ensures ∙ ap (λ (a : IntegerAnswer). put out (answerText typedText (toldInteger a))) (sym (c .before .before .before .before .before .r2 .given .1))
 
 pub read-spec : {M : Type 1} → statement M
 read-spec =

@@ -3,7 +3,7 @@ use Rattle.cursor.specs.declared.skip.Step.{Step}
 use Rattle.lines.specs.Ascii.{ascii}
 use Rattle.lines.specs.Out.{put}
 use Rattle.lines.proofs.OutLaws.{then}
-use Rattle.sarridok.specs.Skip.{told}
+use Rattle.sarridok.specs.Skip.{toldSkip}
 use Rattle.show.specs.Answers.{answerText}
 use Rattle.show.specs.Skips.{cursorText, movedText}
 use borrow.Author.Needs.{needs}
@@ -41,7 +41,7 @@ same-length c = search needs
 -- src/skip.rt:29:1
 returns : tie.Need-returns
 unfolding movedText
-returns c = then (c .before .before .before .before .before .before .before .before .before .before .before .before .before .args .o .now, c .before .before .before .before .before .before .before .before .before .before .before .before .before .args .at) _ _ (ascii "ok") (cursorText (c .before .before .before .before .before .before .before .before .before .before .s .given .0 .0)) (c .before .before .before .before .before .before .bytes .ensures) (c .before .before .cursor .ensures) ∙ sym (ap (λ (x : Step). put (c .before .before .before .before .before .before .before .before .before .before .before .before .before .args .o .now, c .before .before .before .before .before .before .before .before .before .before .before .before .before .args .at) (answerText movedText (told x))) (c .before .before .before .before .before .before .before .before .before .before .s .given .1))
+returns c = then (c .before .before .before .before .before .before .before .before .before .before .before .before .before .args .o .now, c .before .before .before .before .before .before .before .before .before .before .before .before .before .args .at) _ _ (ascii "ok") (cursorText (c .before .before .before .before .before .before .before .before .before .before .s .given .0 .0)) (c .before .before .before .before .before .before .bytes .ensures) (c .before .before .cursor .ensures) ∙ sym (ap (λ (x : Step). put (c .before .before .before .before .before .before .before .before .before .before .before .before .before .args .o .now, c .before .before .before .before .before .before .before .before .before .before .before .before .before .args .at) (answerText movedText (toldSkip x))) (c .before .before .before .before .before .before .before .before .before .before .s .given .1))
 
 -- src/skip.rt:29:1
 same-length-2 : tie.Need-same-length-2
@@ -49,7 +49,7 @@ same-length-2 c = search needs
 
 -- src/skip.rt:29:1
 returns-2 : tie.Need-returns-2
-returns-2 c = c .before .before .refused .ensures ∙ sym (ap (λ (x : Step). put (c .before .before .before .before .before .before .before .before .args .o .now, c .before .before .before .before .before .before .before .before .args .at) (answerText movedText (told x))) (c .before .before .before .before .before .s2 .given .1))
+returns-2 c = c .before .before .refused .ensures ∙ sym (ap (λ (x : Step). put (c .before .before .before .before .before .before .before .before .args .o .now, c .before .before .before .before .before .before .before .before .args .at) (answerText movedText (toldSkip x))) (c .before .before .before .before .before .s2 .given .1))
 
 pub skipped-spec : {M : Type 1} → statement M
 skipped-spec =

@@ -1,7 +1,7 @@
 use native.Mathlib.Nat.{zero-add}
 use mathlib.Core.Path.{_∙_}
 use borrow.Author.Needs.{needs}
-use Rattle.search.specs.Others.{neither}
+use Rattle.search.specs.inner.Others.{neither}
 use Rattle.strings.proofs.runs.find_end.Statement.{statement}
 use Rattle.strings.specs.Pieces.{plain}
 use Rattle.text.specs.Runs.{run}

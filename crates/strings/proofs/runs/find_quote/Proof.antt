@@ -1,7 +1,7 @@
 use native.Mathlib.Nat.{zero-add}
 use mathlib.Core.Path.{_∙_}
 use borrow.Author.Needs.{needs}
-use Rattle.search.specs.Others.{other}
+use Rattle.search.specs.inner.Others.{other}
 use Rattle.strings.proofs.runs.find_quote.Statement.{statement}
 use Rattle.strings.specs.Pieces.{unquoted}
 use Rattle.text.specs.Runs.{run}

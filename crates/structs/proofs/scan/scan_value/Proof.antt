@@ -8,7 +8,7 @@ use borrow.Author.Tests.{eq-eqb, ne-eqb}
 use Rattle.structs.proofs.ScanLaws.{comma-fits, scan-at}
 use Rattle.structs.proofs.StepLaws.{Sized, step-sized}
 use Rattle.structs.proofs.scan.scan_value.Statement.{statement}
-use Rattle.structs.specs.Kinds.{placedAt}
+use Rattle.structs.specs.Kinds.{placedKind}
 use Rattle.structs.specs.Scan.{afterComma, byStep, scanFrom, scanOf, stepOf}
 use Rattle.structs.specs.declared.steps.Step.{Step}
 use Rattle.structs.specs.declared.steps.Step.the-variants.{Closing, Comma, Opening, Plain, Refused}
@@ -42,7 +42,7 @@ fits : (c : tie.After-next-step Inv-loop μ-loop) (n : ℕ) → n ≤ length (dr
 fits c n h = omega (arith, length-drop (place c) (text c), c .before .before .loop .inv .0)
 
 comes : (c : tie.After-next-step Inv-loop μ-loop) (x : Step) → c .next-step .result ≡ x
-    → byStep x (level c) (λ n braces. scanFrom (drop (place c + n) (text c)) 0 braces (place c + n)) (λ n. placedAt (place c + n) (afterComma (drop (place c + n) (text c)))) (place c)
+    → byStep x (level c) (λ n braces. scanFrom (drop (place c + n) (text c)) 0 braces (place c + n)) (λ n. placedKind (place c + n) (afterComma (drop (place c + n) (text c)))) (place c)
     ≡ scanOf (text c) (c .before .before .before .before .args .at)
 comes c x e = sym (scan-at (text c) (place c) (level c) x (step-is c x e)) ∙ c .before .before .loop .inv .3
 
@@ -141,7 +141,7 @@ returns : tie.Need-returns Inv-loop μ-loop
 returns c = rw (eq-eqb _ _ (c .if1 .taken)) at (comes (c .before .before .before .before) (Closing _) (c .before .before .step2 .given .1))
 
 returns-2 : tie.Need-returns-2 Inv-loop μ-loop
-returns-2 c = c .placed .ensures ∙ ap (placedAt (c .before .before .before .before .before .before .before .before .before .loop .i + c .before .before .before .before .before .step3 .given .0 .0)) (c .before .behind-comma .ensures ∙ ap afterComma (tail-part (c .before .before .before .before .before .before .before .before .before .before .before .args .s .now) (c .before .before .before .before .before .before .before .before .before .loop .i + c .before .before .before .before .before .step3 .given .0 .0))) ∙ (rw (eq-eqb _ _ (c .before .before .before .if2 .taken)) at (comes (c .before .before .before .before .before .before .before) (Comma _) (c .before .before .before .before .before .step3 .given .1)))
+returns-2 c = c .placed .ensures ∙ ap (placedKind (c .before .before .before .before .before .before .before .before .before .loop .i + c .before .before .before .before .before .step3 .given .0 .0)) (c .before .behind-comma .ensures ∙ ap afterComma (tail-part (c .before .before .before .before .before .before .before .before .before .before .before .args .s .now) (c .before .before .before .before .before .before .before .before .before .loop .i + c .before .before .before .before .before .step3 .given .0 .0))) ∙ (rw (eq-eqb _ _ (c .before .before .before .if2 .taken)) at (comes (c .before .before .before .before .before .before .before) (Comma _) (c .before .before .before .before .before .step3 .given .1)))
 
 returns-3 : tie.Need-returns-3 Inv-loop μ-loop
 returns-3 c = ap answer.Refused (c .placed-behind .ensures) ∙ comes (c .before .before .before .before) (Refused _) (c .before .before .step5 .given .1)

@@ -7,7 +7,7 @@ use Rattle.strings.proofs.Wholes.{none-here}
 use Rattle.structs.proofs.PassLaws.{gap-fits, place-le}
 use Rattle.structs.proofs.ScanLaws.{comma-fits}
 use Rattle.structs.proofs.types.behind_name.Statement.{statement}
-use Rattle.structs.specs.Kinds.{placedAt}
+use Rattle.structs.specs.Kinds.{placedKind}
 use Rattle.structs.specs.Scan.{afterComma}
 use Rattle.structs.specs.Structs.{afterName, decided}
 use Rattle.structs.specs.declared.passes.Passed.the-variants.{To}
@@ -47,7 +47,7 @@ placed-requires c κs = rw (c .behind-comma .ensures ∙ ap afterComma (tail-par
 
 returns-2 : tie.Need-returns-2
 unfolding afterName decided
-returns-2 c = simp (sym (c .before .before .before .before .before .before .before .before .before .skip-ws .ensures) ∙ c .before .before .before .before .before .before .before .gap .given .1, ne-eqb _ _ (λ e. c .before .before .before .before .if1 .left (c .before .before .before .before .before .peek .ensures ∙ e)), eq-eqb _ _ (sym (c .before .before .before .before .before .peek .ensures) ∙ c .before .before .before .if2 .taken)) (c .placed .ensures ∙ ap (placedAt (c .before .before .before .before .before .before .before .gap .given .0 .0 + 1)) (c .before .behind-comma .ensures ∙ ap afterComma (tail-part (c .before .before .before .before .before .before .before .before .before .before .before .args .s .now) (c .before .before .before .before .before .before .before .gap .given .0 .0 + 1))))
+returns-2 c = simp (sym (c .before .before .before .before .before .before .before .before .before .skip-ws .ensures) ∙ c .before .before .before .before .before .before .before .gap .given .1, ne-eqb _ _ (λ e. c .before .before .before .before .if1 .left (c .before .before .before .before .before .peek .ensures ∙ e)), eq-eqb _ _ (sym (c .before .before .before .before .before .peek .ensures) ∙ c .before .before .before .if2 .taken)) (c .placed .ensures ∙ ap (placedKind (c .before .before .before .before .before .before .before .gap .given .0 .0 + 1)) (c .before .behind-comma .ensures ∙ ap afterComma (tail-part (c .before .before .before .before .before .before .before .before .before .before .before .args .s .now) (c .before .before .before .before .before .before .before .gap .given .0 .0 + 1))))
 
 returns-3 : tie.Need-returns-3
 unfolding afterName decided

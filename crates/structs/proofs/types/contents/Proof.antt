@@ -8,7 +8,7 @@ use Rattle.names.specs.Identifiers.{skipIdentifierOf}
 use Rattle.names.specs.declared.Identifier.{Identifier}
 use Rattle.structs.proofs.TypeLaws.{NameFits, name-at}
 use Rattle.structs.proofs.types.contents.Statement.{statement}
-use Rattle.structs.specs.Structs.{contentsOf}
+use Rattle.structs.specs.Structs.{insideBrackets}
 use Rattle.text.proofs.Lists.{on-part}
 use Rattle.names.specs.declared.Identifier.the-variants as name
 use Rattle.structs.proofs.types.contents.Tie as tie
@@ -62,15 +62,15 @@ behind-name-requires-2 : tie.Need-behind-name-requires-2
 behind-name-requires-2 c κs = within (c .before .before .before) (name.RawName _) (c .before .name2 .given .1)
 
 returns : tie.Need-returns
-unfolding contentsOf
+unfolding insideBrackets
 returns c = rw (name-is (c .before .before .before) name.Missing (c .before .enum-told .given .1)) (c .undecided .ensures)
 
 returns-2 : tie.Need-returns-2
-unfolding contentsOf
+unfolding insideBrackets
 returns-2 c = rw (name-is (c .before .before .before .before) (name.Name _) (c .before .before .name .given .1)) (c .behind-name .ensures)
 
 returns-3 : tie.Need-returns-3
-unfolding contentsOf
+unfolding insideBrackets
 returns-3 c = rw (name-is (c .before .before .before .before) (name.RawName _) (c .before .before .name2 .given .1)) (c .behind-name2 .ensures)
 
 pub contents-spec : {M : Type 1} → statement M

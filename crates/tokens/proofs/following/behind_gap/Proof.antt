@@ -6,7 +6,7 @@ use Rattle.reading.specs.Tokens.Answer.{refuse}
 use Rattle.tokens.proofs.RonLaws.{behind-said}
 use Rattle.tokens.proofs.TokenLaws.{Lexed, token-bounded}
 use Rattle.tokens.proofs.following.behind_gap.Statement.{statement}
-use Rattle.tokens.specs.Ron.{behindGap}
+use Rattle.tokens.specs.Ron.{lexemeBehind}
 use Rattle.tokens.proofs.following.behind_gap.Tie as tie
 
 -- src/following.rt:28:36
@@ -47,12 +47,12 @@ placed-behind-requires c κs =
 
 -- src/following.rt:24:1
 returns : tie.Need-returns
-returns c = sym (ap (behindGap (c .before .before .before .before .before .before .before .args .g)) (behind-said (c .before .before .before .before .before .before .before .args .s .now) (c .before .before .before .before .before .before .before .args .g) _ _ _ (c .before .before .before .before .token-at .ensures) (c .before .before .before .lexeme-of .ensures) (c .before .found .given .1)))
+returns c = sym (ap (lexemeBehind (c .before .before .before .before .before .before .before .args .g)) (behind-said (c .before .before .before .before .before .before .before .args .s .now) (c .before .before .before .before .before .before .before .args .g) _ _ _ (c .before .before .before .before .token-at .ensures) (c .before .before .before .lexeme-of .ensures) (c .before .found .given .1)))
 
 -- src/following.rt:24:1
 returns-2 : tie.Need-returns-2
 returns-2 c =
-    ap refuse (c .placed-behind .ensures) ∙ sym (ap (behindGap (c .before .before .before .before .before .before .before .before .args .g)) (behind-said (c .before .before .before .before .before .before .before .before .args .s .now) (c .before .before .before .before .before .before .before .before .args .g) _ _ _ (c .before .before .before .before .before .token-at .ensures) (c .before .before .before .before .lexeme-of .ensures) (c .before .before .found2 .given .1)))
+    ap refuse (c .placed-behind .ensures) ∙ sym (ap (lexemeBehind (c .before .before .before .before .before .before .before .before .args .g)) (behind-said (c .before .before .before .before .before .before .before .before .args .s .now) (c .before .before .before .before .before .before .before .before .args .g) _ _ _ (c .before .before .before .before .before .token-at .ensures) (c .before .before .before .before .lexeme-of .ensures) (c .before .before .found2 .given .1)))
 
 pub behind-gap-spec : {M : Type 1} → statement M
 behind-gap-spec =

@@ -5,9 +5,9 @@ use mathlib.Core.Bool.{cond}
 use mathlib.Core.List.{List}
 use lib.Dec.{ltb}
 use lib.ListN.{getD}
-use Rattle.plain_names.specs.PlainNames.{plainName}
-use Rattle.plain_numbers.specs.PlainNumbers.{plainNumber}
-use Rattle.plain_strings.specs.PlainStrings.{plainString}
+use Rattle.plain_names.specs.inner.PlainNames.{plainName}
+use Rattle.plain_numbers.specs.inner.PlainNumbers.{plainNumber}
+use Rattle.plain_strings.specs.inner.PlainStrings.{plainString}
 use Rattle.tokens.specs.Shapes.{markKind}
 use Rattle.tokens.specs.declared.lexeme.Lexeme.{Lexeme}
 

@@ -1,0 +1,38 @@
+-- What is promised of the interface for C: nothing of an answer is cut off where it is packed into one number, so that a host which takes the number apart, as bindings/c/sarridok.h says, gets
+-- every number of the answer back. Each line is a theorem's statement; its proof only says where it is proved. Assumes nothing.
+use Prim.Native.Nat.{ℕ}
+use mathlib.Core.List.{List}
+use Rattle.cursor.specs.declared.ParserCursor.{ParserCursor}
+use Rattle.read.specs.Read.{readAnswer}
+use Rattle.repair.specs.Repair.{repairOf}
+use Rattle.sarridok.specs.Contents.{contentsOf, decodedAnswer}
+use Rattle.sarridok.specs.Skip.{skipOf}
+use Rattle.sarridok.specs.Walked.{walkOf}
+use Rattle.sarridok_c.specs.Numbered.{integerNumbered, kindNumbered}
+use Rattle.sarridok_c.specs.Whole.{Whole, countParts, cursorParts, doneParts, kindParts, repairedParts, spanParts, typedParts}
+use Rattle.sarridok_c.specs.Words.{countWord, cursorWord, doneWord, kindWord, repairedWord, spanWord, typedWord}
+use Rattle.sarridok_c.proofs.NothingCut as cut
+
+pub skip-whole : (text : List ℕ) (c : ParserCursor) → Whole cursorWord cursorParts (skipOf text c)
+skip-whole = cut.skip-whole
+
+pub integer-whole : (text : List ℕ) (place width : ℕ) → Whole typedWord typedParts (integerNumbered text place width)
+integer-whole = cut.integer-whole
+
+pub contents-whole : (text tape : List ℕ) (count entry : ℕ) → Whole spanWord spanParts (contentsOf text tape count entry)
+contents-whole = cut.contents-whole
+
+pub decoded-whole : (text tape : List ℕ) (count entry room : ℕ) → Whole countWord countParts (decodedAnswer text tape count entry room)
+decoded-whole = cut.decoded-whole
+
+pub struct-kind-whole : (text : List ℕ) (place newtype tuple : ℕ) → Whole kindWord kindParts (kindNumbered text place newtype tuple)
+struct-kind-whole = cut.struct-whole
+
+pub read-whole : (text : List ℕ) (numbers : ℕ) → Whole countWord countParts (readAnswer text numbers)
+read-whole = cut.read-whole
+
+pub walk-whole : (tape : List ℕ) (count limit links : ℕ) → Whole doneWord doneParts (walkOf tape count limit links)
+walk-whole = cut.walk-whole
+
+pub repair-whole : (tape : List ℕ) (count o a b : ℕ) (text : List ℕ) → Whole repairedWord repairedParts (repairOf tape count o a b text)
+repair-whole = cut.repair-whole

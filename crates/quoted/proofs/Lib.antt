@@ -1,0 +1,12 @@
+pub mod Fronts
+pub mod Chars
+pub mod ByteLiterals
+pub mod Blanked
+pub mod Puts
+pub mod BodyReads
+pub mod QuotedReads
+pub mod RawEnds
+pub mod RawReads
+pub mod StringReads
+pub mod Exactly
+pub mod Decoded

@@ -1,0 +1,58 @@
+-- Nothing of an answer is cut off where it is packed: a host that takes the number apart, as bindings/c/sarridok.h says, gets every number of the answer back.
+use Prim.Native.Nat.{ℕ, _/_, _%_, _^_}
+use mathlib.Core.Path.{_≡_}
+use Rattle.text.specs.Refusals.{Told, accepted, refused}
+use Rattle.cursor.specs.declared.ParserCursor.{ParserCursor}
+use Rattle.entries.specs.Contents.{Span}
+use Rattle.repair.specs.Repair.{Repaired}
+use Rattle.structs.specs.declared.kinds.StructType.{StructType}
+use Rattle.sarridok.specs.Typed.{Typed}
+use Rattle.sarridok_c.specs.Packed.{bitOf, refusalWord}
+use Rattle.sarridok_c.specs.Words.{kindWord}
+
+-- The two numbers that an accepted answer goes out with.
+pub record Halves : Type 0 where
+  pub upper : ℕ
+  pub lower : ℕ
+
+abbrev pub halves : ℕ → ℕ → Halves
+halves a b = record { upper = a; lower = b }
+
+-- What a host gets out of a number of 64 bits: the top bit, the 31 bits below it, and the 32 below those.
+pub record Unpacks (word top upper lower : ℕ) : Type 0 where
+  pub first : word / 2 ^ 63 ≡ top
+  pub above : word % 2 ^ 63 / 2 ^ 32 ≡ upper
+  pub below : word % 2 ^ 32 ≡ lower
+
+-- An answer is got back whole: whether it is a refusal, and its two numbers.
+abbrev pub Whole : {A : Type 0} → (A → ℕ) → (A → Halves) → Told A → Type 0
+Whole word parts (accepted a) = Unpacks (word a) 0 (parts a .upper) (parts a .lower)
+Whole word parts (refused r) = Unpacks (refusalWord r) 1 (r .number) (r .place)
+
+-- The two numbers of each call: how many entries or bytes,
+abbrev pub countParts : ℕ → Halves
+countParts n = halves 0 n
+
+-- nothing,
+abbrev pub doneParts : Unit {0} → Halves
+doneParts t = halves 0 0
+
+-- how many entries,
+abbrev pub repairedParts : Repaired → Halves
+repairedParts r = halves 0 (r .count)
+
+-- a minus and the place behind the number,
+abbrev pub typedParts : Typed → Halves
+typedParts t = halves (bitOf (t .number .minus)) (t .end)
+
+-- where the contents begin and end,
+abbrev pub spanParts : Span → Halves
+spanParts s = halves (s .start) (s .end)
+
+-- the kind's number,
+abbrev pub kindParts : StructType → Halves
+kindParts k = halves 0 (kindWord k)
+
+-- and the cursor's place.
+abbrev pub cursorParts : ParserCursor → Halves
+cursorParts c = halves 0 (c .cursor)

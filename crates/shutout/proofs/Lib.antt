@@ -1,0 +1,3 @@
+pub mod ShutReaders
+pub mod ShutRepairs
+pub mod ShutOut

@@ -1,0 +1,9 @@
+pub mod MarkTokens
+pub mod StringTokens
+pub mod IntegerTokens
+pub mod NameBytes
+pub mod FloatNames
+pub mod NameTokens
+pub mod SpeltTokens
+pub mod SpeltRead
+pub mod SpeltWorked
