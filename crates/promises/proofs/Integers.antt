@@ -21,10 +21,11 @@ use Rattle.read.specs.Read.{readAnswer, readTape}
 use Rattle.sarridok.specs.Typed.{Typed, integerAt, integerOf, placedAt, toldInteger}
 use Rattle.sarridok.specs.declared.integer_call.IntegerAnswer.{IntegerAnswer}
 use Rattle.sarridok.proofs.IntegerDetermined.{integer-determined}
-use Rattle.written.specs.Bytes.{ByteAccepted, OtherByte}
-use Rattle.written.specs.Refused.{Asked, DigitTooHigh, NoDigits, OtherWidth, OutOfBounds, TextEnds, UnderscoreFirst}
+use Rattle.written.specs.Accepted.{ByteAccepted, NumberAccepted}
+use Rattle.written.specs.Refused.{DigitTooHigh, NoDigits, OtherByte, OtherWidth, OutOfBounds, TextEnds, UnderscoreFirst}
 use Rattle.written.specs.Written.{AsWritten, IsWritten, byteLiteral}
 use Rattle.written.proofs.ByteWritten as bytes
+use Rattle.written.proofs.IntegerAccepted as accepts
 use Rattle.written.proofs.IntegerOthers as others
 use Rattle.written.proofs.IntegerRefused as refusals
 use Rattle.written.proofs.IntegerWritten.{accepted-written, written-accepted}
@@ -76,8 +77,12 @@ module _ (text : List ℕ) (place : ℕ) (width : Width) where
   integer-accepts = written-accepted text place width
 
   -- A byte literal is accepted exactly as a u8, with the byte that it means.
-  pub integer-byte : (t : Typed) → byteLiteral (drop place text) ≡ true → (integerOf text place width ≡ accepted t) ↔ ByteAccepted text place width t
+  pub integer-byte : (t : Typed) → byteLiteral (drop place text) ≡ true → (integerOf text place width ≡ accepted t) ↔ ByteAccepted width text place t
   integer-byte = bytes.byte-literal-exactly text place width
+
+  -- Both in one: accepted exactly where such a number or byte literal stands.
+  pub integer-accepted : (t : Typed) → (integerOf text place width ≡ accepted t) ↔ (NumberAccepted width text place t ⊎ ByteAccepted width text place t)
+  integer-accepted = accepts.integer-accepted text place width
 
   -- 6, 7, 8, 9, 10 and 27 exactly in their cases.
   pub integer-6 : (p : ℕ) → (integerOf text place width ≡ refused (eof p)) ↔ TextEnds text place p
@@ -95,8 +100,8 @@ module _ (text : List ℕ) (place : ℕ) (width : Width) where
   pub integer-10 : (p : ℕ) → (integerOf text place width ≡ refused (integerOutOfBounds p)) ↔ OutOfBounds width text place p
   integer-10 p = refusals.integer-10 text place width p
 
-  pub integer-27 : (integerOf text place width ≡ refused otherKind) ↔ ((Asked text place × OtherWidth width (drop place text)) ⊎ OtherByte text place width)
-  integer-27 = bytes.integer-27-exactly text place width
+  pub integer-27 : (integerOf text place width ≡ refused otherKind) ↔ (OtherWidth width text place ⊎ OtherByte width text place)
+  integer-27 = bytes.integer-27 text place width
 
   -- A refusal's number is 1, 2 or one of 4 to 29.
   pub integer-numbers : (r : Refusal) → integerOf text place width ≡ refused r → Given r

@@ -2,7 +2,7 @@ pub mod Skips
 pub mod Integers
 pub mod Strings
 pub mod StructKinds
-pub mod Reads
+pub mod Readings
 pub mod Walks
 pub mod Repairs
 pub mod Hosts

@@ -4,7 +4,7 @@
 --     Integers      integer; 6 to 10 and 27; digit runs, byte literals
 --     Strings       contents, contents_part, decoded; escapes, strings, chars
 --     StructKinds   struct_kind
---     Reads         read; what it reads, what is shut out; names, floats
+--     Readings      read; what it reads, what is shut out; names, floats
 --     Walks         walk; 24, 25 and 26; links
 --     Repairs       repair; the third demand
 --     Hosts         the interface for C: nothing of an answer is cut off

@@ -24,7 +24,7 @@ use Rattle.integers.proofs.Runs.{digits-run}
 use Rattle.integers.proofs.Suffixes.{no-suffix}
 use Rattle.integers.specs.Front.{frontOf, prefixOf, signOf}
 use Rattle.integers.specs.Integer.{anyOf, numeralOf}
-use Rattle.integers.specs.Width.{codeOf, firstFit, limitAt, suffixFirst, suffixOf}
+use Rattle.integers.specs.Width.{codeOf, firstFit, limitAt, suffixFirst, suffixOf, widthAt}
 use Rattle.integers.specs.Words.{nothingFound}
 use Rattle.integers.specs.declared.integer.Numeral.the-variants as numeral
 use Rattle.numbers.specs.Numbers.{floatAhead, numberOf}
@@ -104,7 +104,7 @@ module _ (t : List ℕ) (some : 0 < run digit t) (quiet : quietByte (getD t (run
 
 module _ (ds : List ℕ) (x : Decimal ds) (small : valueOf 10 ds < 18446744073709551616) where
   value-is : runOf (limitAt 8 false) 10 ds ≡ Value (valueOf 10 ds)
-  unfolding limitAt
+  unfolding limitAt widthAt
   value-is =
       let only = only-digits x in
       let first = digit-in (getD ds 0 0) (only 0 (decimal-some x)) in

@@ -11,7 +11,7 @@ use Rattle.strings.specs.Pieces.{plain}
 use Rattle.reading.specs.Tokens.{token}
 use Rattle.tokens.specs.Ron.{ronToken}
 use Rattle.plain_strings.proofs.PlainStrings.{plain-string}
-use Rattle.plain_strings.specs.PlainStrings.{plainString}
+use Rattle.plain_strings.specs.inner.PlainStrings.{plainString}
 use Rattle.spelt.specs.Spelt.{Unescaped}
 use Rattle.spelt.specs.Spelt.Unescaped.{none, more}
 

@@ -32,7 +32,7 @@ use Rattle.written.proofs.TypedWritten.{is-written, numeral-read, width
 -- ---- the width of a suffix
 
 -- no suffix, or one of a width
-abbrev Known : ℕ → Type 0
+abbrev pub Known : ℕ → Type 0
 Known code = (code ≡ 0) ⊎ (codeOf (widthAt code) ≡ code)
 
 abbrev AllKnown : List Word → Type 0
@@ -46,11 +46,11 @@ first-known (w ∷ ws) t k =
     let rest = first-known ws t (k .1) in
     either (bool-cases (eqb (identOf (w .letters) t) 0)) (λ p. rw p rest) (λ p. rw p (k .0))
 
-suffix-known : (t : List ℕ) → Known (suffixOf t .code)
+pub suffix-known : (t : List ℕ) → Known (suffixOf t .code)
 unfolding widthAt
 suffix-known t = rw (from-all t) (first-known (from 8 1) t (inr refl, (inr refl, (inr refl, (inr refl, (inr refl, (inr refl, (inr refl, (inr refl, tt)))))))))
 
-of-known : (code : ℕ) → Known code → eqb code 0 ≡ false → codeOf (widthAt code) ≡ code
+pub of-known : (code : ℕ) → Known code → eqb code 0 ≡ false → codeOf (widthAt code) ≡ code
 of-known code (inl z) e = absurd (eqb-false code 0 e z)
 of-known code (inr k) e = k
 

@@ -35,18 +35,19 @@ use Rattle.sarridok.specs.Typed.{Typed, byteAs, integerAt, integerOf, signedNum
 use Rattle.written.specs.Written.{AsByte, AsWritten, IsWritten, bitsOf, byteLiteral, isSigned, magnitudeIn, writtenLen}
 use Rattle.written.proofs.TypedWritten.{typed-written, width-of, written-typed}
 
--- an accepted call's own answer
-front-accepted : {A : Type 0} (text : List ℕ) (fits : Bool) (own : Told A) (a : A) → behindFront text fits own ≡ accepted a → own ≡ accepted a
+-- an accepted call's text and place fit, and the answer is its own
+pub front-accepted : {A : Type 0} (text : List ℕ) (fits : Bool) (own : Told A) (a : A) → behindFront text fits own ≡ accepted a
+    → (judgedOf text ≡ Fit) × (fits ≡ true) × (own ≡ accepted a)
 unfolding behindFront
 front-accepted {A} text fits own a h = go (judgedOf text) fits h
   where
-    go : (j : Judged) (f : Bool) → behindJudged j (cond f own (refused unfit)) ≡ accepted a → own ≡ accepted a
-    go Fit true e = e
+    go : (j : Judged) (f : Bool) → behindJudged j (cond f own (refused unfit)) ≡ accepted a → (j ≡ Fit) × (f ≡ true) × (own ≡ accepted a)
+    go Fit true e = (refl, refl, e)
     go Fit false e = let z : _≡_ {A = ℕ} 0 1 = cc in absurd (omega arith)
     go (NotFit r) f e = let z : _≡_ {A = ℕ} 0 1 = cc in absurd (omega arith)
 
 -- what was read at the place
-placed-read : (place : ℕ) (i : Integer) (t : Typed) → toldInteger (placedAt place i) ≡ accepted t → (len : ℕ) × (i ≡ integer.Read (t .number) len) × (t .end ≡ place + len)
+pub placed-read : (place : ℕ) (i : Integer) (t : Typed) → toldInteger (placedAt place i) ≡ accepted t → (len : ℕ) × (i ≡ integer.Read (t .number) len) × (t .end ≡ place + len)
 placed-read place (integer.Read v len) t h =
     let e : record { number = v; end = place + len } ≡ t = cc in
     (len, ap (λ (x : Typed). integer.Read (x .number) len) e, sym (ap (λ (x : Typed). x .end) e))
@@ -71,7 +72,7 @@ no-byte width (a ∷ s) w =
     (λ e. absurd (no-b width s (subst (λ (x : ℕ). IsWritten width (x ∷ s)) (eqb-true a 0x62 e) w)))
     (λ e. rw e)
 
-at-front : (width : Width) (s : List ℕ) → byteLiteral s ≡ false → integerAt width s ≡ typedOf width s
+pub at-front : (width : Width) (s : List ℕ) → byteLiteral s ≡ false → integerAt width s ≡ typedOf width s
 unfolding integerAt
 at-front width s b = rw b
 
@@ -86,7 +87,7 @@ unfolding integerOf
 front-answered text place width v len j f e =
     front-fit text (toldInteger (placedAt place (integerAt width (drop place text)))) (placeFits text place) j f ∙ ap (λ (i : Integer). toldInteger (placedAt place i)) e
 
-byte-read : (width : Width) (a : ByteAnswer) (v : Value) (len : ℕ) → byteAs width a ≡ integer.Read v len
+pub byte-read : (width : Width) (a : ByteAnswer) (v : Value) (len : ℕ) → byteAs width a ≡ integer.Read v len
     → (b : ℕ) × (a ≡ byte.Read len b) × (width ≡ U8) × (record { minus = false; magnitude = b } ≡ v)
 unfolding widthAt
 byte-read width (byte.Read n b) v len h =
@@ -97,7 +98,7 @@ byte-read width (byte.Read n b) v len h =
     (λ p. let q : integer.OtherSuffix ≡ integer.Read v len = rw p at h in let z : _≡_ {A = ℕ} 0 1 = cc in absurd (omega arith))
 byte-read width (byte.Refused r) v len h = let z : _≡_ {A = ℕ} 0 1 = cc in absurd (omega arith)
 
-byte-at : (width : Width) (s : List ℕ) → byteLiteral s ≡ true → integerAt width s ≡ byteAs width (byteOf s)
+pub byte-at : (width : Width) (s : List ℕ) → byteLiteral s ≡ true → integerAt width s ≡ byteAs width (byteOf s)
 unfolding integerAt
 byte-at width s b = rw b
 
@@ -106,7 +107,7 @@ module _ (text : List ℕ) (place : ℕ) (width : Width) where
   unfolding integerOf
   accepted-byte t b h =
       let s : List ℕ = drop place text in
-      let p = placed-read place (integerAt width s) t (front-accepted text (placeFits text place) (toldInteger (placedAt place (integerAt width s))) t h) in
+      let p = placed-read place (integerAt width s) t (front-accepted text (placeFits text place) (toldInteger (placedAt place (integerAt width s))) t h .2) in
       let q = byte-read width (byteOf s) (t .number) (p .0) (sym (byte-at width s b) ∙ p .1) in
       record { byte = q .0; len = p .0; read = q .1; width-is = q .2; number-is = ap signedNumber (sym (q .3)); end-is = p .2 }
 
@@ -115,7 +116,7 @@ module _ (text : List ℕ) (place : ℕ) (width : Width) where
   unfolding integerOf
   accepted-written t b h =
       let s : List ℕ = drop place text in
-      let p = placed-read place (integerAt width s) t (front-accepted text (placeFits text place) (toldInteger (placedAt place (integerAt width s))) t h) in
+      let p = placed-read place (integerAt width s) t (front-accepted text (placeFits text place) (toldInteger (placedAt place (integerAt width s))) t h .2) in
       let w = typed-written width s (t .number) (p .0) (sym (at-front width s b) ∙ p .1) in (
         w .0,
         record {

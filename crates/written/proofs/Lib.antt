@@ -2,3 +2,10 @@ pub mod TypedWritten
 pub mod IntegerWritten
 pub mod WrittenWorked
 pub mod AnyWritten
+pub mod CutBytes
+pub mod Asking
+pub mod RunAnswers
+pub mod IntegerRefused
+pub mod IntegerOthers
+pub mod ByteWritten
+pub mod IntegerAccepted

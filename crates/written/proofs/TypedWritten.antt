@@ -46,7 +46,7 @@ width-limit U16 minus = refl
 width-limit U32 minus = refl
 width-limit U64 minus = refl
 
-width-some : (width : Width) → codeOf width ≡ 0 → ⊥
+pub width-some : (width : Width) → codeOf width ≡ 0 → ⊥
 width-some I8 e = omega arith
 width-some I16 e = omega arith
 width-some I32 e = omega arith

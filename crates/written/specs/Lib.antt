@@ -1,3 +1,3 @@
 pub mod Written
 pub mod Refused
-pub mod Bytes
+pub mod Accepted

@@ -1,5 +1,6 @@
--- When the call `integer` refuses (document 01, "Refusal numbers"), said plainly over the text and the number written. "6: text ends where a character is needed; end." "7: integer expected. 8: underscore in front.
--- 9: digit not below the base. 10: out of bounds." "27: suffix of another kind." "A suffix is skipped after a refusal, but not after 8 or 9." "A byte literal is u8."
+-- When the call `integer` refuses (document 01, "Refusal numbers"), said plainly over the text and the number written: "6: text ends where a character is needed; end."
+-- "7: integer expected. 8: underscore in front. 9: digit not below the base. 10: out of bounds." "27: entry or suffix of another kind."
+-- "A suffix is skipped after a refusal, but not after 8 or 9." "With another suffix it is 27, and a byte literal is u8."
 use Prim.Native.Nat.{ℕ, _+_, _<_}
 use mathlib.Core.Bool.{true, false, cond}
 use mathlib.Core.List.{List, [], _∷_}
@@ -16,8 +17,7 @@ use Rattle.integers.specs.Range.{NotBelow, Passes, Reads}
 use Rattle.integers.specs.Width.{codeOf, limitOf, widthAt}
 use Rattle.integers.specs.declared.width.Width.{Width}
 use Rattle.integers.specs.declared.width.Width.the-variants.{U8}
-use Rattle.strings.specs.Chars.{byteOf}
-use Rattle.strings.specs.declared.chars.ByteAnswer.the-variants.{Read}
+use Rattle.quoted.specs.Literals.{ByteAt}
 use Rattle.written.specs.Written.{bitsOf, byteLiteral, digitsIn, isSigned, magnitudeIn, suffixIn, writtenLen}
 
 -- A sound text and a place in it that fits: what every call at a place asks first.
@@ -63,22 +63,23 @@ pub record OutOfBounds (width : Width) (text : List ℕ) (place p : ℕ) : Type 
   pub asked : Asked text place
   pub nth : ℕ
   pub passes : Passes (limitHere width (drop place text)) (frontOf (drop place text) .base) (digitsIn (drop place text)) nth
-  pub place-is : p ≡ place + writtenLen (drop place text)
+  pub behind : p ≡ place + writtenLen (drop place text)
 
 -- 27 for a number: it is written with the suffix of another width, and reads in that width.
-pub record OtherWidth (width : Width) (s : List ℕ) : Type 0 where
+pub record OtherWidth (width : Width) (text : List ℕ) (place : ℕ) : Type 0 where
+  pub asked : Asked text place
   pub other : Width
-  pub suffix : suffixIn s .code ≡ codeOf other
   pub differs : other ≡ width → ⊥
-  pub digits : Reads (isSigned other) (bitsOf other) (frontOf s .minus) (frontOf s .base) (digitsIn s) (magnitudeIn s)
+  pub suffix : suffixIn (drop place text) .code ≡ codeOf other
+  pub digits : Reads (isSigned other) (bitsOf other) (frontOf (drop place text) .minus) (frontOf (drop place text) .base) (digitsIn (drop place text)) (magnitudeIn (drop place text))
 
--- 27 for a byte literal: one reads there, and another width than u8 is asked for.
-pub record OtherThanU8 (width : Width) (s : List ℕ) : Type 0 where
-  pub begins : byteLiteral s ≡ true
-  pub byte : ℕ
-  pub len : ℕ
-  pub read : byteOf s ≡ Read len byte
+-- 27 for a byte literal: one stands there, and another width than u8 is asked for.
+pub record OtherByte (width : Width) (text : List ℕ) (place : ℕ) : Type 0 where
+  pub placed : Placed text place
   pub differs : width ≡ U8 → ⊥
+  pub byte : ℕ
+  pub rest : List ℕ
+  pub literal : ByteAt (drop place text) byte rest
 
 -- An escape of a byte literal, from behind its backslash, that is cut off where one more character is needed.
 pub data CutEscape : List ℕ → Type 0 where
@@ -87,7 +88,7 @@ pub data CutEscape : List ℕ → Type 0 where
   one-digit : {h : ℕ} → hexOf h < 16 → CutEscape (0x78 ∷ h ∷ [])
   not-closed : {v : ℕ} {ds : List ℕ} → Hex 0 ds v → length ds < 6 → CutEscape (0x75 ∷ 0x7B ∷ ds)
 
--- A byte literal that is cut off so.
+-- A byte literal that is cut off so: behind `b'`, or in its escape.
 pub data CutByte : List ℕ → Type 0 where
   no-byte : CutByte (0x62 ∷ 0x27 ∷ [])
   in-escape : {s : List ℕ} → CutEscape s → CutByte (0x62 ∷ 0x27 ∷ 0x5C ∷ s)

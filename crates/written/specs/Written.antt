@@ -1,11 +1,10 @@
 -- The number written at a place (document 01): "Typed integer at a place, in one of eight widths." "A typed read answers the value and the place behind it; with
 -- another suffix it is 27, and a byte literal is u8." Written are a sign, the prefix of a base, digits below the base with underscores between them, and a suffix.
-use Prim.Native.Nat.{ℕ, _+_, _-_, _^_, _%_}
+use Prim.Native.Nat.{ℕ, _+_}
 use mathlib.Core.Bool.{Bool}
 use mathlib.Core.List.{List, [], _∷_}
 use mathlib.Core.Logic.{_⊎_}
 use mathlib.Core.Path.{_≡_}
-use lib.Dec.{ltb}
 use lib.IntN.{ℤ, pos}
 use lib.ListN.{length, take, drop}
 use Rattle.text.specs.Classes.{intChar}
@@ -14,7 +13,7 @@ use Rattle.text.specs.Words.{startsWith}
 use Rattle.digits.specs.Value.{valueOf}
 use Rattle.integers.specs.Front.{frontOf}
 use Rattle.integers.specs.Range.{InWidth, Reads, signedOf}
-use Rattle.integers.specs.Width.{codeOf, suffixOf}
+use Rattle.integers.specs.Width.{codeOf, row, suffixOf}
 use Rattle.integers.specs.declared.ident.Found.{Found}
 use Rattle.integers.specs.declared.width.Width.{Width}
 use Rattle.integers.specs.declared.width.Width.the-variants.{U8}
@@ -22,13 +21,13 @@ use Rattle.strings.specs.Chars.{byteOf}
 use Rattle.strings.specs.declared.chars.ByteAnswer.the-variants.{Read}
 use Rattle.sarridok.specs.Typed.{Typed, signedNumber}
 
--- A width holds numbers below 0: i8 to i64, whose numbers are 1 to 4.
+-- A width holds numbers below 0.
 abbrev pub isSigned : Width → Bool
-isSigned width = ltb (codeOf width) 5
+isSigned width = row width .signed
 
--- How many bits a width has: 8, 16, 32 or 64, in this order for 1 to 4 and again for 5 to 8.
+-- How many bits a width has.
 abbrev pub bitsOf : Width → ℕ
-bitsOf width = 2 ^ (3 + (codeOf width - 1) % 4)
+bitsOf width = row width .bits
 
 -- What stands behind sign and prefix.
 abbrev pub unprefixed : List ℕ → List ℕ
