@@ -61,7 +61,7 @@ module _ (tape : List ℕ) (count limit links : ℕ) where
       either (lt-or-le (roomOf (length tape)) count) (λ h. torn a (inl h) (laws.walk-23 tape count limit links a h)) λ b.
       either (bool-cases (inOrder (entriesOf count tape) 65536))
       (λ c. either (lt-or-le links count) (λ h. full a b c h (laws.walk-22 tape count limit links a b c h)) λ h.
-          past (own (laws.walk-judged tape count limit links a b c h verdictHere refl)))
+      past (own (laws.walk-judged tape count limit links a b c h verdictHere refl)))
       (λ c. torn a (inr c) (laws.walk-23-order tape count limit links a b c))
     where
       own : walkOf tape count limit links ≡ judged verdictHere → Own (walkOf tape count limit links)
