@@ -89,13 +89,14 @@ module _ (text tape : List ℕ) (count entry : ℕ) where
       → namedOf text tape count entry ≡ At bytes place → LiteralAt bytes (drop place text) d t → decodedOut text tape count entry out ≡ d ++ drop n out
   decoded-writes = decodings.decoded-writes text tape count entry
 
-  -- A decoded string is UTF-8.
+  -- A decoded string, the n bytes in front of the buffer, is UTF-8.
   pub decoded-utf8 : (out : List ℕ) (n place : ℕ) → namedOf text tape count entry ≡ At false place → decodedAnswer text tape count entry (length out) ≡ accepted n
-      → (d : List ℕ) × Encoded d × (decodedOut text tape count entry out ≡ d ++ drop n out)
+      → (d : List ℕ) × Encoded d × (length d ≡ n) × (decodedOut text tape count entry out ≡ d ++ drop n out)
   unfolding decodedOut
   decoded-utf8 out n place m e = (
     namedBytes text (namedOf text tape count entry),
     agree.decoded-encoded text tape count entry place (length out) n m e,
+    agree.decoded-length text tape count entry (length out) n e,
     ap (λ (t : Told ℕ). writtenBy t (namedBytes text (namedOf text tape count entry)) out) e,
   )
 
