@@ -5,3 +5,4 @@ pub mod WalkFronts
 pub mod Judgement
 pub mod Calls
 pub mod Places
+pub mod NoRoom

@@ -1,12 +1,14 @@
--- The refusals of the string that an entry names, and of its contents, are 4 to 29. Assumes nothing.
+-- An entry that names no string is refused with one of 23 to 28; the refusals of its contents are 4 to 29. Assumes nothing.
 use Prim.Native.Nat.{ℕ}
 use mathlib.Core.Bool.{Bool, true, false}
 use mathlib.Core.List.{List}
-use mathlib.Core.Path.{refl}
+use mathlib.Core.Path.{_≡_, refl}
+use native.Mathlib.Omega.{arith}
 use lib.Dec.{eqb, leb, ltb}
 use lib.ListN.{length}
 use Rattle.text.specs.Judged.{placeFits}
 use Rattle.text.specs.Refusals.{Told}
+use Rattle.text.proofs.ClassLaws.{inside as in-range, within-true}
 use Rattle.rows.specs.Rows.{roomOf, entryAt}
 use Rattle.rows.specs.declared.Entry.{Entry}
 use Rattle.strings.specs.declared.literal.LiteralAnswer.{LiteralAnswer}
@@ -15,14 +17,14 @@ use Rattle.entries.specs.Contents.{byNamed, contentsIn, decodedIn}
 use Rattle.entries.specs.Named.{byKind, insideOf, namedOf, literalOf}
 use Rattle.entries.specs.declared.named.Named.{Named}
 use Rattle.entries.specs.declared.named.Named.the-variants.{At, Unnamed}
-use Rattle.given.specs.Given.{FourTo, within}
+use Rattle.given.specs.Given.{within}
 use Rattle.given.proofs.Both.{both}
 use Rattle.given.proofs.Front.{Own-told, inner-own}
 use Rattle.given.proofs.Strings.{Inner-literal, string-inner, byte-string-inner}
 
 abbrev pub Own-named : Named → Type 0
 Own-named (At bytes place) = Unit
-Own-named (Unnamed r) = FourTo 29 r
+Own-named (Unnamed r) = within 23 28 (r .number) ≡ true
 
 by-kind : (kind place : ℕ) → Own-named (byKind kind place)
 unfolding byKind within
@@ -40,7 +42,7 @@ named-own text tape count entry =
 
 pub by-named : {A : Type 0} (n : Named) (own : Bool → ℕ → Told A) → Own-named n → ((bytes : Bool) (place : ℕ) → Own-told (own bytes place)) → Own-told (byNamed n own)
 by-named (At bytes place) own h k = k bytes place
-by-named (Unnamed r) own h k = h
+by-named (Unnamed r) own h k = let w = within-true 23 28 (r .number) h in in-range 4 29 (r .number) (omega (arith, w .0)) (omega (arith, w .1))
 
 pub literal-inner : (bytes : Bool) (s : List ℕ) → Inner-literal (literalOf bytes s)
 literal-inner false s = string-inner s

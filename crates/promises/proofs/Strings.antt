@@ -38,6 +38,7 @@ use Rattle.reread.specs.Strings.{Handed, IsString}
 use Rattle.reread.proofs.Decodable.{read-contents, read-decoded, read-too-long}
 use Rattle.fronts.specs.Fronts.{FrontOf}
 use Rattle.fronts.proofs.Calls as fronts
+use Rattle.fronts.proofs.NoRoom as lacking
 use Rattle.given.specs.Given.{Given}
 use Rattle.given.proofs.Calls.{contents-given, decoded-given}
 
@@ -83,6 +84,10 @@ module _ (text tape : List ℕ) (count entry : ℕ) where
   -- Accepted exactly where a string stands at the entry's start and there is room for the bytes that it decodes to.
   pub decoded-exactly : (out : List ℕ) (n : ℕ) → (decodedAnswer text tape count entry (length out) ≡ accepted n) ↔ Decodes text tape count entry (length out) n
   decoded-exactly = decodings.decoded-exactly text tape count entry
+
+  -- 22 exactly where one stands that decodes to more.
+  pub decoded-22 : (room : ℕ) → (decodedAnswer text tape count entry room ≡ refused noRoom) ↔ ((n : ℕ) × (room < n) × Decodes text tape count entry n n)
+  decoded-22 = lacking.decoded-22 text tape count entry
 
   -- What is written is exactly those bytes; behind them the buffer is as it was.
   pub decoded-writes : (out : List ℕ) (n : ℕ) (bytes : Bool) (place : ℕ) (d t : List ℕ) → decodedAnswer text tape count entry (length out) ≡ accepted n

@@ -31,12 +31,12 @@ use Rattle.text.specs.declared.judge.Judged.the-variants.{Fit, Refused as Unjud
 -- ---- a string or byte string
 
 -- what is read stands there
-literal-stands : (bytes : Bool) (s : List ℕ) (l : Literal) → literalOf bytes s ≡ Read l → LiteralAt bytes s (literalDecoded bytes s) (drop (l .len) s) × (length (literalDecoded bytes s) ≡ l .decoded)
+pub literal-stands : (bytes : Bool) (s : List ℕ) (l : Literal) → literalOf bytes s ≡ Read l → LiteralAt bytes s (literalDecoded bytes s) (drop (l .len) s) × (length (literalDecoded bytes s) ≡ l .decoded)
 literal-stands false s l e = (string-exactly s (stringDecoded s) (drop (l .len) s) .1 (l, e, refl, refl, string-whole s l e .fits), string-length s l e)
 literal-stands true s l e = (byte-string-exactly s (byteStringDecoded s) (drop (l .len) s) .1 (l, e, refl, refl, byte-string-whole s l e .fits), byte-string-length s l e)
 
 -- and what stands there is read
-literal-reads : (bytes : Bool) (s d t : List ℕ) → LiteralAt bytes s d t → (l : Literal) × (literalOf bytes s ≡ Read l) × (literalDecoded bytes s ≡ d) × (l .decoded ≡ length d)
+pub literal-reads : (bytes : Bool) (s d t : List ℕ) → LiteralAt bytes s d t → (l : Literal) × (literalOf bytes s ≡ Read l) × (literalDecoded bytes s ≡ d) × (l .decoded ≡ length d)
 literal-reads false s d t x = let r = string-exactly s d t .0 x in (r .0, r .1, r .2, sym (string-length s (r .0) (r .1)) ∙ ap length (r .2))
 literal-reads true s d t x = let r = byte-string-exactly s d t .0 x in (r .0, r .1, r .2, sym (byte-string-length s (r .0) (r .1)) ∙ ap length (r .2))
 
@@ -75,12 +75,12 @@ module _ (text tape : List ℕ) (count entry room n : ℕ) where
   from-answer (Unjudged r) m e f g = let z : _≡_ {A = ℕ} 0 1 = cc in absurd (omega arith)
 
   -- what is accepted is decoded
-  decodes : decodedAnswer text tape count entry room ≡ accepted n → Decodes text tape count entry room n
+  pub decodes : decodedAnswer text tape count entry room ≡ accepted n → Decodes text tape count entry room n
   unfolding decodedAnswer
   decodes e = from-answer (judgedOf text) (namedOf text tape count entry) refl refl e
 
   -- and what is decoded is accepted
-  accepts : Decodes text tape count entry room n → decodedAnswer text tape count entry room ≡ accepted n
+  pub accepts : Decodes text tape count entry room n → decodedAnswer text tape count entry room ≡ accepted n
   unfolding decodedAnswer
   accepts x =
       let r = literal-reads (x .bytes) (drop (x .place) text) (x .decoded) (x .behind) (x .stands) in
