@@ -1,3 +1,4 @@
+pub mod Numbers
 pub mod Characters
 pub mod Shapes
 pub mod Texts

@@ -28,11 +28,7 @@ use Rattle.given.proofs.Entries.{Own-named, literal-inner, named-own}
 use Rattle.given.proofs.Strings.{Inner-literal}
 use Rattle.fronts.proofs.Calls.{decoded-front}
 use Rattle.fronts.proofs.Texts.{fit-exactly}
-
--- the number of a refusal, 0 where there is none
-abbrev numberIn : Told ℕ → ℕ
-numberIn (accepted n) = 0
-numberIn (refused r) = r .number
+use Rattle.fronts.proofs.Numbers.{numberIn}
 
 module _ (text tape : List ℕ) (count entry room : ℕ) where
   -- more is decoded than there is room for

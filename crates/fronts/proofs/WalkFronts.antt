@@ -19,11 +19,7 @@ use Rattle.grammar.specs.declared.ends.Verdict.the-variants as verdict
 use Rattle.sarridok.specs.Walked.{judged, walkOf}
 use Rattle.sarridok.proofs.WalkFront as laws
 use Rattle.given.proofs.Walks.{Of-walk, verdict-of-walk}
-
--- the number of a refusal, 0 where there is none
-abbrev numberIn : Told Unit → ℕ
-numberIn (accepted t) = 0
-numberIn (refused r) = r .number
+use Rattle.fronts.proofs.Numbers.{numberIn}
 
 -- an answer of the walk itself is none of 22, 23 and 28
 abbrev Own : Told Unit → Type 0
