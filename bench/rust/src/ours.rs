@@ -1,6 +1,7 @@
 //! The product's calls through its C interface. An answer with the top bit set is a refusal.
 
-// The declarations are the Rust binding's own.
+// The declarations are the Rust binding's own; not all are called here.
+#[allow(dead_code)]
 #[rustfmt::skip]
 #[path = "../../../bindings/rust/src/raw.rs"]
 mod raw;

@@ -1,22 +1,56 @@
 //! An answer taken apart: below 2^63 it is accepted, else 2^63 + number * 2^32 + place.
 
-use crate::Refused;
+use crate::{Refusal, Refused};
 
 /// The two numbers of an accepted answer, 31 and 32 bits wide.
+#[derive(Debug)]
 pub struct Pair {
-    pub high: usize,
-    pub low: usize,
+    pub high: u32,
+    pub low: u32,
+}
+
+impl Pair {
+    /// The second number, where it is a place or a count.
+    pub fn size(&self) -> usize {
+        self.low as usize
+    }
 }
 
 pub fn taken_apart(answer: u64) -> Result<Pair, Refused> {
     let high = (answer >> 32) as u32 & 0x7FFF_FFFF;
-    let low = answer as u32 as usize;
+    let low = answer as u32;
     if answer >> 63 == 0 {
-        Ok(Pair { high: high as usize, low })
-    } else {
-        Err(Refused {
-            number: high as u8,
-            place: low,
-        })
+        return Ok(Pair { high, low });
+    }
+    let number = high as u8;
+    let refusal = Refusal::try_from(number).unwrap_or(Refusal::Unknown(number));
+    Err(Refused::new(refusal, low as usize))
+}
+
+#[cfg(test)]
+mod tests {
+    use super::*;
+    use std::string::ToString;
+
+    #[test]
+    fn every_refusal_is_got_back() {
+        for number in 0..=u8::MAX {
+            let answer = (1 << 63) + (u64::from(number) << 32) + 65_536;
+            let refused = taken_apart(answer).expect_err("the top bit refuses");
+            assert_eq!((refused.number(), refused.place), (number, 65_536));
+            assert_eq!(Refusal::try_from(number).is_ok(), Refusal::ALL.contains(&refused.refusal));
+        }
+    }
+
+    #[test]
+    fn an_unknown_refusal_says_so() {
+        let refused = taken_apart((1 << 63) + (200 << 32)).expect_err("the top bit refuses");
+        assert_eq!(refused.to_string(), "refused 200 at 0: no refusal that this version knows");
+    }
+
+    #[test]
+    fn both_numbers_are_got_back() {
+        let pair = taken_apart((7 << 32) + 9).expect("the top bit is 0");
+        assert_eq!((pair.high, pair.size()), (7, 9));
     }
 }

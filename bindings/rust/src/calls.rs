@@ -1,27 +1,43 @@
 //! The calls.
 
 use crate::answer::taken_apart;
-use crate::kinds::{NewtypeMode, ParserCursor, Repaired, StructType, TupleMode, Value, Width};
 use crate::raw;
-use crate::Refused;
+use crate::{NewtypeMode, ParserCursor, Refused, Repaired, StructType, TupleMode, Value, Width};
+use core::ops::Range;
+
+/// The version of the archive that was linked: major * 10,000 + minor * 100 + patch, so 200 is 0.2.0.
+///
+/// ```
+/// assert_eq!(sarridok::version(), 200);
+/// ```
+pub fn version() -> u32 {
+    // Safety: it takes and writes nothing.
+    unsafe { raw::sarridok_version() }
+}
 
 /// Reads a text into a tape, four numbers to an entry, and answers the number of entries; what stands behind them stays.
 /// A text has at most as many entries as bytes.
+///
+/// # Errors
+/// Refused as `TooLong`, `NotUtf8`, then by the first refusal of reading (4 to 21), and as `NoRoom` last.
 ///
 /// ```
 /// let mut tape = [0; 24];
 /// assert_eq!(sarridok::read(b"Lock(id: 7)", &mut tape), Ok(6));
 /// assert_eq!(tape[16..20], [11, 9, 10, 5]);
-/// assert_eq!(sarridok::read(b"'\\xC3'", &mut tape).unwrap_err().to_string(), "refused 13 at 5: invalid escape");
+/// assert_eq!(sarridok::read(b"'\\xC3'", &mut tape).unwrap_err().to_string(), "refused 13 at 5: the escape is not valid");
 /// ```
 pub fn read(text: &[u8], tape: &mut [u32]) -> Result<usize, Refused> {
     // Safety: both slices are valid for the call, and the one that is written is borrowed alone.
     let answer = unsafe { raw::sarridok_read(text.as_ptr(), text.len(), tape.as_mut_ptr(), tape.len()) };
-    Ok(taken_apart(answer)?.low)
+    Ok(taken_apart(answer)?.size())
 }
 
 /// Joins the brackets of a tape, one link to an entry: a bracket's link is its partner, any other entry's its own number. `limit` is how many brackets may
 /// be open at once, 0 to 128.
+///
+/// # Errors
+/// Refused as `Unfit` for a limit above 128, `NotInOrder`, `NoRoom`, then by 24 to 26.
 ///
 /// ```
 /// let mut tape = [0; 16];
@@ -29,7 +45,7 @@ pub fn read(text: &[u8], tape: &mut [u32]) -> Result<usize, Refused> {
 /// let mut links = [0; 3];
 /// sarridok::walk(&tape, count, 128, &mut links)?;
 /// assert_eq!(links, [2, 1, 0]);
-/// assert_eq!(sarridok::walk(&tape, count, 0, &mut links).unwrap_err().number, 24);
+/// assert_eq!(sarridok::walk(&tape, count, 0, &mut links).unwrap_err().refusal, sarridok::Refusal::DepthLimitPassed);
 /// # Ok::<(), sarridok::Refused>(())
 /// ```
 pub fn walk(tape: &[u32], count: usize, limit: usize, links: &mut [u32]) -> Result<(), Refused> {
@@ -39,16 +55,19 @@ pub fn walk(tape: &[u32], count: usize, limit: usize, links: &mut [u32]) -> Resu
     Ok(())
 }
 
-/// Makes the tape of an old text that of `text`: the old text had `old_len` bytes, and those from `a` to `b` were replaced. `count` is the number of old entries.
+/// Makes the tape of an old text that of `text`: the old text had `old_len` bytes, and those of `cut` were replaced. `count` is the number of old entries.
+///
+/// # Errors
+/// Refused as `TooLong`, `NotUtf8`, `NotInOrder`, then by the first refusal of reading (4 to 21), and as `NoRoom` last.
 ///
 /// ```
 /// let mut tape = [0; 4 * 16];
 /// let count = sarridok::read(b"[7, 8, 9]", &mut tape)?;
-/// let repaired = sarridok::repair(&mut tape, count, 9, 4, 6, b"[7, /*8,*/ 9]")?;
+/// let repaired = sarridok::repair(&mut tape, count, 9, 4..6, b"[7, /*8,*/ 9]")?;
 /// assert_eq!((repaired.count, repaired.before, repaired.behind), (5, 3, 2));
 /// # Ok::<(), sarridok::Refused>(())
 /// ```
-pub fn repair(tape: &mut [u32], count: usize, old_len: usize, a: usize, b: usize, text: &[u8]) -> Result<Repaired, Refused> {
+pub fn repair(tape: &mut [u32], count: usize, old_len: usize, cut: Range<usize>, text: &[u8]) -> Result<Repaired, Refused> {
     let (mut before, mut behind) = (0, 0);
     // Safety: as in `read`; the two numbers are this function's own.
     let answer = unsafe {
@@ -57,15 +76,15 @@ pub fn repair(tape: &mut [u32], count: usize, old_len: usize, a: usize, b: usize
             tape.len(),
             count,
             old_len,
-            a,
-            b,
+            cut.start,
+            cut.end,
             text.as_ptr(),
             text.len(),
             &mut before,
             &mut behind,
         )
     };
-    let count = taken_apart(answer)?.low;
+    let count = taken_apart(answer)?.size();
     Ok(Repaired {
         count,
         before: before as usize,
@@ -75,40 +94,48 @@ pub fn repair(tape: &mut [u32], count: usize, old_len: usize, a: usize, b: usize
 
 /// The integer at a place, and the place behind it. A byte literal is `u8`.
 ///
+/// # Errors
+/// Refused as `TooLong`, `NotUtf8`, `Unfit` for the place, then by those of reading (6 to 15), and as `OtherKind` for another suffix.
+///
 /// ```
 /// use sarridok::{integer, Width};
 /// let (value, end) = integer(b"-128", 0, Width::I8)?;
-/// assert_eq!((i128::from(value), end), (-128, 4));
-/// assert_eq!(integer(b"256", 0, Width::U8).unwrap_err().to_string(), "refused 10 at 3: integer out of bounds");
+/// assert_eq!((i8::try_from(value), end), (Ok(-128), 4));
+/// assert_eq!(integer(b"256", 0, Width::U8).unwrap_err().to_string(), "refused 10 at 3: the integer is out of bounds");
 /// # Ok::<(), sarridok::Refused>(())
 /// ```
 pub fn integer(text: &[u8], place: usize, width: Width) -> Result<(Value, usize), Refused> {
     let mut magnitude = 0;
     // Safety: the slice is valid for the call; the number is this function's own.
-    let answer = unsafe { raw::sarridok_integer(text.as_ptr(), text.len(), place, width as u32, &mut magnitude) };
+    let answer = unsafe { raw::sarridok_integer(text.as_ptr(), text.len(), place, width.number(), &mut magnitude) };
     let pair = taken_apart(answer)?;
-    let minus = pair.high == 1;
-    Ok((Value { minus, magnitude }, pair.low))
+    Ok((Value::new(pair.high == 1, magnitude), pair.size()))
 }
 
 /// The bytes inside the string or byte string that an entry names, where nothing in it was escaped.
+///
+/// # Errors
+/// Refused as `TooLong`, `NotUtf8`, `Unfit`, `NotInOrder`, `OtherKind`, then by those of reading the string, and as `HoldsEscape` last.
 ///
 /// ```
 /// let text = br#"["weir", "a\nb"]"#;
 /// let mut tape = [0; 4 * 16];
 /// let count = sarridok::read(text, &mut tape)?;
 /// assert_eq!(sarridok::contents(text, &tape, count, 1)?, b"weir");
-/// assert_eq!(sarridok::contents(text, &tape, count, 3).unwrap_err().number, 29);
+/// assert_eq!(sarridok::contents(text, &tape, count, 3).unwrap_err().refusal, sarridok::Refusal::HoldsEscape);
 /// # Ok::<(), sarridok::Refused>(())
 /// ```
 pub fn contents<'a>(text: &'a [u8], tape: &[u32], count: usize, entry: usize) -> Result<&'a [u8], Refused> {
     // Safety: both slices are valid for the call; nothing is written.
     let answer = unsafe { raw::sarridok_contents(text.as_ptr(), text.len(), tape.as_ptr(), tape.len(), count, entry) };
     let span = taken_apart(answer)?;
-    Ok(&text[span.high..span.low])
+    Ok(&text[span.high as usize..span.size()])
 }
 
 /// The same decoded, in every case: how many bytes stand at the front of `out`; what is behind them stays.
+///
+/// # Errors
+/// Refused as `TooLong`, `NotUtf8`, `Unfit`, `NotInOrder`, `OtherKind`, then by those of reading the string, and as `NoRoom` last.
 ///
 /// ```
 /// let text = br#""\xC3\xA9""#;
@@ -133,10 +160,13 @@ pub fn decoded(text: &[u8], tape: &[u32], count: usize, entry: usize, out: &mut 
             out.len(),
         )
     };
-    Ok(taken_apart(answer)?.low)
+    Ok(taken_apart(answer)?.size())
 }
 
 /// The kind of the struct at a place.
+///
+/// # Errors
+/// Refused as `TooLong`, `NotUtf8`, `Unfit` for the place, then by those of reading.
 ///
 /// ```
 /// use sarridok::{struct_kind, NewtypeMode, StructType, TupleMode};
@@ -146,11 +176,15 @@ pub fn decoded(text: &[u8], tape: &[u32], count: usize, entry: usize, out: &mut 
 /// ```
 pub fn struct_kind(text: &[u8], place: usize, newtype: NewtypeMode, tuple: TupleMode) -> Result<StructType, Refused> {
     // Safety: the slice is valid for the call; nothing is written.
-    let answer = unsafe { raw::sarridok_struct_kind(text.as_ptr(), text.len(), place, newtype as u32, tuple as u32) };
-    Ok(StructType::ALL[taken_apart(answer)?.low])
+    let answer = unsafe { raw::sarridok_struct_kind(text.as_ptr(), text.len(), place, newtype.number(), tuple.number()) };
+    let number = taken_apart(answer)?.low;
+    Ok(StructType::try_from(number).expect("the archive answers a struct type"))
 }
 
 /// Behind the whitespace and comments at a cursor.
+///
+/// # Errors
+/// Refused as `TooLong`, `NotUtf8`, `Unfit` for the cursor, then by 4 to 6.
 ///
 /// ```
 /// use sarridok::{skip, ParserCursor};
@@ -173,7 +207,7 @@ pub fn skip(text: &[u8], cursor: ParserCursor) -> Result<ParserCursor, Refused> 
         )
     };
     Ok(ParserCursor {
-        cursor: taken_apart(answer)?.low,
+        cursor: taken_apart(answer)?.size(),
         pre_ws_cursor: pre as usize,
         last_ws_len: len as usize,
     })

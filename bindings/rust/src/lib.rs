@@ -1,42 +1,68 @@
 //! Sarridok: a proved reader of RON text.
 //!
 //! These are safe functions over the archive of `sarridok_c`, whose every function is proved to answer and to write exactly what one definition says, for all
-//! bytes and all numbers, and to end. This crate passes numbers and slices on and takes the answer apart; it holds no judgement of its own.
-//! Slices of Rust are what the archive asks of its caller: valid, and what is written overlaps nothing else.
+//! bytes and all numbers, and to end. This crate passes numbers and slices on and takes the answer apart. Slices of Rust are what the archive asks of its
+//! caller: valid, and what is written overlaps nothing else.
 //!
-//! Every call takes arbitrary bytes and numbers. What is unfit gets a numbered refusal with a place, and a refused call writes nothing.
+//! Every call takes arbitrary bytes and numbers. What is unfit gets a numbered [`Refusal`] with a place, and a refused call writes nothing.
+//!
+//! A [`Document`] keeps a text, its tape and the number of its entries together:
 //!
 //! ```
-//! use sarridok::{entries, read, walk, Kind};
+//! use sarridok::{Document, Kind, ENTRY, MAX_DEPTH};
 //!
 //! let text = b"Lock(id: 7)";
-//! let mut tape = [0; 4 * 11];
-//! let count = read(text, &mut tape)?;
-//! let kinds: Vec<Kind> = entries(&tape, count).map(|e| e.kind).collect();
+//! let mut tape = [0; ENTRY * 11];
+//! let document = Document::read(text, &mut tape)?;
+//! let kinds: Vec<Kind> = document.entries().map(|entry| entry.kind).collect();
 //! assert_eq!(kinds, [Kind::Name, Kind::OpenParen, Kind::Name, Kind::Colon, Kind::Integer, Kind::CloseParen]);
 //!
 //! let mut links = [0; 6];
-//! walk(&tape, count, 128, &mut links)?;
+//! document.walk(MAX_DEPTH, &mut links)?;
 //! assert_eq!(links, [0, 5, 2, 3, 4, 1]);
 //! # Ok::<(), sarridok::Refused>(())
 //! ```
+//!
+//! Below it stand the calls themselves, by their names: [`read`], [`walk`], [`repair`], [`integer`], [`contents`], [`decoded`], [`struct_kind`] and [`skip`].
+//!
+//! Nothing is allocated, and without the feature `std`, which adds `std::error::Error` for the errors, no standard library is asked for. The archive itself asks
+//! for `memset`, and links only into x86-64 programs.
+#![no_std]
 #![warn(missing_docs)]
+#![deny(unsafe_code)]
+
+#[cfg(any(feature = "std", test))]
+extern crate std;
 
 mod answer;
+#[allow(unsafe_code)]
 mod calls;
+mod document;
+mod entry;
 mod kinds;
+mod numbered;
 mod raw;
-mod refused;
+mod refusal;
+mod value;
 
-pub use calls::{contents, decoded, integer, read, repair, skip, struct_kind, walk};
-pub use kinds::{entries, Entry, Kind, NewtypeMode, ParserCursor, Repaired, StructType, TupleMode, Value, Width};
-pub use refused::Refused;
+pub use calls::{contents, decoded, integer, read, repair, skip, struct_kind, version, walk};
+pub use document::Document;
+pub use entry::{entries, Entries, Entry};
+pub use kinds::{Extension, Kind, NewtypeMode, ParserCursor, Repaired, StructType, TupleMode, Width};
+pub use numbered::UnknownNumber;
+pub use refusal::{Refusal, Refused};
+pub use value::{Value, ValueOutOfRange};
 
-/// The longest text, in bytes; a longer one is refused 1.
+/// The longest text, in bytes; a longer one is refused as [`Refusal::TooLong`].
 pub const MAX_TEXT: usize = 65_536;
 
 /// The highest depth limit of a walk.
 pub const MAX_DEPTH: usize = 128;
 
-/// How many numbers of a tape an entry has: kind, start, end, detail.
+/// How many numbers of a tape an entry has: kind, start, end, detail. Later versions may have more.
 pub const ENTRY: usize = 4;
+
+/// The examples of the README are tests too.
+#[cfg(doctest)]
+#[doc = include_str!("../README.md")]
+mod readme {}

@@ -19,15 +19,19 @@ use Rattle.attributes.specs.declared.extensions.Extension.{Extension}
 use Rattle.attributes.specs.declared.extensions.Named.{Named}
 use Rattle.attributes.specs.declared.extensions.Named.the-variants.{Known, Unknown}
 use Rattle.attributes.specs.declared.list.Item.{Item}
-use Rattle.attributes.specs.declared.list.Item.the-variants.{Last, More, NoComma, NoName, Spoilt}
+use Rattle.attributes.specs.declared.list.Item.the-variants.{Last, More, NoComma, NoName}
+use Rattle.attributes.specs.declared.list.Item.the-variants as items
 use Rattle.attributes.specs.declared.list.Listed.{Listed}
-use Rattle.attributes.specs.declared.list.Listed.the-variants.{Ended, Unlisted}
+use Rattle.attributes.specs.declared.list.Listed.the-variants.{Ended}
+use Rattle.attributes.specs.declared.list.Listed.the-variants as listing
 use Rattle.attributes.specs.declared.list.OtherChar.{OtherChar}
 use Rattle.attributes.specs.declared.list.OtherChar.the-variants.{Ends, Goes}
 use Rattle.attributes.specs.declared.steps.All.{All}
-use Rattle.attributes.specs.declared.steps.All.the-variants.{At, Failed}
+use Rattle.attributes.specs.declared.steps.All.the-variants.{At}
+use Rattle.attributes.specs.declared.steps.All.the-variants as consumed
 use Rattle.attributes.specs.declared.steps.Step.{Step}
-use Rattle.attributes.specs.declared.steps.Step.the-variants.{Bad, On}
+use Rattle.attributes.specs.declared.steps.Step.the-variants.{On}
+use Rattle.attributes.specs.declared.steps.Step.the-variants as step
 use Rattle.attributes.specs.declared.words.Keyword.{Keyword}
 use Rattle.comments.proofs.BlockLaws.{wider}
 use Rattle.comments.proofs.GapLaws.{EndsBy, gap-bounded}
@@ -53,11 +57,11 @@ use Rattle.text.specs.declared.refusal.Refusal.{Refusal}
 -- a step goes forward within the part
 abbrev pub StepIn : List ℕ → ℕ → Step → Type 0
 StepIn s at (On p) = (at ≤ p) × (p ≤ length s)
-StepIn s at (Bad r) = r .place ≤ length s
+StepIn s at (step.Refused r) = r .place ≤ length s
 
 abbrev pub AllIn : List ℕ → ℕ → All → Type 0
 AllIn s at (At all p) = (at ≤ p) × (p ≤ length s)
-AllIn s at (Failed r) = r .place ≤ length s
+AllIn s at (consumed.Refused r) = r .place ≤ length s
 
 gap-in : (s : List ℕ) (at : ℕ) (g : Gap) → at ≤ length s → EndsBy (length (drop at s)) g → StepIn s at (stepBehind at g)
 gap-in s at (Clear n) h e = let d = length-drop at s in (omega arith, omega arith)
@@ -70,11 +74,11 @@ skip-in s at h = gap-in s at (gapOf (drop at s)) h (gap-bounded (drop at s))
 
 step-later : (s : List ℕ) (at at′ : ℕ) (r : Step) → at ≤ at′ → StepIn s at′ r → StepIn s at r
 step-later s at at′ (On p) h i = (omega (arith, i .0), i .1)
-step-later s at at′ (Bad r) h i = i
+step-later s at at′ (step.Refused r) h i = i
 
 all-in : (s : List ℕ) (at : ℕ) (all : Bool) (r : Step) → StepIn s at r → AllIn s at (allAt all r)
 all-in s at all (On p) i = i
-all-in s at all (Bad r) i = i
+all-in s at all (step.Refused r) i = i
 
 pub consume-from-in : (b : ℕ) (s : List ℕ) (all : Bool) (at : ℕ) → 0 < b → at ≤ length s → AllIn s at (consumeFrom b s all at)
 unfolding consumeFrom
@@ -89,13 +93,13 @@ consume-within b s at (At all p) h i = later (consumeFrom b s all p) (consume-fr
   where
     later : (r : All) → AllIn s p r → AllIn s at r
     later (At all q) j = (omega (arith, i .0, j .0), j .1)
-    later (Failed r) j = j
-consume-within b s at (Failed r) h i = i
+    later (consumed.Refused r) j = j
+consume-within b s at (consumed.Refused r) h i = i
 
 sign-at-in : (b : ℕ) (s : List ℕ) (at : ℕ) → 0 < b → at ≤ length s → StepIn s at (signAt b s at)
 unfolding signAt
 sign-at-in b s at p h =
-    cond-cases (StepIn s at) (eqb (getD s at 0) b) (skipFrom s (at + 1)) (Bad (expectedAttribute 0))
+    cond-cases (StepIn s at) (eqb (getD s at 0) b) (skipFrom s (at + 1)) (step.Refused (expectedAttribute 0))
     (λ e. let l = none-here s at b p e in step-later s at (at + 1) (skipFrom s (at + 1)) (omega arith) (skip-in s (at + 1) (omega arith)))
     (λ e. omega arith)
 
@@ -105,7 +109,7 @@ sign-within b s at p h = go (skipFrom s at) (skip-in s at h)
   where
     go : (r : Step) → StepIn s at r → StepIn s at (andThen r (signAt b s))
     go (On q) i = step-later s at q (signAt b s q) (i .0) (sign-at-in b s q p (i .1))
-    go (Bad r) i = i
+    go (step.Refused r) i = i
 
 -- ---- items
 
@@ -115,7 +119,7 @@ ItemIn t (More n e) = (0 < n) × (n ≤ length t)
 ItemIn t (Last n e) = (0 < n) × (n ≤ length t)
 ItemIn t NoName = Unit {0}
 ItemIn t NoComma = Unit {0}
-ItemIn t (Spoilt r) = r .place ≤ length t
+ItemIn t (items.Refused r) = r .place ≤ length t
 
 other-in : (t : List ℕ) (e : Extension) (comma : Bool) (at : ℕ) (r : OtherChar) → otherChar t at ≡ r → 0 < at → at ≤ length t → ItemIn t (byOther r e comma at)
 other-in t e true at Goes q p h = (p, h)
@@ -125,7 +129,7 @@ other-in t e comma at Ends q p h = (p, h)
 comma-in : (t : List ℕ) (e : Extension) (n : ℕ) (r : All) → 0 < n → AllIn t n r → ItemIn t (byComma t e r)
 unfolding itemEnd
 comma-in t e n (At comma at) p i = other-in t e comma at (otherChar t at) refl (omega (arith, i .0)) (i .1)
-comma-in t e n (Failed r) p i = i
+comma-in t e n (consumed.Refused r) p i = i
 
 behind-in : (t : List ℕ) (e : Extension) (n : ℕ) → 0 < n → n ≤ length t → ItemIn t (behindName t e n)
 unfolding behindName
@@ -150,19 +154,19 @@ item-in t = identifier-in t (identifierOf t) (identifier-within t)
 
 abbrev pub ListIn : List ℕ → ℕ → Listed → Type 0
 ListIn s at (Ended p sum) = (at ≤ p) × (p ≤ length s) × (sum < 16)
-ListIn s at (Unlisted r) = r .place ≤ length s
+ListIn s at (listing.Refused r) = r .place ≤ length s
 
 -- the same from bytes t in front of the place `at` of a text that ends at `end`
 abbrev pub EndsIn : ℕ → ℕ → Listed → Type 0
 EndsIn at end (Ended p sum) = (at ≤ p) × (p ≤ end) × (sum < 16)
-EndsIn at end (Unlisted r) = r .place ≤ end
+EndsIn at end (listing.Refused r) = r .place ≤ end
 
 by-item : (t : List ℕ) (r : Item) (on : ℕ → Extension → Listed) (at sum : ℕ) → ItemIn t r → sum < 16 → ((n : ℕ) (e : Extension) → EndsIn at (at + length t) (on n e)) → EndsIn at (at + length t) (byItem r on at sum)
 by-item t (More n e) on at sum i h f = f n e
 by-item t (Last n e) on at sum i h f = (omega arith, omega (arith, i .1), added-small e sum h)
 by-item t NoName on at sum i h f = omega arith
 by-item t NoComma on at sum i h f = omega arith
-by-item t (Spoilt r) on at sum i h f = omega arith
+by-item t (items.Refused r) on at sum i h f = omega arith
 
 pub list-ends : (t : List ℕ) (left at sum : ℕ) → sum < 16 → EndsIn at (at + length t) (listFrom t left at sum)
 unfolding listFrom
@@ -171,14 +175,14 @@ list-ends (a ∷ t) (suc left) at sum h = wider (listFrom t left (at + 1) sum) (
   where
     wider : (r : Listed) → EndsIn (at + 1) (at + 1 + length t) r → EndsIn at (at + length (a ∷ t)) r
     wider (Ended p n) i = (omega (arith, i .0), omega (arith, i .1), i .2)
-    wider (Unlisted r) i = omega arith
+    wider (listing.Refused r) i = omega arith
 list-ends (a ∷ t) zero at sum h =
     by-item (a ∷ t) (itemOf (a ∷ t)) (λ n e. listFrom t (pred n) (at + 1) (addedTo e sum)) at sum (item-in (a ∷ t)) h
     (λ n e. wider (listFrom t (pred n) (at + 1) (addedTo e sum)) (list-ends t (pred n) (at + 1) (addedTo e sum) (added-small e sum h)))
   where
     wider : (r : Listed) → EndsIn (at + 1) (at + 1 + length t) r → EndsIn at (at + length (a ∷ t)) r
     wider (Ended p n) i = (omega (arith, i .0), omega (arith, i .1), i .2)
-    wider (Unlisted r) i = omega arith
+    wider (listing.Refused r) i = omega arith
 
 pub list-in : (s : List ℕ) (at : ℕ) → at ≤ length s → ListIn s at (listOf s at)
 unfolding listOf
@@ -186,7 +190,7 @@ list-in s at h = fit (listFrom (drop at s) 0 at 0) (list-ends (drop at s) 0 at 0
   where
     fit : (r : Listed) → EndsIn at (at + length (drop at s)) r → ListIn s at r
     fit (Ended p sum) i = let d = length-drop at s in (i .0, omega (arith, i .1), i .2)
-    fit (Unlisted r) i = omega (arith, length-drop at s)
+    fit (listing.Refused r) i = omega (arith, length-drop at s)
 
 -- ---- attributes
 
@@ -202,7 +206,7 @@ answer-later s at at′ (Refused r) h i = i
 -- behind a step
 after-step : (s : List ℕ) (at : ℕ) (r : Step) (go : ℕ → AttributeAnswer) → StepIn s at r → ((p : ℕ) → at ≤ p → p ≤ length s → AnswerIn s p (go p)) → AnswerIn s at (answerAt r go)
 after-step s at (On p) go i f = answer-later s at p (go p) (i .0) (f p (i .0) (i .1))
-after-step s at (Bad r) go i f = i
+after-step s at (step.Refused r) go i f = i
 
 end-within : (s : List ℕ) (all : Bool) (at sum : ℕ) → at ≤ length s → sum < 16 → AnswerIn s at (listEnd s all at sum)
 unfolding listEnd noEnd
@@ -220,7 +224,7 @@ close-in s at sum h k = go (consumeFrom 0x29 s true at) (consume-from-in 0x29 s 
   where
     go : (r : All) → AllIn s at r → AnswerIn s at (byBracket s sum r)
     go (At all p) i = answer-later s at p (listEnd s all p sum) (i .0) (end-within s all p sum (i .1) k)
-    go (Failed r) i = i
+    go (consumed.Refused r) i = i
 
 string-in : (s : List ℕ) (at : ℕ) → at ≤ length s → AnswerIn s at (stringFrom s at)
 unfolding stringFrom stringEnd
@@ -241,7 +245,7 @@ enable-in s at h =
   where
     listed : (p : ℕ) (r : Listed) → ListIn s p r → AnswerIn s p (byListed s r)
     listed p (Ended q sum) i = answer-later s p q (closeList s q sum) (i .0) (close-in s q sum (i .1) (i .2))
-    listed p (Unlisted r) i = i
+    listed p (listing.Refused r) i = i
 
 pub value-in : (s : List ℕ) (at : ℕ) → at ≤ length s → AnswerIn s at (stringValueFrom s at)
 unfolding stringValueFrom
@@ -279,4 +283,4 @@ attribute-bounded s = go (openedOf s) (opened-in s)
     go : (r : All) → AllIn s 0 r → Bounded-attribute s (byOpened s r)
     go (At true p) i = fit p (keywordFrom s p) (keyword-in s p (i .1))
     go (At false p) i = omega arith
-    go (Failed r) i = i
+    go (consumed.Refused r) i = i

@@ -26,15 +26,19 @@ use Rattle.attributes.specs.declared.extensions.Extension.{Extension}
 use Rattle.attributes.specs.declared.extensions.Named.{Named}
 use Rattle.attributes.specs.declared.extensions.Named.the-variants.{Known, Unknown}
 use Rattle.attributes.specs.declared.list.Item.{Item}
-use Rattle.attributes.specs.declared.list.Item.the-variants.{Last, More, NoComma, NoName, Spoilt}
+use Rattle.attributes.specs.declared.list.Item.the-variants.{Last, More, NoComma, NoName}
+use Rattle.attributes.specs.declared.list.Item.the-variants as items
 use Rattle.attributes.specs.declared.list.Listed.{Listed}
-use Rattle.attributes.specs.declared.list.Listed.the-variants.{Ended, Unlisted}
+use Rattle.attributes.specs.declared.list.Listed.the-variants.{Ended}
+use Rattle.attributes.specs.declared.list.Listed.the-variants as listing
 use Rattle.attributes.specs.declared.list.OtherChar.{OtherChar}
 use Rattle.attributes.specs.declared.list.OtherChar.the-variants.{Ends, Goes}
 use Rattle.attributes.specs.declared.steps.All.{All}
-use Rattle.attributes.specs.declared.steps.All.the-variants.{At, Failed}
+use Rattle.attributes.specs.declared.steps.All.the-variants.{At}
+use Rattle.attributes.specs.declared.steps.All.the-variants as consumed
 use Rattle.attributes.specs.declared.steps.Step.{Step}
-use Rattle.attributes.specs.declared.steps.Step.the-variants.{Bad, On}
+use Rattle.attributes.specs.declared.steps.Step.the-variants.{On}
+use Rattle.attributes.specs.declared.steps.Step.the-variants as step
 use Rattle.attributes.specs.declared.words.Keyword.{Keyword}
 use Rattle.attributes.specs.declared.words.Keyword.the-variants.{Enable, NoKeyword, Text}
 use Rattle.comments.proofs.GapWindow.{gap-window}
@@ -101,18 +105,18 @@ line-end t n h = omega (arith, line-from t 0 0 n h)
 
 abbrev FineStep : List ℕ → ℕ → Step → Type 0
 FineStep s q (On p) = (p ≤ q) × Good (getD s p 0)
-FineStep s q (Bad r) = ⊥
+FineStep s q (step.Refused r) = ⊥
 
 abbrev FineAll : List ℕ → ℕ → All → Type 0
 FineAll s q (At all p) = (p ≤ q) × Good (getD s p 0)
-FineAll s q (Failed r) = ⊥
+FineAll s q (consumed.Refused r) = ⊥
 
 abbrev FineItem : List ℕ → ℕ → Item → Type 0
 FineItem s q (More n e) = (n ≤ q) × Good (getD s n 0)
 FineItem s q (Last n e) = (n ≤ q) × Good (getD s n 0)
 FineItem s q NoName = ⊥
 FineItem s q NoComma = ⊥
-FineItem s q (Spoilt r) = ⊥
+FineItem s q (items.Refused r) = ⊥
 
 -- an answer that ends with the `]` at q
 abbrev FineAnswer : ℕ → AttributeAnswer → Type 0
@@ -121,7 +125,7 @@ FineAnswer q (Refused r) = ⊥
 
 all-fine : (s : List ℕ) (q : ℕ) (all : Bool) (r : Step) → FineAll s q (allAt all r) → FineStep s q r
 all-fine s q all (On p) f = f
-all-fine s q all (Bad r) f = f
+all-fine s q all (step.Refused r) f = f
 
 gap-before : (s : List ℕ) (q at : ℕ) (g : Gap) → FineStep s q (stepBehind at g) → at ≤ q
 gap-before s q at (Clear n) f = omega (arith, f .0)
@@ -148,7 +152,7 @@ other-fine s q Ends e comma at f = f
 comma-fine : (s : List ℕ) (q : ℕ) (e : Extension) (r : All) → FineItem s q (byComma s e r) → FineAll s q r
 unfolding itemEnd
 comma-fine s q e (At comma at) f = other-fine s q (otherChar s at) e comma at f
-comma-fine s q e (Failed r) f = f
+comma-fine s q e (consumed.Refused r) f = f
 
 -- ---- steps, of a front u with a `]` at q
 
@@ -191,11 +195,11 @@ module _ (u v v′ : List ℕ) (q : ℕ) (inside : q < length u) (is : getD u q 
   -- one sign more, behind what is the same where it is fine
   consumed-same : (b : ℕ) (r r′ : All) → Good b → (FineAll (u ++ v) q r → r′ ≡ r) → FineAll (u ++ v) q (consumeOf b (u ++ v) r) → consumeOf b (u ++ v′) r′ ≡ consumeOf b (u ++ v) r
   consumed-same b (At all at) r′ g h f = ap (consumeOf b (u ++ v′)) (h (sign-fine (u ++ v) q b all at g f)) ∙ consume-same b all at g f
-  consumed-same b (Failed r) r′ g h f = absurd f
+  consumed-same b (consumed.Refused r) r′ g h f = absurd f
 
   consumed-fine : (b : ℕ) (r : All) → Good b → FineAll (u ++ v) q (consumeOf b (u ++ v) r) → FineAll (u ++ v) q r
   consumed-fine b (At all at) g f = sign-fine (u ++ v) q b all at g f
-  consumed-fine b (Failed r) g f = f
+  consumed-fine b (consumed.Refused r) g f = f
 
   sign-at-before : (b at : ℕ) → Good b → FineStep (u ++ v) q (signAt b (u ++ v) at) → FineStep (u ++ v) q (On at) × (signAt b (u ++ v′) at ≡ signAt b (u ++ v) at)
   unfolding signAt
@@ -213,7 +217,7 @@ module _ (u v v′ : List ℕ) (q : ℕ) (inside : q < length u) (is : getD u q 
       go (On p) e f =
           let h = sign-at-before b p g f in
           ap (λ (x : Step). andThen x (signAt b (u ++ v′))) (skip-same at (subst (FineStep (u ++ v) q) (sym e) (h .0)) ∙ e) ∙ h .1
-      go (Bad r) e f = absurd f
+      go (step.Refused r) e f = absurd f
 
   -- ---- items
   other-same : (at : ℕ) → at ≤ q → otherChar (u ++ v′) at ≡ otherChar (u ++ v) at
@@ -224,7 +228,7 @@ module _ (u v v′ : List ℕ) (q : ℕ) (inside : q < length u) (is : getD u q 
   comma-same : (e : Extension) (r : All) → FineAll (u ++ v) q r → byComma (u ++ v′) e r ≡ byComma (u ++ v) e r
   unfolding itemEnd
   comma-same e (At comma at) f = ap (λ (x : OtherChar). byOther x e comma at) (other-same at (f .0))
-  comma-same e (Failed r) f = absurd f
+  comma-same e (consumed.Refused r) f = absurd f
 
   behind-same : (e : Extension) (n : ℕ) → FineItem (u ++ v) q (behindName (u ++ v) e n) → (n ≤ q) × (behindName (u ++ v′) e n ≡ behindName (u ++ v) e n)
   unfolding behindName
@@ -259,7 +263,7 @@ GoodItem t (More n e) = Good (getD t 0 0)
 GoodItem t (Last n e) = Good (getD t 0 0)
 GoodItem t NoName = Unit {0}
 GoodItem t NoComma = Unit {0}
-GoodItem t (Spoilt r) = Unit {0}
+GoodItem t (items.Refused r) = Unit {0}
 
 other-good : (t : List ℕ) (r : OtherChar) (e : Extension) (comma : Bool) (at : ℕ) → otherChar t at ≡ r → Good (getD t 0 0) → GoodItem t (byOther r e comma at)
 other-good t Goes e true at q g = g
@@ -269,7 +273,7 @@ other-good t Ends e comma at q g = g
 comma-good : (t : List ℕ) (e : Extension) (r : All) → Good (getD t 0 0) → GoodItem t (byComma t e r)
 unfolding itemEnd
 comma-good t e (At comma at) g = other-good t (otherChar t at) e comma at refl g
-comma-good t e (Failed r) g = tt
+comma-good t e (consumed.Refused r) g = tt
 
 named-good : (t : List ℕ) (n : ℕ) (r : Named) → Good (getD t 0 0) → GoodItem t (byExtensionName t n r)
 unfolding behindName
@@ -294,18 +298,18 @@ item-good t = identifier-item t (identifierOf t) (identifier-good t)
 -- the list from the place `at`, whose bytes are s, ends at a good byte of s, not behind q
 abbrev FineList : List ℕ → ℕ → ℕ → Listed → Type 0
 FineList s q at (Ended p sum) = (p ≤ at + q) × Good (getD s (p - at) 0)
-FineList s q at (Unlisted r) = ⊥
+FineList s q at (listing.Refused r) = ⊥
 
 list-before : (r : Listed) (s : List ℕ) (q at at′ end : ℕ) → EndsIn at′ end r → FineList s q at r → at′ ≤ at + q
 list-before (Ended p sum) s q at at′ end i f = omega (arith, i .0, f .0)
-list-before (Unlisted r) s q at at′ end i f = absurd f
+list-before (listing.Refused r) s q at at′ end i f = absurd f
 
 fine-behind : (r : Listed) (s : List ℕ) (q at n end : ℕ) → n ≤ q → EndsIn (at + n) end r → FineList s q at r → FineList (drop n s) (q - n) (at + n) r
 fine-behind (Ended p sum) s q at n end h i f =
     let k : n + (p - (at + n)) ≡ p - at = omega (arith, i .0) in
     let b : getD (drop n s) (p - (at + n)) 0 ≡ getD s (p - at) 0 = getD-drop n s (p - (at + n)) 0 ∙ ap (λ (x : ℕ). getD s x 0) k in
     (omega (arith, f .0), good-by (getD (drop n s) (p - (at + n)) 0) (getD s (p - at) 0) b (f .1 .0) (f .1 .1))
-fine-behind (Unlisted r) s q at n end h i f = absurd f
+fine-behind (listing.Refused r) s q at n end h i f = absurd f
 
 list-by : (a : ℕ) (t : List ℕ) (at sum : ℕ) (r : Item) → itemOf (a ∷ t) ≡ r → listFrom (a ∷ t) 0 at sum ≡ byItem r (λ n e. listFrom t (pred n) (at + 1) (addedTo e sum)) at sum
 unfolding listFrom
@@ -347,7 +351,7 @@ by-item-same a u v v′ q at sum inside is rest small (Last n e) i b g f =
     (g, list-by a (u ++ v′) at sum (Last n e) (item-same (a ∷ u) v v′ q inside is (subst (FineItem s q) (sym i) fine) ∙ i) ∙ sym m)
 by-item-same a u v v′ q at sum inside is rest small NoName i b g f = absurd (subst (FineList (a ∷ u ++ v) q at) (list-by a (u ++ v) at sum NoName i) f)
 by-item-same a u v v′ q at sum inside is rest small NoComma i b g f = absurd (subst (FineList (a ∷ u ++ v) q at) (list-by a (u ++ v) at sum NoComma i) f)
-by-item-same a u v v′ q at sum inside is rest small (Spoilt r) i b g f = absurd (subst (FineList (a ∷ u ++ v) q at) (list-by a (u ++ v) at sum (Spoilt r) i) f)
+by-item-same a u v v′ q at sum inside is rest small (items.Refused r) i b g f = absurd (subst (FineList (a ∷ u ++ v) q at) (list-by a (u ++ v) at sum (items.Refused r) i) f)
 
 list-fuel : (fuel : ℕ) (u v v′ : List ℕ) (q at sum : ℕ) → length u ≤ fuel → q < length u → getD u q 0 ≡ 0x5d → sum < 16
     → FineList (u ++ v) q at (listFrom (u ++ v) 0 at sum) → Good (getD u 0 0) × (listFrom (u ++ v′) 0 at sum ≡ listFrom (u ++ v) 0 at sum)
@@ -379,7 +383,7 @@ module _ (u v v′ : List ℕ) (q : ℕ) (inside : q < length u) (is : getD u q 
     where
       never : (r : Step) → FineAnswer q (answerAt r (λ p. Refused (expectedAttributeEnd 0))) → ⊥
       never (On p) f = f
-      never (Bad r) f = f
+      never (step.Refused r) f = f
 
   close-same : (at sum : ℕ) → FineAnswer q (closeList (u ++ v) at sum) → FineStep (u ++ v) q (On at) × (closeList (u ++ v′) at sum ≡ closeList (u ++ v) at sum)
   unfolding closeList
@@ -393,7 +397,7 @@ module _ (u v v′ : List ℕ) (q : ℕ) (inside : q < length u) (is : getD u q 
             sign-fine (u ++ v) q 0x29 true at (omega arith, refl) fine,
             ap (byBracket (u ++ v′) sum) (consume-same u v v′ q inside is 0x29 true at (omega arith, refl) fine ∙ e) ∙ h .1,
           )
-      go (Failed r) e f = absurd f
+      go (consumed.Refused r) e f = absurd f
 
   string-end-same : (at : ℕ) → FineAnswer q (stringEnd (u ++ v) at) → (at ≤ q) × (stringEnd (u ++ v′) at ≡ stringEnd (u ++ v) at)
   unfolding stringEnd
@@ -405,7 +409,7 @@ module _ (u v v′ : List ℕ) (q : ℕ) (inside : q < length u) (is : getD u q 
           let h = end-same true p 0 f in
           let fine : FineStep (u ++ v) q (skipFrom (u ++ v) at) = subst (FineStep (u ++ v) q) (sym e) (h .0) in
           (skip-before (u ++ v) q at fine, ap (λ (x : Step). answerAt x (λ p. listEnd (u ++ v′) true p 0)) (skip-same u v v′ q inside is at fine ∙ e) ∙ h .1)
-      go (Bad r) e f = absurd f
+      go (step.Refused r) e f = absurd f
 
   string-same : (at : ℕ) → FineAnswer q (stringFrom (u ++ v) at) → FineStep (u ++ v) q (On at) × (stringFrom (u ++ v′) at ≡ stringFrom (u ++ v) at)
   unfolding stringFrom
@@ -447,7 +451,7 @@ module _ (u v v′ : List ℕ) (q : ℕ) (inside : q < length u) (is : getD u q 
             (l, good-by (getD (u ++ v) at 0) (getD (drop at u) 0 0) c (s .0 .0) (s .0 .1)),
             ap (byListed (u ++ v′)) (ap (λ (x : List ℕ). listFrom x 0 at 0) d′ ∙ s .1 ∙ e2) ∙ h .1,
           )
-      go (Unlisted r) e i f = absurd f
+      go (listing.Refused r) e i f = absurd f
 
   -- behind a sign
   after-sign : (b at : ℕ) (go go′ : ℕ → AttributeAnswer) → Good b → at ≤ length (u ++ v) → 0 < b
@@ -459,7 +463,7 @@ module _ (u v v′ : List ℕ) (q : ℕ) (inside : q < length u) (is : getD u q 
       by-step (On p) e i f =
           let h = same p (i .1) f in
           ap (λ (x : Step). answerAt x go′) (sign-same u v v′ q inside is b at g (subst (FineStep (u ++ v) q) (sym e) (h .0)) ∙ e) ∙ h .1
-      by-step (Bad r) e i f = absurd f
+      by-step (step.Refused r) e i f = absurd f
 
   enable-same : (at : ℕ) → at ≤ length (u ++ v) → FineAnswer q (enableFrom (u ++ v) at) → enableFrom (u ++ v′) at ≡ enableFrom (u ++ v) at
   unfolding enableFrom
@@ -527,7 +531,7 @@ module _ (u v v′ : List ℕ) (q : ℕ) (inside : q < length u) (is : getD u q 
           let h = keyword-same p (i .1) f in
           ap (byOpened (u ++ v′)) (opened-same (subst (FineAll (u ++ v) q) (sym e) (h .0)) ∙ e) ∙ h .1
       go (At false p) e i f = absurd f
-      go (Failed r) e i f = absurd f
+      go (consumed.Refused r) e i f = absurd f
 
 -- ---- the last byte of an attribute is its `]`
 
@@ -544,11 +548,11 @@ end-last s all at sum =
   where
     none : (r : Step) → LastBracket s (answerAt r (λ p. Refused (expectedAttributeEnd 0)))
     none (On p) = tt
-    none (Bad r) = tt
+    none (step.Refused r) = tt
 
 step-last : (s : List ℕ) (r : Step) (go : ℕ → AttributeAnswer) → ((p : ℕ) → LastBracket s (go p)) → LastBracket s (answerAt r go)
 step-last s (On p) go f = f p
-step-last s (Bad r) go f = tt
+step-last s (step.Refused r) go f = tt
 
 listed-last : (s : List ℕ) (r : Listed) → LastBracket s (byListed s r)
 unfolding closeList
@@ -556,8 +560,8 @@ listed-last s (Ended p sum) = by-bracket (consumeFrom 0x29 s true p)
   where
     by-bracket : (r : All) → LastBracket s (byBracket s sum r)
     by-bracket (At all at) = end-last s all at sum
-    by-bracket (Failed r) = tt
-listed-last s (Unlisted r) = tt
+    by-bracket (consumed.Refused r) = tt
+listed-last s (listing.Refused r) = tt
 
 string-last : (s : List ℕ) (at : ℕ) (a : LiteralAnswer) → LastBracket s (byString s at a)
 unfolding stringEnd
@@ -577,7 +581,7 @@ attribute-last s = by-opened (openedOf s)
     by-opened : (r : All) → LastBracket s (byOpened s r)
     by-opened (At true p) = keyword-last s (keywordAt s p)
     by-opened (At false p) = tt
-    by-opened (Failed r) = tt
+    by-opened (consumed.Refused r) = tt
 
 -- ---- accepted attributes
 

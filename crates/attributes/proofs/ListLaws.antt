@@ -14,7 +14,7 @@ use Rattle.attributes.specs.Steps.{allAt, consumeOf, skipFrom}
 use Rattle.attributes.specs.declared.extensions.Extension.{Extension}
 use Rattle.attributes.specs.declared.list.Item.{Item}
 use Rattle.attributes.specs.declared.list.Item.the-variants.{More}
-use Rattle.attributes.specs.declared.list.Listed.the-variants.{Unlisted}
+use Rattle.attributes.specs.declared.list.Listed.the-variants.{Refused}
 use Rattle.attributes.specs.declared.list.OtherChar.{OtherChar}
 use Rattle.attributes.specs.declared.list.OtherChar.the-variants.{Ends}
 use Rattle.attributes.specs.declared.steps.All.{All}
@@ -89,7 +89,7 @@ module _ (s : List ℕ) (at sum : ℕ) where
       ∙ list-step (getD s at 0) (drop (at + 1) s) at sum
       ∙ ap (λ (x : Item). byItem x (λ n e. listFrom (drop (at + 1) s) (pred n) (at + 1) (addedTo e sum)) at sum) (ap itemOf (sym f) ∙ e)
 
-  pub list-out : length s ≤ at → listFrom (drop at s) 0 at sum ≡ Unlisted (eof at)
+  pub list-out : length s ≤ at → listFrom (drop at s) 0 at sum ≡ Refused (eof at)
   unfolding listFrom
   list-out h = rw (drop-of-length-le s h)
 

@@ -18,7 +18,8 @@ use Rattle.attributes.specs.declared.extensions.Extension.the-variants.{
 use Rattle.attributes.specs.declared.steps.All.{All}
 use Rattle.attributes.specs.declared.steps.All.the-variants.{At}
 use Rattle.attributes.specs.declared.steps.Step.{Step}
-use Rattle.attributes.specs.declared.steps.Step.the-variants.{Bad, On}
+use Rattle.attributes.specs.declared.steps.Step.the-variants.{On}
+use Rattle.attributes.specs.declared.steps.Step.the-variants as step
 use Rattle.attributes.specs.declared.words.Keyword.the-variants.{Enable, NoKeyword, Text}
 use Rattle.comments.proofs.GapLaws.{EndsBy, gap-bounded}
 use Rattle.comments.specs.Gaps.{gapFrom, gapOf}
@@ -71,7 +72,7 @@ module _ (s : List ℕ) (at b x : ℕ) (e : x ≡ getD s at 0) where
   unfolding consumeFrom
   consume-in all r q d = rw (present q) (ap (allAt all) d)
 
-  pub sign-out : (x ≡ b → ⊥) → Bad (expectedAttribute 0) ≡ signAt b s at
+  pub sign-out : (x ≡ b → ⊥) → step.Refused (expectedAttribute 0) ≡ signAt b s at
   unfolding signAt
   sign-out n = rw (absent n)
 

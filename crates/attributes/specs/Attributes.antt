@@ -9,18 +9,20 @@ use Rattle.attributes.specs.Words.{keywordAt}
 use Rattle.attributes.specs.List.{listOf}
 use Rattle.attributes.specs.Close.{answerAt, closeList, stringFrom}
 use Rattle.attributes.specs.declared.steps.All.{All}
-use Rattle.attributes.specs.declared.steps.All.the-variants.{At, Failed}
+use Rattle.attributes.specs.declared.steps.All.the-variants.{At}
+use Rattle.attributes.specs.declared.steps.All.the-variants as consumed
 use Rattle.attributes.specs.declared.words.Keyword.{Keyword}
 use Rattle.attributes.specs.declared.words.Keyword.the-variants.{Enable, Text, NoKeyword}
 use Rattle.attributes.specs.declared.list.Listed.{Listed}
-use Rattle.attributes.specs.declared.list.Listed.the-variants.{Ended, Unlisted}
+use Rattle.attributes.specs.declared.list.Listed.the-variants.{Ended}
+use Rattle.attributes.specs.declared.list.Listed.the-variants as listing
 use Rattle.attributes.specs.declared.AttributeAnswer.{AttributeAnswer}
 use Rattle.attributes.specs.declared.AttributeAnswer.the-variants.{Read, Refused}
 
 -- The answer by the list of extensions.
 abbrev pub byListed : List ℕ → Listed → AttributeAnswer
 byListed s (Ended at sum) = closeList s at sum
-byListed s (Unlisted r) = Refused r
+byListed s (listing.Refused r) = Refused r
 
 -- Behind `enable`: the list in its brackets.
 unfoldable pub enableFrom : List ℕ → ℕ → AttributeAnswer
@@ -43,7 +45,7 @@ keywordFrom s at = byKeyword s (keywordAt s at)
 -- The answer by the three signs in front.
 abbrev pub byOpened : List ℕ → All → AttributeAnswer
 byOpened s (At all at) = cond all (keywordFrom s at) (Refused (expectedAttribute 0))
-byOpened s (Failed r) = Refused r
+byOpened s (consumed.Refused r) = Refused r
 
 -- `#`, `!` and `[`, whitespace behind each.
 unfoldable pub openedOf : List ℕ → All

@@ -10,16 +10,18 @@ use Rattle.strings.specs.declared.literal.LiteralAnswer.{LiteralAnswer}
 use Rattle.strings.specs.declared.literal.LiteralAnswer.the-variants.{Read as ReadString, Refused as NoString}
 use Rattle.attributes.specs.Steps.{skipFrom, consumeFrom}
 use Rattle.attributes.specs.declared.steps.Step.{Step}
-use Rattle.attributes.specs.declared.steps.Step.the-variants.{On, Bad}
+use Rattle.attributes.specs.declared.steps.Step.the-variants.{On}
+use Rattle.attributes.specs.declared.steps.Step.the-variants as step
 use Rattle.attributes.specs.declared.steps.All.{All}
-use Rattle.attributes.specs.declared.steps.All.the-variants.{At, Failed}
+use Rattle.attributes.specs.declared.steps.All.the-variants.{At}
+use Rattle.attributes.specs.declared.steps.All.the-variants as consumed
 use Rattle.attributes.specs.declared.AttributeAnswer.{AttributeAnswer}
 use Rattle.attributes.specs.declared.AttributeAnswer.the-variants.{Read, Refused}
 
 -- What follows a step that went on.
 abbrev pub answerAt : Step → (ℕ → AttributeAnswer) → AttributeAnswer
 answerAt (On p) go = go p
-answerAt (Bad r) go = Refused r
+answerAt (step.Refused r) go = Refused r
 
 -- Behind a `]` that no `)` stands before: 20, but what the whitespace there is refused for comes first.
 unfoldable pub noEnd : List ℕ → ℕ → AttributeAnswer
@@ -32,7 +34,7 @@ listEnd s all at sum = cond (eqb (getD s at 0) 0x5d) (cond all (Read (at + 1) su
 -- The answer by the `)`.
 abbrev pub byBracket : List ℕ → ℕ → All → AttributeAnswer
 byBracket s sum (At all at) = listEnd s all at sum
-byBracket s sum (Failed r) = Refused r
+byBracket s sum (consumed.Refused r) = Refused r
 
 -- Behind the list of extensions: `)` and `]`.
 unfoldable pub closeList : List ℕ → ℕ → ℕ → AttributeAnswer

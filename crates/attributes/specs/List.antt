@@ -11,16 +11,19 @@ use Rattle.names.specs.declared.Identifier.the-variants.{Missing, Name, RawName
 use Rattle.attributes.specs.Steps.{skipFrom, allAt, consumeOf}
 use Rattle.attributes.specs.Extensions.{extensionOf, addedTo}
 use Rattle.attributes.specs.declared.steps.All.{All}
-use Rattle.attributes.specs.declared.steps.All.the-variants.{At, Failed}
+use Rattle.attributes.specs.declared.steps.All.the-variants.{At}
+use Rattle.attributes.specs.declared.steps.All.the-variants as consumed
 use Rattle.attributes.specs.declared.extensions.Extension.{Extension}
 use Rattle.attributes.specs.declared.extensions.Named.{Named}
 use Rattle.attributes.specs.declared.extensions.Named.the-variants.{Known, Unknown}
 use Rattle.attributes.specs.declared.list.OtherChar.{OtherChar}
 use Rattle.attributes.specs.declared.list.OtherChar.the-variants.{Goes, Ends}
 use Rattle.attributes.specs.declared.list.Item.{Item}
-use Rattle.attributes.specs.declared.list.Item.the-variants.{More, Last, NoName, NoComma, Spoilt}
+use Rattle.attributes.specs.declared.list.Item.the-variants.{More, Last, NoName, NoComma}
+use Rattle.attributes.specs.declared.list.Item.the-variants as items
 use Rattle.attributes.specs.declared.list.Listed.{Listed}
-use Rattle.attributes.specs.declared.list.Listed.the-variants.{Ended, Unlisted}
+use Rattle.attributes.specs.declared.list.Listed.the-variants.{Ended}
+use Rattle.attributes.specs.declared.list.Listed.the-variants as listing
 
 -- Whether a name's character stands at a place.
 unfoldable pub otherChar : List ℕ → ℕ → OtherChar
@@ -38,7 +41,7 @@ itemEnd t e comma at = byOther (otherChar t at) e comma at
 -- The answer by the comma.
 abbrev pub byComma : List ℕ → Extension → All → Item
 byComma t e (At comma at) = itemEnd t e comma at
-byComma t e (Failed r) = Spoilt r
+byComma t e (consumed.Refused r) = items.Refused r
 
 -- Behind the n bytes of an extension's name: whitespace, a comma and whitespace.
 unfoldable pub behindName : List ℕ → Extension → ℕ → Item
@@ -63,13 +66,13 @@ itemOf t = byListName t (identifierOf t)
 abbrev pub byItem : Item → (ℕ → Extension → Listed) → ℕ → ℕ → Listed
 byItem (More n e) on at sum = on n e
 byItem (Last n e) on at sum = Ended (at + n) (addedTo e sum)
-byItem NoName on at sum = Unlisted (noSuchExtension 0)
-byItem NoComma on at sum = Unlisted (expectedAttributeEnd 0)
-byItem (Spoilt r) on at sum = Unlisted (placedBehind at r)
+byItem NoName on at sum = listing.Refused (noSuchExtension 0)
+byItem NoComma on at sum = listing.Refused (expectedAttributeEnd 0)
+byItem (items.Refused r) on at sum = listing.Refused (placedBehind at r)
 
 -- The list from the place `at`, with the bytes t in front, of which the first `left` belong to an item already judged, behind extensions of the sum.
 unfoldable pub listFrom : List ℕ → ℕ → ℕ → ℕ → Listed
-listFrom [] left at sum = Unlisted (eof at)
+listFrom [] left at sum = listing.Refused (eof at)
 listFrom (a ∷ t) (suc left) at sum = listFrom t left (at + 1) sum
 listFrom (a ∷ t) zero at sum = byItem (itemOf (a ∷ t)) (λ n e. listFrom t (pred n) (at + 1) (addedTo e sum)) at sum
 

@@ -17,7 +17,7 @@ fn no_end(s: &[u8], at: usize) -> AttributeAnswer
     let behind = steps::skip_ws(s, at);
     match behind {
         Step::On(_) => AttributeAnswer::Refused(Refusal::expected_attribute_end(0)),
-        Step::Bad(r) => AttributeAnswer::Refused(r),
+        Step::Refused(r) => AttributeAnswer::Refused(r),
     }
 }
 
@@ -42,7 +42,7 @@ pub fn close_list(s: &[u8], at: usize, extensions: u32) -> AttributeAnswer
     let bracket = steps::consume(s, b')', All::At(true, at));
     match bracket {
         All::At(all, place) => list_end(s, all, place, extensions),
-        All::Failed(r) => AttributeAnswer::Refused(r),
+        All::Refused(r) => AttributeAnswer::Refused(r),
     }
 }
 
@@ -53,7 +53,7 @@ fn string_end(s: &[u8], at: usize) -> AttributeAnswer
     let behind = steps::skip_ws(s, at);
     match behind {
         Step::On(place) => list_end(s, true, place, 0),
-        Step::Bad(r) => AttributeAnswer::Refused(r),
+        Step::Refused(r) => AttributeAnswer::Refused(r),
     }
 }
 

@@ -4,6 +4,7 @@ ghost use mathlib.Core.Path.{_≡_};
 ghost use Prim.Native.Nat.{_<_};
 ghost use Rattle.attributes.specs.Extensions.{isWord, extensionOf, addsOf, addedTo};
 
+// What `enable` takes.
 pub enum Extension {
     UnwrapNewtypes,
     ImplicitSome,
@@ -11,6 +12,7 @@ pub enum Extension {
     ExplicitStructNames,
 }
 
+// What a name in the list names.
 pub enum Named {
     Known(Extension),
     Unknown,
@@ -45,6 +47,7 @@ pub fn from_ident(t: &[u8], n: usize) -> Named
     Named::Unknown
 }
 
+// What an extension adds to the sum.
 fn value(e: Extension) -> u32
     ensures { λ r. ⌜ r ≡ addsOf e ⌝ }
 {

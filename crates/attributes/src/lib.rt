@@ -30,10 +30,10 @@ fn enable(s: &[u8], at: usize) -> AttributeAnswer
             let listed = list::extension_list(s, start);
             match listed {
                 Listed::Ended(end, extensions) => close::close_list(s, end, extensions),
-                Listed::Unlisted(r) => AttributeAnswer::Refused(r),
+                Listed::Refused(r) => AttributeAnswer::Refused(r),
             }
         }
-        Step::Bad(r) => AttributeAnswer::Refused(r),
+        Step::Refused(r) => AttributeAnswer::Refused(r),
     }
 }
 
@@ -44,7 +44,7 @@ fn value(s: &[u8], at: usize) -> AttributeAnswer
     let given = steps::sign(s, b'=', at);
     match given {
         Step::On(start) => close::string_value(s, start),
-        Step::Bad(r) => AttributeAnswer::Refused(r),
+        Step::Refused(r) => AttributeAnswer::Refused(r),
     }
 }
 
@@ -74,6 +74,6 @@ pub fn attribute(s: &[u8]) -> AttributeAnswer
             }
             AttributeAnswer::Refused(Refusal::expected_attribute(0))
         }
-        All::Failed(r) => AttributeAnswer::Refused(r),
+        All::Refused(r) => AttributeAnswer::Refused(r),
     }
 }

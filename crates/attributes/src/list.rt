@@ -29,15 +29,16 @@ pub enum Item {
     NoName,
     // Refusal 20.
     NoComma,
-    Spoilt(Refusal),
+    Refused(Refusal),
 }
 
 // The place behind the list and the sum of its extensions.
 pub enum Listed {
     Ended(usize, u32),
-    Unlisted(Refusal),
+    Refused(Refusal),
 }
 
+// A name's character at a place of the part, where the crate begins the next extension.
 fn check_other_char(t: &[u8], at: usize) -> OtherChar
     ensures { λ r. ⌜ r ≡ otherChar (now (t .entry)) at ⌝ }
 {
@@ -75,10 +76,11 @@ fn behind_name(t: &[u8], e: Extension, n: usize) -> Item
     let comma = steps::consume(t, b',', so_far);
     match comma {
         All::At(found, at) => item_end(t, e, found, at),
-        All::Failed(r) => Item::Spoilt(r),
+        All::Refused(r) => Item::Refused(r),
     }
 }
 
+// A name of n bytes, which may be an extension's.
 fn by_named(t: &[u8], n: usize, named: Named) -> Item
     ensures { λ r. ⌜ r ≡ byExtensionName (now (t .entry)) n named ⌝ }
 {
@@ -121,15 +123,15 @@ pub fn extension_list(s: &[u8], start: usize) -> Listed
                 return Listed::Ended(end, extensions::add(e, extensions));
             }
             Item::NoName => {
-                return Listed::Unlisted(Refusal::no_such_extension(0));
+                return Listed::Refused(Refusal::no_such_extension(0));
             }
             Item::NoComma => {
-                return Listed::Unlisted(Refusal::expected_attribute_end(0));
+                return Listed::Refused(Refusal::expected_attribute_end(0));
             }
-            Item::Spoilt(r) => {
-                return Listed::Unlisted(placed_behind(r, at));
+            Item::Refused(r) => {
+                return Listed::Refused(placed_behind(r, at));
             }
         }
     }
-    Listed::Unlisted(Refusal::eof(at))
+    Listed::Refused(Refusal::eof(at))
 }

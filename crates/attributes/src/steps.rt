@@ -12,13 +12,13 @@ ghost use Rattle.attributes.specs.Steps.{skipFrom, allAt, consumeFrom, c
 // The place where the next thing begins, or a refusal.
 pub enum Step {
     On(usize),
-    Bad(Refusal),
+    Refused(Refusal),
 }
 
 // How far `consume_all` has come, and whether it has found all so far: it goes on where a sign is missing.
 pub enum All {
     At(bool, usize),
-    Failed(Refusal),
+    Refused(Refusal),
 }
 
 // Behind whitespace and comments.
@@ -38,7 +38,7 @@ pub fn skip_ws(s: &[u8], at: usize) -> Step
             let end = at + n;
             Step::On(end)
         }
-        Gap::Refused(r) => Step::Bad(placed_behind(r, at)),
+        Gap::Refused(r) => Step::Refused(placed_behind(r, at)),
     }
 }
 
@@ -48,10 +48,11 @@ pub fn all_at(step: Step) -> All
 {
     match step {
         Step::On(place) => All::At(true, place),
-        Step::Bad(r) => All::Failed(r),
+        Step::Refused(r) => All::Refused(r),
     }
 }
 
+// One sign of `consume_all` at a place, and the whitespace behind it.
 fn consume_at(s: &[u8], b: u8, all: bool, at: usize) -> All
     requires { ⌜ 0 < b ⌝ }
     ensures { λ r. ⌜ r ≡ consumeFrom b (now (s .entry)) all at ⌝ }
@@ -63,7 +64,7 @@ fn consume_at(s: &[u8], b: u8, all: bool, at: usize) -> All
     let behind = skip_ws(s, next);
     match behind {
         Step::On(place) => All::At(all, place),
-        Step::Bad(r) => All::Failed(r),
+        Step::Refused(r) => All::Refused(r),
     }
 }
 
@@ -74,16 +75,17 @@ pub fn consume(s: &[u8], b: u8, done: All) -> All
 {
     match done {
         All::At(all, at) => consume_at(s, b, all, at),
-        All::Failed(r) => All::Failed(r),
+        All::Refused(r) => All::Refused(r),
     }
 }
 
+// A sign that has to stand at a place, and the whitespace behind it.
 fn sign_at(s: &[u8], b: u8, at: usize) -> Step
     requires { ⌜ 0 < b ⌝ }
     ensures { λ r. ⌜ r ≡ signAt b (now (s .entry)) at ⌝ }
 {
     if peek(s, at) != b {
-        return Step::Bad(Refusal::expected_attribute(0));
+        return Step::Refused(Refusal::expected_attribute(0));
     }
     let next = at + 1;
     skip_ws(s, next)
@@ -97,6 +99,6 @@ pub fn sign(s: &[u8], b: u8, at: usize) -> Step
     let behind = skip_ws(s, at);
     match behind {
         Step::On(place) => sign_at(s, b, place),
-        Step::Bad(r) => Step::Bad(r),
+        Step::Refused(r) => Step::Refused(r),
     }
 }

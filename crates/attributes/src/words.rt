@@ -13,31 +13,31 @@ pub enum Keyword {
     NoKeyword,
 }
 
-// Which word the part begins with: 1 for `enable`, 2 for the others.
+// What a word says.
+const ENABLE: u8 = 1;
+
+const TEXT: u8 = 2;
+
+// Which word the part begins with.
 fn word_of(t: &[u8]) -> Found
     ensures { λ r. ⌜ r ≡ keywordOf (now (t .entry)) ⌝ }
 {
-    let enable = check_ident(t, b"enable");
-    if enable != 0 {
+    if check_ident(t, b"enable") {
         return Found {
-            code: 1,
-            end: enable,
+            code: ENABLE,
+            end: 6,
         };
     }
-    let kind = check_ident(t, b"type");
-    if kind != 0 {
-        return Found { code: 2, end: kind };
+    if check_ident(t, b"type") {
+        return Found { code: TEXT, end: 4 };
     }
-    let schema = check_ident(t, b"schema");
-    if schema != 0 {
-        return Found {
-            code: 2,
-            end: schema,
-        };
+    if check_ident(t, b"schema") {
+        return Found { code: TEXT, end: 6 };
     }
     nothing()
 }
 
+// The word at a place.
 pub fn keyword_at(s: &[u8], at: usize) -> Keyword
     ensures { λ r. ⌜ r ≡ keywordAt (now (s .entry)) at ⌝ }
 {
@@ -49,7 +49,7 @@ pub fn keyword_at(s: &[u8], at: usize) -> Keyword
         return Keyword::NoKeyword;
     }
     let behind = at + word.end;
-    if word.code == 1 {
+    if word.code == ENABLE {
         return Keyword::Enable(behind);
     }
     Keyword::Text(behind)

@@ -11,6 +11,7 @@ use words::list::Count;
 use words::number;
 use words::number::Decimal;
 
+// What is asked; or the line is no case.
 enum Said {
     Asks(Asked),
     Bad,
@@ -40,6 +41,7 @@ fn front(words: &[u8]) -> Said
     })
 }
 
+// Text, tape and buffer are lent for the words; answers the place behind what it put out, `bad` where the line is no case.
 pub fn answer(
     words: &[u8],
     text: &mut [u8],
@@ -48,7 +50,11 @@ pub fn answer(
     o: &mut [u8],
     at: usize,
 ) -> usize
-    ensures { λ r. ⌜ ((now (o .exit), r) ≡ put (now (o .entry), at) (anyLine (now (words .entry)) (now (text .entry)) (now (tape .entry)) (now (spare .entry)) .0)) × (now (text .exit) ≡ anyLine (now (words .entry)) (now (text .entry)) (now (tape .entry)) (now (spare .entry)) .1) × (now (tape .exit) ≡ anyLine (now (words .entry)) (now (text .entry)) (now (tape .entry)) (now (spare .entry)) .2) × (now (spare .exit) ≡ anyLine (now (words .entry)) (now (text .entry)) (now (tape .entry)) (now (spare .entry)) .3) ⌝ }
+    ensures { λ r. ⌜ ((now (o .exit), r) ≡ put (now (o .entry), at)
+        (anyLine (now (words .entry)) (now (text .entry)) (now (tape .entry)) (now (spare .entry)) .0))
+        × (now (text .exit) ≡ anyLine (now (words .entry)) (now (text .entry)) (now (tape .entry)) (now (spare .entry)) .1)
+        × (now (tape .exit) ≡ anyLine (now (words .entry)) (now (text .entry)) (now (tape .entry)) (now (spare .entry)) .2)
+        × (now (spare .exit) ≡ anyLine (now (words .entry)) (now (text .entry)) (now (tape .entry)) (now (spare .entry)) .3) ⌝ }
 {
     let asked = front(words);
     let Said::Asks(q) = asked else {

@@ -9,8 +9,11 @@ use words::hex::Hex;
 use words::small;
 use words::small::Small;
 
+// The tape has this one entry; the buffer is as long as the text can need.
 pub fn answer(words: &[u8], text: &mut [u8], spare: &mut [u8], o: &mut [u8], at: usize) -> usize
-    ensures { λ r. ⌜ ((now (o .exit), r) ≡ put (now (o .entry), at) (contentsLine (now (words .entry)) (now (text .entry)) (now (spare .entry)) .0)) × (now (text .exit) ≡ contentsLine (now (words .entry)) (now (text .entry)) (now (spare .entry)) .1) × (now (spare .exit) ≡ contentsLine (now (words .entry)) (now (text .entry)) (now (spare .entry)) .2) ⌝ }
+    ensures { λ r. ⌜ ((now (o .exit), r) ≡ put (now (o .entry), at) (contentsLine (now (words .entry)) (now (text .entry)) (now (spare .entry)) .0))
+        × (now (text .exit) ≡ contentsLine (now (words .entry)) (now (text .entry)) (now (spare .entry)) .1)
+        × (now (spare .exit) ≡ contentsLine (now (words .entry)) (now (text .entry)) (now (spare .entry)) .2) ⌝ }
 {
     let first = small::small_of(words::word(words));
     let Small::Value(kind) = first else {

@@ -74,7 +74,8 @@ fn decoding(r: DecodedAnswer, buffer: &[u8], o: &mut [u8], at: usize) -> usize
 }
 
 fn both(text: &[u8], tape: &[u32], q: Asked, buffer: &mut [u8], o: &mut [u8], at: usize) -> usize
-    ensures { λ r. ⌜ ((now (o .exit), r) ≡ put (now (o .entry), at) (bothText (now (text .entry)) (now (tape .entry)) q (now (buffer .entry)))) × (now (buffer .exit) ≡ bufferAfter (now (text .entry)) (now (tape .entry)) q (now (buffer .entry))) ⌝ }
+    ensures { λ r. ⌜ ((now (o .exit), r) ≡ put (now (o .entry), at) (bothText (now (text .entry)) (now (tape .entry)) q (now (buffer .entry))))
+        × (now (buffer .exit) ≡ bufferAfter (now (text .entry)) (now (tape .entry)) q (now (buffer .entry))) ⌝ }
 {
     let a = viewed(text, tape, q, o, at);
     let r = decode(text, tape, q, buffer);
@@ -115,7 +116,8 @@ pub fn answer(
     o: &mut [u8],
     at: usize,
 ) -> usize
-    ensures { λ r. ⌜ ((now (o .exit), r) ≡ put (now (o .entry), at) (contentsIn (now (text .entry)) (now (tape .entry)) q (now (spare .entry)) .0)) × (now (spare .exit) ≡ contentsIn (now (text .entry)) (now (tape .entry)) q (now (spare .entry)) .1) ⌝ }
+    ensures { λ r. ⌜ ((now (o .exit), r) ≡ put (now (o .entry), at) (contentsIn (now (text .entry)) (now (tape .entry)) q (now (spare .entry)) .0))
+        × (now (spare .exit) ≡ contentsIn (now (text .entry)) (now (tape .entry)) q (now (spare .entry)) .1) ⌝ }
 {
     let n = room(q.buffer, text.len());
     if n < spare.len() {

@@ -8,11 +8,13 @@ use words::hex::Hex;
 use words::number;
 use words::number::Decimal;
 
+// The width and the place; or the line is no case.
 enum Asked {
     At(Width, usize),
     Bad,
 }
 
+// A width; or the number names none.
 enum Chosen {
     Of(Width),
     Bad,
@@ -54,8 +56,10 @@ fn front(words: &[u8]) -> Asked
     Asked::At(w, place as usize)
 }
 
+// `bad` where the line is no case, else the value with the place behind it, or the refusal.
 pub fn answer(words: &[u8], text: &mut [u8], o: &mut [u8], at: usize) -> usize
-    ensures { λ r. ⌜ ((now (o .exit), r) ≡ put (now (o .entry), at) (integerLine (now (words .entry)) (now (text .entry)) .0)) × (now (text .exit) ≡ integerLine (now (words .entry)) (now (text .entry)) .1) ⌝ }
+    ensures { λ r. ⌜ ((now (o .exit), r) ≡ put (now (o .entry), at) (integerLine (now (words .entry)) (now (text .entry)) .0))
+        × (now (text .exit) ≡ integerLine (now (words .entry)) (now (text .entry)) .1) ⌝ }
 {
     let read = front(words);
     let Asked::At(width, place) = read else {

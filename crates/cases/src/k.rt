@@ -9,6 +9,7 @@ use words::hex::Hex;
 use words::number;
 use words::number::Decimal;
 
+// The two modes and the place; or the line is no case.
 enum Asked {
     At(NewtypeMode, TupleMode, usize),
     Bad,
@@ -72,8 +73,10 @@ fn front(words: &[u8]) -> Asked
     modes_of(newtype, tuple, place as usize)
 }
 
+// `bad` where the line is no case, else the kind by its name in the crate, or the refusal.
 pub fn answer(words: &[u8], text: &mut [u8], o: &mut [u8], at: usize) -> usize
-    ensures { λ r. ⌜ ((now (o .exit), r) ≡ put (now (o .entry), at) (kindLine (now (words .entry)) (now (text .entry)) .0)) × (now (text .exit) ≡ kindLine (now (words .entry)) (now (text .entry)) .1) ⌝ }
+    ensures { λ r. ⌜ ((now (o .exit), r) ≡ put (now (o .entry), at) (kindLine (now (words .entry)) (now (text .entry)) .0))
+        × (now (text .exit) ≡ kindLine (now (words .entry)) (now (text .entry)) .1) ⌝ }
 {
     let read = front(words);
     let Asked::At(newtype, tuple, place) = read else {

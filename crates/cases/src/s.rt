@@ -18,8 +18,10 @@ fn length_of(word: &[u8]) -> Decimal
     number::decimal_of(word)
 }
 
+// `bad` where the line is no case, else the cursor behind the gap, or the refusal.
 pub fn answer(words: &[u8], text: &mut [u8], o: &mut [u8], at: usize) -> usize
-    ensures { λ r. ⌜ ((now (o .exit), r) ≡ put (now (o .entry), at) (skipLine (now (words .entry)) (now (text .entry)) .0)) × (now (text .exit) ≡ skipLine (now (words .entry)) (now (text .entry)) .1) ⌝ }
+    ensures { λ r. ⌜ ((now (o .exit), r) ≡ put (now (o .entry), at) (skipLine (now (words .entry)) (now (text .entry)) .0))
+        × (now (text .exit) ≡ skipLine (now (words .entry)) (now (text .entry)) .1) ⌝ }
 {
     let first = number::decimal_of(words::word(words));
     let Decimal::Value(cursor) = first else {

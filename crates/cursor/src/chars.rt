@@ -5,6 +5,8 @@ use text::Refusal;
 use text::utf8::char_len;
 use text::utf8::code_point;
 ghost use mathlib.Core.Path.{_≡_};
+ghost use Prim.Native.Nat.{_<_};
+ghost use lib.ListN.{length};
 ghost use Rattle.cursor.specs.inner.Chars.{nextOf, consumedOf, expectedOf};
 
 // The character at the cursor and the cursor behind it.
@@ -28,6 +30,20 @@ impl ParserCursor {
         if text.len() <= at {
             return Next::Refused(Refusal::eof(at));
         }
+        let first = text[at];
+        if first < 0x80 {
+            let code = first as u32;
+            return Next::Char(code, self.advance_bytes(1));
+        }
+        self.wide_char(text)
+    }
+
+    // The same where the text goes on, apart from ASCII, so that the way above stays short.
+    fn wide_char(self, text: &[u8]) -> Next
+        requires { ⌜ self .cursor < length (now text) ⌝ }
+        ensures { λ r. ⌜ r ≡ nextOf (now (text .entry)) self ⌝ }
+    {
+        let at = self.cursor;
         let part = &text[at..];
         let bytes = char_len(part);
         Next::Char(code_point(part), self.advance_bytes(bytes))

@@ -1,7 +1,7 @@
 // The crate's `ParserCursor` of three numbers, by value: its methods hand the moved cursor back (document 01, "Code places and their forms").
 //
 // The place, where the last whitespace began, and how long it was: `skip_ws`, `next_char`, `consume_char`, `expect_char`, `parse_escape`, after the
-// functions of the same names in parse.rs. The call skip stands on it.
+// functions of the same names in parse.rs. The call skip stands on it, and so do chars, byte literals and the front of struct kinds.
 mod chars;
 mod escape;
 mod skip;

@@ -1,5 +1,6 @@
 // The signed accumulator: after a minus, down to a limit.
 use crate::Run;
+use hexes::HexAnswer;
 use hexes::decode_hex;
 ghost use mathlib.Core.Path.{_≡_};
 ghost use Prim.Native.Nat.{_/_, _<_, _≤_};
@@ -27,7 +28,11 @@ fn turn_down(acc: i64, c: u8, base: u64, low: i64, least: i64) -> Down
         return Down::Over;
     }
     let product = acc * b;
-    let d = decode_hex(c) as u64;
+    let digit = decode_hex(c);
+    let HexAnswer::Digit(h) = digit else {
+        return Down::NotDigit;
+    };
+    let d = h as u64;
     if base <= d {
         return Down::NotDigit;
     }

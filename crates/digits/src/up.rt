@@ -1,8 +1,9 @@
 // The unsigned accumulator: up to a limit.
 use crate::Run;
+use hexes::HexAnswer;
 use hexes::decode_hex;
 ghost use mathlib.Core.Path.{_≡_};
-ghost use Prim.Native.Nat.{_/_, _<_};
+ghost use Prim.Native.Nat.{_/_, _<_, _≤_};
 ghost use Rattle.digits.specs.Digits.{turnOf, digitsOf};
 
 // What one character of a run does to the magnitude before it.
@@ -14,7 +15,7 @@ pub enum Turned {
 
 // One character: a digit is multiplied in, judged, and added, in this order; most is the largest that may still be multiplied.
 fn turn(acc: u64, c: u8, base: u64, limit: u64, most: u64) -> Turned
-    requires { ⌜ (0 < base) × (most ≡ limit / base) ⌝ }
+    requires { ⌜ (0 < base) × (base ≤ 16) × (most ≡ limit / base) ⌝ }
     ensures { λ r. ⌜ r ≡ turnOf limit base acc c ⌝ }
 {
     if c == b'_' {
@@ -24,7 +25,11 @@ fn turn(acc: u64, c: u8, base: u64, limit: u64, most: u64) -> Turned
         return Turned::Over;
     }
     let product = acc * base;
-    let d = decode_hex(c) as u64;
+    let digit = decode_hex(c);
+    let HexAnswer::Digit(h) = digit else {
+        return Turned::NotDigit;
+    };
+    let d = h as u64;
     if base <= d {
         return Turned::NotDigit;
     }
@@ -51,7 +56,7 @@ fn most_of(limit: u64, base: u64) -> u64
 
 // A whole run.
 pub fn digits(run: &[u8], base: u64, limit: u64) -> Run
-    requires { ⌜ 0 < base ⌝ }
+    requires { ⌜ (0 < base) × (base ≤ 16) ⌝ }
     ensures { λ r. ⌜ r ≡ digitsOf limit base (now (run .entry)) ⌝ }
 {
     let most = most_of(limit, base);

@@ -14,6 +14,7 @@ use words::list::Count;
 use words::number;
 use words::number::Decimal;
 
+// The cut that is asked for; or the line is no case.
 enum Said {
     Asks(Cut),
     Bad,
@@ -58,7 +59,11 @@ fn repaired(
     o: &mut [u8],
     at: usize,
 ) -> usize
-    ensures { λ r. ⌜ ((now (o .exit), r) ≡ put (now (o .entry), at) (anyText (toldOf (now (tape .entry)) q (now (text .entry))) (tapeAfter (now (tape .entry)) q (now (text .entry))) (over (now (tape .entry)) (now (aside .entry))))) × (now (tape .exit) ≡ tapeAfter (now (tape .entry)) q (now (text .entry))) × (now (aside .exit) ≡ over (now (tape .entry)) (now (aside .entry))) ⌝ }
+    ensures { λ r. ⌜ ((now (o .exit), r) ≡ put (now (o .entry), at)
+        (anyText (toldOf (now (tape .entry)) q (now (text .entry))) (tapeAfter (now (tape .entry)) q (now (text .entry)))
+        (over (now (tape .entry)) (now (aside .entry)))))
+        × (now (tape .exit) ≡ tapeAfter (now (tape .entry)) q (now (text .entry)))
+        × (now (aside .exit) ≡ over (now (tape .entry)) (now (aside .entry))) ⌝ }
 {
     copies::copy(&tape[..], aside);
     let r = sarridok::repair(tape, q.count, q.old, q.a, q.b, text);
@@ -84,7 +89,10 @@ fn lent(
     o: &mut [u8],
     at: usize,
 ) -> usize
-    ensures { λ r. ⌜ ((now (o .exit), r) ≡ put (now (o .entry), at) (repairIn (now (text .entry)) q (take k (now (tape .entry))) (drop k (now (tape .entry))) (now (aside .entry)) .0)) × (now (tape .exit) ≡ repairIn (now (text .entry)) q (take k (now (tape .entry))) (drop k (now (tape .entry))) (now (aside .entry)) .1) × (now (aside .exit) ≡ repairIn (now (text .entry)) q (take k (now (tape .entry))) (drop k (now (tape .entry))) (now (aside .entry)) .2) ⌝ }
+    ensures { λ r. ⌜ ((now (o .exit), r) ≡ put (now (o .entry), at)
+        (repairIn (now (text .entry)) q (take k (now (tape .entry))) (drop k (now (tape .entry))) (now (aside .entry)) .0))
+        × (now (tape .exit) ≡ repairIn (now (text .entry)) q (take k (now (tape .entry))) (drop k (now (tape .entry))) (now (aside .entry)) .1)
+        × (now (aside .exit) ≡ repairIn (now (text .entry)) q (take k (now (tape .entry))) (drop k (now (tape .entry))) (now (aside .entry)) .2) ⌝ }
 {
     if k < tape.len() {
         return repaired(text, q, &mut tape[0..k], aside, o, at);
@@ -92,6 +100,7 @@ fn lent(
     repaired(text, q, tape, aside, o, at)
 }
 
+// The tape is copied aside first, so that a refused repair can be held against it.
 pub fn answer(
     words: &[u8],
     text: &mut [u8],
@@ -100,7 +109,11 @@ pub fn answer(
     o: &mut [u8],
     at: usize,
 ) -> usize
-    ensures { λ r. ⌜ ((now (o .exit), r) ≡ put (now (o .entry), at) (anyLine (now (words .entry)) (now (text .entry)) (now (tape .entry)) (now (aside .entry)) .0)) × (now (text .exit) ≡ anyLine (now (words .entry)) (now (text .entry)) (now (tape .entry)) (now (aside .entry)) .1) × (now (tape .exit) ≡ anyLine (now (words .entry)) (now (text .entry)) (now (tape .entry)) (now (aside .entry)) .2) × (now (aside .exit) ≡ anyLine (now (words .entry)) (now (text .entry)) (now (tape .entry)) (now (aside .entry)) .3) ⌝ }
+    ensures { λ r. ⌜ ((now (o .exit), r) ≡ put (now (o .entry), at)
+        (anyLine (now (words .entry)) (now (text .entry)) (now (tape .entry)) (now (aside .entry)) .0))
+        × (now (text .exit) ≡ anyLine (now (words .entry)) (now (text .entry)) (now (tape .entry)) (now (aside .entry)) .1)
+        × (now (tape .exit) ≡ anyLine (now (words .entry)) (now (text .entry)) (now (tape .entry)) (now (aside .entry)) .2)
+        × (now (aside .exit) ≡ anyLine (now (words .entry)) (now (text .entry)) (now (tape .entry)) (now (aside .entry)) .3) ⌝ }
 {
     let asked = front(words);
     let Said::Asks(q) = asked else {

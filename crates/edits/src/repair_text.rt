@@ -19,6 +19,7 @@ use words::hex::Hex;
 use words::number;
 use words::number::Decimal;
 
+// The ends of the cut; or the line is no case.
 enum Said {
     Asks(usize, usize),
     Bad,
@@ -66,7 +67,9 @@ fn repaired(
     o: &mut [u8],
     at: usize,
 ) -> usize
-    ensures { λ r. ⌜ ((now (o .exit), r) ≡ put (now (o .entry), at) (repairWith q (now (new .entry)) (now (tape .entry)) (now (aside .entry)) .0)) × (now (tape .exit) ≡ repairWith q (now (new .entry)) (now (tape .entry)) (now (aside .entry)) .1) × (now (aside .exit) ≡ repairWith q (now (new .entry)) (now (tape .entry)) (now (aside .entry)) .2) ⌝ }
+    ensures { λ r. ⌜ ((now (o .exit), r) ≡ put (now (o .entry), at) (repairWith q (now (new .entry)) (now (tape .entry)) (now (aside .entry)) .0))
+        × (now (tape .exit) ≡ repairWith q (now (new .entry)) (now (tape .entry)) (now (aside .entry)) .1)
+        × (now (aside .exit) ≡ repairWith q (now (new .entry)) (now (tape .entry)) (now (aside .entry)) .2) ⌝ }
 {
     copies::copy(&tape[..], aside);
     let r = sarridok::repair(tape, q.count, q.old, q.a, q.b, new);
@@ -93,7 +96,10 @@ fn read(
     o: &mut [u8],
     at: usize,
 ) -> usize
-    ensures { λ r. ⌜ ((now (o .exit), r) ≡ put (now (o .entry), at) (readRepair (now (old .entry)) (now (new .entry)) a b (now (tape .entry)) (now (aside .entry)) .0)) × (now (tape .exit) ≡ readRepair (now (old .entry)) (now (new .entry)) a b (now (tape .entry)) (now (aside .entry)) .1) × (now (aside .exit) ≡ readRepair (now (old .entry)) (now (new .entry)) a b (now (tape .entry)) (now (aside .entry)) .2) ⌝ }
+    ensures { λ r. ⌜ ((now (o .exit), r) ≡ put (now (o .entry), at)
+        (readRepair (now (old .entry)) (now (new .entry)) a b (now (tape .entry)) (now (aside .entry)) .0))
+        × (now (tape .exit) ≡ readRepair (now (old .entry)) (now (new .entry)) a b (now (tape .entry)) (now (aside .entry)) .1)
+        × (now (aside .exit) ≡ readRepair (now (old .entry)) (now (new .entry)) a b (now (tape .entry)) (now (aside .entry)) .2) ⌝ }
 {
     numbers::mark(tape);
     let n = old.len();
@@ -136,7 +142,10 @@ fn lent_to(
     o: &mut [u8],
     at: usize,
 ) -> usize
-    ensures { λ r. ⌜ ((now (o .exit), r) ≡ put (now (o .entry), at) (editIn (now (old .entry)) (now (new .entry)) a b (now (tape .entry)) (now (aside .entry)) .0)) × (now (tape .exit) ≡ editIn (now (old .entry)) (now (new .entry)) a b (now (tape .entry)) (now (aside .entry)) .1) × (now (aside .exit) ≡ editIn (now (old .entry)) (now (new .entry)) a b (now (tape .entry)) (now (aside .entry)) .2) ⌝ }
+    ensures { λ r. ⌜ ((now (o .exit), r) ≡ put (now (o .entry), at)
+        (editIn (now (old .entry)) (now (new .entry)) a b (now (tape .entry)) (now (aside .entry)) .0))
+        × (now (tape .exit) ≡ editIn (now (old .entry)) (now (new .entry)) a b (now (tape .entry)) (now (aside .entry)) .1)
+        × (now (aside .exit) ≡ editIn (now (old .entry)) (now (new .entry)) a b (now (tape .entry)) (now (aside .entry)) .2) ⌝ }
 {
     let k = room(old.len(), new.len());
     if k < tape.len() {
@@ -157,7 +166,11 @@ fn edit(
     o: &mut [u8],
     at: usize,
 ) -> usize
-    ensures { λ r. ⌜ ((now (o .exit), r) ≡ put (now (o .entry), at) (editIn (take n (now (text .entry))) (take (m - n) (drop n (now (text .entry)))) a b (now (tape .entry)) (now (aside .entry)) .0)) × (now (tape .exit) ≡ editIn (take n (now (text .entry))) (take (m - n) (drop n (now (text .entry)))) a b (now (tape .entry)) (now (aside .entry)) .1) × (now (aside .exit) ≡ editIn (take n (now (text .entry))) (take (m - n) (drop n (now (text .entry)))) a b (now (tape .entry)) (now (aside .entry)) .2) ⌝ }
+    ensures { λ r. ⌜ ((now (o .exit), r) ≡ put (now (o .entry), at)
+        (editIn (take n (now (text .entry))) (take (m - n) (drop n (now (text .entry)))) a b (now (tape .entry)) (now (aside .entry)) .0))
+        × (now (tape .exit) ≡ editIn (take n (now (text .entry))) (take (m - n) (drop n (now (text .entry)))) a b (now (tape .entry)) (now (aside .entry)) .1)
+        × (now (aside .exit) ≡ editIn (take n (now (text .entry)))
+        (take (m - n) (drop n (now (text .entry)))) a b (now (tape .entry)) (now (aside .entry)) .2) ⌝ }
 {
     lent_to(
         lines::part(text, 0, n),
@@ -174,7 +187,8 @@ fn edit(
 // The bytes that a word says, behind the first k.
 fn bytes_behind(word: &[u8], k: usize, text: &mut [u8]) -> Hex
     requires { ⌜ k ≤ length (now text) ⌝ }
-    ensures { λ r. ⌜ (r ≡ hexIn (now (word .entry)) (length (drop k (now (text .entry))))) × (now (text .exit) ≡ take k (now (text .entry)) ++ over (pairs (now (word .entry))) (drop k (now (text .entry)))) ⌝ }
+    ensures { λ r. ⌜ (r ≡ hexIn (now (word .entry)) (length (drop k (now (text .entry)))))
+        × (now (text .exit) ≡ take k (now (text .entry)) ++ over (pairs (now (word .entry))) (drop k (now (text .entry)))) ⌝ }
 {
     hex::bytes(word, &mut text[k..])
 }
@@ -192,7 +206,11 @@ fn cut(
     at: usize,
 ) -> usize
     requires { ⌜ n ≤ length (now text) ⌝ }
-    ensures { λ r. ⌜ ((now (o .exit), r) ≡ put (now (o .entry), at) (cutLine (now (word .entry)) a b (take n (now (text .entry))) (now (text .entry)) (now (tape .entry)) (now (aside .entry)) .0)) × (now (text .exit) ≡ cutLine (now (word .entry)) a b (take n (now (text .entry))) (now (text .entry)) (now (tape .entry)) (now (aside .entry)) .1) × (now (tape .exit) ≡ cutLine (now (word .entry)) a b (take n (now (text .entry))) (now (text .entry)) (now (tape .entry)) (now (aside .entry)) .2) × (now (aside .exit) ≡ cutLine (now (word .entry)) a b (take n (now (text .entry))) (now (text .entry)) (now (tape .entry)) (now (aside .entry)) .3) ⌝ }
+    ensures { λ r. ⌜ ((now (o .exit), r) ≡ put (now (o .entry), at)
+        (cutLine (now (word .entry)) a b (take n (now (text .entry))) (now (text .entry)) (now (tape .entry)) (now (aside .entry)) .0))
+        × (now (text .exit) ≡ cutLine (now (word .entry)) a b (take n (now (text .entry))) (now (text .entry)) (now (tape .entry)) (now (aside .entry)) .1)
+        × (now (tape .exit) ≡ cutLine (now (word .entry)) a b (take n (now (text .entry))) (now (text .entry)) (now (tape .entry)) (now (aside .entry)) .2)
+        × (now (aside .exit) ≡ cutLine (now (word .entry)) a b (take n (now (text .entry))) (now (text .entry)) (now (tape .entry)) (now (aside .entry)) .3) ⌝ }
 {
     if b < a {
         return show::bad(o, at);
@@ -217,6 +235,7 @@ fn cut(
     edit(&text[..], n, end + rest, a, b, tape, aside, o, at)
 }
 
+// The old text is read, cut and repaired; both texts stand in the lent bytes, the new one behind the old.
 pub fn answer(
     words: &[u8],
     text: &mut [u8],
@@ -225,7 +244,11 @@ pub fn answer(
     o: &mut [u8],
     at: usize,
 ) -> usize
-    ensures { λ r. ⌜ ((now (o .exit), r) ≡ put (now (o .entry), at) (textLine (now (words .entry)) (now (text .entry)) (now (tape .entry)) (now (aside .entry)) .0)) × (now (text .exit) ≡ textLine (now (words .entry)) (now (text .entry)) (now (tape .entry)) (now (aside .entry)) .1) × (now (tape .exit) ≡ textLine (now (words .entry)) (now (text .entry)) (now (tape .entry)) (now (aside .entry)) .2) × (now (aside .exit) ≡ textLine (now (words .entry)) (now (text .entry)) (now (tape .entry)) (now (aside .entry)) .3) ⌝ }
+    ensures { λ r. ⌜ ((now (o .exit), r) ≡ put (now (o .entry), at)
+        (textLine (now (words .entry)) (now (text .entry)) (now (tape .entry)) (now (aside .entry)) .0))
+        × (now (text .exit) ≡ textLine (now (words .entry)) (now (text .entry)) (now (tape .entry)) (now (aside .entry)) .1)
+        × (now (tape .exit) ≡ textLine (now (words .entry)) (now (text .entry)) (now (tape .entry)) (now (aside .entry)) .2)
+        × (now (aside .exit) ≡ textLine (now (words .entry)) (now (text .entry)) (now (tape .entry)) (now (aside .entry)) .3) ⌝ }
 {
     let asked = front(words);
     let Said::Asks(a, b) = asked else {

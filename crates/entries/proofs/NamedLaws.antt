@@ -18,18 +18,19 @@ use Rattle.strings.specs.declared.literal.LiteralAnswer.the-variants.{Read, Ref
 use Rattle.entries.specs.Named.{byKind, insideOf, namedOf, literalOf}
 use Rattle.entries.specs.Contents.{Span, byNamed, contentsIn}
 use Rattle.entries.specs.declared.named.Named.{Named}
-use Rattle.entries.specs.declared.named.Named.the-variants.{At, Unnamed}
+use Rattle.entries.specs.declared.named.Named.the-variants.{At}
+use Rattle.entries.specs.declared.named.Named.the-variants as named
 use Rattle.entries.proofs.LiteralLaws.{read-inside}
 
 -- the place fits the text
 abbrev pub Fits : List ℕ → Named → Type 0
 Fits text (At bytes place) = placeFits text place ≡ true
-Fits text (Unnamed r) = Unit
+Fits text (named.Refused r) = Unit
 
 -- and lies within it
 abbrev pub Within : List ℕ → Named → Type 0
 Within text (At bytes place) = place ≤ length text
-Within text (Unnamed r) = Unit
+Within text (named.Refused r) = Unit
 
 kind-fits : (text : List ℕ) (kind place : ℕ) → placeFits text place ≡ true → Fits text (byKind kind place)
 unfolding byKind
@@ -54,7 +55,7 @@ module _ (text tape : List ℕ) (count entry : ℕ) where
 
   pub named-within : (n : Named) → namedOf text tape count entry ≡ n → Within text n
   named-within (At bytes place) e = place-within text place (named-fits (At bytes place) e)
-  named-within (Unnamed r) e = tt
+  named-within (named.Refused r) e = tt
 
 -- a part of the text
 abbrev pub Inside : List ℕ → Told Span → Type 0
@@ -71,4 +72,4 @@ module _ (text : List ℕ) where
   -- the contents of the string that an entry names are one
   pub contents-inside : (n : Named) → Within text n → Inside text (byNamed n (λ bytes place. contentsIn place (literalOf bytes (drop place text))))
   contents-inside (At bytes place) h = contents-read bytes place (literalOf bytes (drop place text)) h refl
-  contents-inside (Unnamed r) h = tt
+  contents-inside (named.Refused r) h = tt

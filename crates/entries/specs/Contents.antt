@@ -8,7 +8,8 @@ use Rattle.text.specs.Refusals.{Told, accepted, refused, placedBehind, noRoom, 
 use Rattle.strings.specs.declared.literal.LiteralAnswer.{LiteralAnswer}
 use Rattle.strings.specs.declared.literal.LiteralAnswer.the-variants.{Read, Refused}
 use Rattle.entries.specs.declared.named.Named.{Named}
-use Rattle.entries.specs.declared.named.Named.the-variants.{At, Unnamed}
+use Rattle.entries.specs.declared.named.Named.the-variants.{At}
+use Rattle.entries.specs.declared.named.Named.the-variants as named
 use Rattle.entries.specs.declared.view.ContentsAnswer.{ContentsAnswer}
 use Rattle.entries.specs.declared.view.ContentsAnswer.the-variants as contents
 use Rattle.entries.specs.declared.decoding.DecodedAnswer.{DecodedAnswer}
@@ -32,7 +33,7 @@ toldDecoded (decoded.Refused r) = refused r
 -- What is said of the string that an entry names; 28, 23 and 27 come before.
 abbrev pub byNamed : {A : Type 0} → Named → (Bool → ℕ → Told A) → Told A
 byNamed (At bytes place) own = own bytes place
-byNamed (Unnamed r) own = refused r
+byNamed (named.Refused r) own = refused r
 
 -- The contents of what was read at a place: 29 where anything was escaped or continued.
 abbrev pub contentsIn : ℕ → LiteralAnswer → Told Span

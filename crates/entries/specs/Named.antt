@@ -11,22 +11,22 @@ use Rattle.rows.specs.Rows.{roomOf, entryAt}
 use Rattle.strings.specs.declared.literal.LiteralAnswer.{LiteralAnswer}
 use Rattle.strings.specs.Strings.{stringOf, byteStringOf, stringDecoded, byteStringDecoded}
 use Rattle.entries.specs.declared.named.Named.{Named}
-use Rattle.entries.specs.declared.named.Named.the-variants.{At, Unnamed}
+use Rattle.entries.specs.declared.named.Named.the-variants.{At, Refused}
 
 -- Kind 14 is a string, 15 a byte string, any other is 27.
 unfoldable pub byKind : ℕ → ℕ → Named
-byKind kind place = cond (eqb kind 14) (At false place) (cond (eqb kind 15) (At true place) (Unnamed otherKind))
+byKind kind place = cond (eqb kind 14) (At false place) (cond (eqb kind 15) (At true place) (Refused otherKind))
 
 -- An entry inside the slice, where so many have room: 28 for its start, then 23 for a count that does not fit, then 27.
 unfoldable pub insideOf : List ℕ → ℕ → ℕ → Entry → Named
 insideOf text room count e =
-    cond (placeFits text (e .start)) (cond (ltb room count) (Unnamed notInOrder) (byKind (e .kind) (e .start))) (Unnamed unfit)
+    cond (placeFits text (e .start)) (cond (ltb room count) (Refused notInOrder) (byKind (e .kind) (e .start))) (Refused unfit)
 
 -- The entry of a number: 28 where it is not below the count; one outside the slice has no start to judge, and its count does not fit.
 unfoldable pub namedOf : List ℕ → List ℕ → ℕ → ℕ → Named
 namedOf text tape count entry =
-    cond (leb count entry) (Unnamed unfit)
-    (cond (ltb entry (roomOf (length tape))) (insideOf text (roomOf (length tape)) count (entryAt tape entry)) (Unnamed notInOrder))
+    cond (leb count entry) (Refused unfit)
+    (cond (ltb entry (roomOf (length tape))) (insideOf text (roomOf (length tape)) count (entryAt tape entry)) (Refused notInOrder))
 
 -- The string or, with true, the byte string at the front of a part.
 abbrev pub literalOf : Bool → List ℕ → LiteralAnswer

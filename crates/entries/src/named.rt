@@ -1,4 +1,5 @@
 // The entry that a caller names by its number, on any tape with any count.
+use rows::kinds;
 use rows::row;
 use strings::LiteralAnswer;
 use text::Refusal;
@@ -12,20 +13,20 @@ ghost use Rattle.entries.specs.Named.{byKind, insideOf, namedOf, literal
 // A string or, with true, a byte string at a place; or the refusal.
 pub enum Named {
     At(bool, usize),
-    Unnamed(Refusal),
+    Refused(Refusal),
 }
 
 // Kind 14 is a string, 15 a byte string.
 fn by_kind(kind: u32, place: usize) -> Named
     ensures { λ r. ⌜ r ≡ byKind kind place ⌝ }
 {
-    if kind == 14 {
+    if kind == kinds::STRING {
         return Named::At(false, place);
     }
-    if kind == 15 {
+    if kind == kinds::BYTE_STRING {
         return Named::At(true, place);
     }
-    Named::Unnamed(Refusal::other_kind())
+    Named::Refused(Refusal::other_kind())
 }
 
 fn start_of(start: u32) -> usize
@@ -42,10 +43,10 @@ fn named_inside(text: &[u8], tape: &[u32], count: usize, entry: usize) -> Named
     let e = row::entry(tape, entry);
     let place = start_of(e.start);
     if !place_fits(text, place) {
-        return Named::Unnamed(Refusal::unfit());
+        return Named::Refused(Refusal::unfit());
     }
     if row::room(tape) < count {
-        return Named::Unnamed(Refusal::not_in_order());
+        return Named::Refused(Refusal::not_in_order());
     }
     by_kind(e.kind, place)
 }
@@ -55,12 +56,12 @@ pub fn find_named(text: &[u8], tape: &[u32], count: usize, entry: usize) -> Name
     ensures { λ r. ⌜ r ≡ namedOf (now (text .entry)) (now (tape .entry)) count entry ⌝ }
 {
     if count <= entry {
-        return Named::Unnamed(Refusal::unfit());
+        return Named::Refused(Refusal::unfit());
     }
     if entry < row::room(tape) {
         return named_inside(text, tape, count, entry);
     }
-    Named::Unnamed(Refusal::not_in_order())
+    Named::Refused(Refusal::not_in_order())
 }
 
 // The string or byte string at the front of s.
@@ -68,7 +69,7 @@ pub fn read_named(bytes: bool, s: &[u8]) -> LiteralAnswer
     ensures { λ r. ⌜ r ≡ literalOf bytes (now (s .entry)) ⌝ }
 {
     if bytes {
-        return strings::byte_string(s);
+        return strings::byte_string_no_base64(s);
     }
     strings::string(s)
 }

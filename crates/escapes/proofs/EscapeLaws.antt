@@ -9,11 +9,12 @@ use lib.Dec.{eqb, ltb}
 use lib.ListN.{length, getD, drop, set, replicate, length-set, length-append, length-replicate, length-drop, drop-of-length-le}
 use lib.Seq.{drop-cons, drop-drop, set-at, append-snoc}
 use borrow.Author.Tests.{eq-eqb, ne-eqb}
-use Rattle.escapes.specs.Escapes.{closeOf, digitsOf, escapeOf, hexBy, hexEscape, hexOf, moreBytes, nextByte, secondDigit, simpleOf, twoDigits, unicodeEscape}
+use Rattle.escapes.specs.Escapes.{closeOf, digitsOf, escapeOf, hexBy, hexEscape, hexOf, moreBytes, nextByte, secondDigit, simpleAnswer, simpleOf, twoDigits, unicodeEscape}
 use Rattle.escapes.specs.declared.answers.EscapeAnswer.{EscapeAnswer}
 use Rattle.escapes.specs.declared.answers.EscapeAnswer.the-variants.{Ascii, Refused, Utf8}
 use Rattle.escapes.specs.declared.answers.Mode.{Mode}
-use Rattle.text.proofs.Choices.{and-false, cond-cases}
+use Rattle.escapes.specs.declared.answers.SimpleAnswer.the-variants.{Byte, Other}
+use Rattle.text.proofs.Choices.{and-false, bool-cases, cond-cases, either}
 use Rattle.text.proofs.ClassLaws.{above, below, in-within, within-true}
 use Rattle.text.proofs.Lists.{front}
 use Rattle.text.specs.Classes.{within}
@@ -276,3 +277,15 @@ pub escape-at : (m : Mode) (s : List ℕ) → 0 < length s
 unfolding escapeOf
 escape-at m [] h = absurd (omega arith)
 escape-at m (b ∷ t) h = refl
+
+-- ---- what the answer on a letter says
+
+module _ (b : ℕ) where
+  pub letter-value : (k : ℕ) → simpleAnswer b ≡ Byte k → k ≡ simpleOf b
+  letter-value k e = either (bool-cases (ltb (simpleOf b) 256)) (λ t. let z : Byte (simpleOf b) ≡ Byte k = rw t at e in cc) (λ n. let z : Other ≡ Byte k = rw n at e in cc)
+
+  pub letter-small : (k : ℕ) → simpleAnswer b ≡ Byte k → ltb (simpleOf b) 256 ≡ true
+  letter-small k e = either (bool-cases (ltb (simpleOf b) 256)) (λ t. t) (λ n. let z : Other ≡ Byte k = rw n at e in cc)
+
+  pub no-letter : simpleAnswer b ≡ Other → ltb (simpleOf b) 256 ≡ false
+  no-letter e = either (bool-cases (ltb (simpleOf b) 256)) (λ t. let z : Byte (simpleOf b) ≡ Other = rw t at e in cc) (λ n. n)

@@ -10,6 +10,8 @@ unfoldable pub use Rattle.hexes.specs.Hex.{hexOf}
 use Rattle.text.specs.Utf8.{charLen, codeOf, scalar}
 use Rattle.escapes.specs.declared.answers.Mode.{Mode}
 use Rattle.escapes.specs.declared.answers.Mode.the-variants.{Str, Char, Bytes}
+use Rattle.escapes.specs.declared.answers.SimpleAnswer.{SimpleAnswer}
+use Rattle.escapes.specs.declared.answers.SimpleAnswer.the-variants.{Byte, Other}
 use Rattle.escapes.specs.declared.answers.EscapeAnswer.{EscapeAnswer}
 use Rattle.escapes.specs.declared.answers.EscapeAnswer.the-variants.{Ascii, Utf8, Refused}
 
@@ -91,6 +93,10 @@ simpleOf b =
     (cond (eqb b 0x72) 0x0D
     (cond (eqb b 0x74) 0x09
     (cond (eqb b 0x30) 0x00 256))))))
+
+-- A letter with the byte that it stands for, or another.
+abbrev pub simpleAnswer : ℕ → SimpleAnswer
+simpleAnswer b = cond (ltb (simpleOf b) 256) (Byte (simpleOf b)) Other
 
 -- The escape at the front of a part.
 unfoldable pub escapeOf : Mode → List ℕ → EscapeAnswer

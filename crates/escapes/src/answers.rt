@@ -17,12 +17,20 @@ pub enum Mode {
     Bytes,
 }
 
+// A letter that stands for one byte, as `n` does, or any other byte behind the `\`.
+pub enum SimpleAnswer {
+    Byte(u8),
+    Other,
+}
+
+// The text ends within an escape.
 pub fn ended(place: usize) -> EscapeAnswer
     ensures { λ r. ⌜ r ≡ EscapeAnswer.Refused (eof place) ⌝ }
 {
     EscapeAnswer::Refused(Refusal::eof(place))
 }
 
+// No escape stands there.
 pub fn invalid(place: usize) -> EscapeAnswer
     ensures { λ r. ⌜ r ≡ EscapeAnswer.Refused (invalidEscape place) ⌝ }
 {

@@ -2,6 +2,7 @@
 use crate::EscapeAnswer;
 use crate::answers::ended;
 use crate::answers::invalid;
+use hexes::HexAnswer;
 use hexes::decode_hex;
 use text::utf8;
 ghost use mathlib.Core.Path.{_≡_};
@@ -17,10 +18,10 @@ fn second_digit(t: &[u8], at: usize, h: u8) -> EscapeAnswer
     if t.len() == 0 {
         return ended(at);
     }
-    let k = decode_hex(t[0]);
-    if k == 16 {
+    let digit = decode_hex(t[0]);
+    let HexAnswer::Digit(k) = digit else {
         return invalid(at + utf8::char_len(t));
-    }
+    };
     EscapeAnswer::Ascii(h * 16 + k, at + 1)
 }
 
@@ -32,9 +33,9 @@ pub fn decode_ascii_escape(t: &[u8], at: usize) -> EscapeAnswer
     if t.len() == 0 {
         return ended(at);
     }
-    let h = decode_hex(t[0]);
-    if h == 16 {
+    let digit = decode_hex(t[0]);
+    let HexAnswer::Digit(h) = digit else {
         return invalid(at + utf8::char_len(t));
-    }
+    };
     second_digit(&t[1..], at + 1, h)
 }

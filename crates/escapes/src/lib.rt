@@ -11,25 +11,26 @@ pub mod unicode;
 
 pub use answers::EscapeAnswer;
 pub use answers::Mode;
+use answers::SimpleAnswer;
 use answers::ended;
 use answers::invalid;
 use text::utf8;
 ghost use mathlib.Core.Path.{_≡_};
-ghost use Rattle.escapes.specs.Escapes.{simpleOf, escapeOf};
+ghost use Rattle.escapes.specs.Escapes.{simpleAnswer, escapeOf};
 
-// What a letter behind the `\` stands for, or 256.
-fn simple(b: u8) -> u16
-    ensures { λ r. ⌜ r ≡ simpleOf b ⌝ }
+// What a letter behind the `\` stands for by itself.
+fn simple(b: u8) -> SimpleAnswer
+    ensures { λ r. ⌜ r ≡ simpleAnswer b ⌝ }
 {
     match b {
-        b'\'' => 0x27,
-        b'"' => 0x22,
-        b'\\' => 0x5C,
-        b'n' => 0x0A,
-        b'r' => 0x0D,
-        b't' => 0x09,
-        b'0' => 0x00,
-        _ => 256,
+        b'\'' => SimpleAnswer::Byte(0x27),
+        b'"' => SimpleAnswer::Byte(0x22),
+        b'\\' => SimpleAnswer::Byte(0x5C),
+        b'n' => SimpleAnswer::Byte(0x0A),
+        b'r' => SimpleAnswer::Byte(0x0D),
+        b't' => SimpleAnswer::Byte(0x09),
+        b'0' => SimpleAnswer::Byte(0x00),
+        _ => SimpleAnswer::Other,
     }
 }
 
@@ -41,9 +42,9 @@ pub fn parse_escape(m: Mode, s: &[u8]) -> EscapeAnswer
         return ended(0);
     }
     let b = s[0];
-    let k = simple(b);
-    if k < 256 {
-        return EscapeAnswer::Ascii(k as u8, 1);
+    let letter = simple(b);
+    if let SimpleAnswer::Byte(k) = letter {
+        return EscapeAnswer::Ascii(k, 1);
     }
     if b == b'x' {
         return hex::hex_escape(m, &s[1..], 1);

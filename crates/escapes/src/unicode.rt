@@ -2,6 +2,7 @@
 use crate::EscapeAnswer;
 use crate::answers::ended;
 use crate::answers::invalid;
+use hexes::HexAnswer;
 use hexes::decode_hex;
 use text::utf8;
 ghost use mathlib.Core.Path.{_≡_};
@@ -51,10 +52,10 @@ pub fn unicode_escape(s: &[u8], at: usize) -> EscapeAnswer
         if b == b'}' {
             return close(&s[i..], at + i, left == 6, v);
         }
-        let h = decode_hex(b);
-        if h == 16 {
+        let digit = decode_hex(b);
+        let HexAnswer::Digit(h) = digit else {
             return invalid(at + i + utf8::char_len(&s[i..]));
-        }
+        };
         v = v * 16 + h as u32;
         i += 1;
         left -= 1;

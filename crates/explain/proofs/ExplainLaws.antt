@@ -6,6 +6,9 @@ use lib.ListN.{length}
 use Rattle.depth.specs.Depth.{deepestOf}
 use Rattle.grammar.specs.Kinds.{kindsOf}
 use Rattle.lines.specs.Out.{put}
+use Rattle.opened.specs.Begun.{readBegun}
+use Rattle.opened.specs.Brackets.{walkBegun}
+use Rattle.opened.specs.declared.begun.Begun.{Begun}
 use Rattle.places.specs.Entries.{walkPlace}
 use Rattle.read.proofs.AcceptedReads.{read-accepted}
 use Rattle.read.specs.Read.{readAnswer, readTape, toldRead}
@@ -17,7 +20,7 @@ use Rattle.sarridok.specs.declared.walk_call.WalkAnswer.{WalkAnswer}
 use Rattle.sarridok.specs.declared.walk_call.WalkAnswer.the-variants.{Walked, Refused as NotWalked}
 use Rattle.text.specs.Refusals.{Told, accepted, refused}
 use Rattle.text.specs.declared.refusal.Refusal.{Refusal}
-use Rattle.explain.specs.Explained.{acceptedText, refusedText, walkedText, readText, linksBehind, explained}
+use Rattle.explain.specs.Explained.{acceptedText, refusalText, walkedText, readText, linksBehind, explained}
 
 -- ---- the walk
 
@@ -28,11 +31,13 @@ module _ (s tape : List ℕ) (count : ℕ) (a : Told Unit) (r : WalkAnswer) (tol
   walked-accepted h depth e f =
       f ∙ ap (λ (d : ℕ). put out (acceptedText count d)) e ∙ ap (λ (x : Told Unit). put out (walkedText s tape count x)) (sym (ap toldWalk h) ∙ told-is)
 
-  pub walked-refused : (d : Refusal) → r ≡ NotWalked d → (p : ℕ) → p ≡ walkPlace tape count d → end ≡ put out (refusedText s (d .number) p)
+  pub walked-refused : (d : Refusal) → r ≡ NotWalked d → (p : ℕ) (b : Begun) → p ≡ walkPlace tape count d → b ≡ walkBegun tape count d
+      → end ≡ put out (refusalText s (d .number) p b)
       → end ≡ put out (walkedText s tape count a)
   unfolding walkedText
-  walked-refused d h p e f =
-      f ∙ ap (λ (k : ℕ). put out (refusedText s (d .number) k)) e ∙ ap (λ (x : Told Unit). put out (walkedText s tape count x)) (sym (ap toldWalk h) ∙ told-is)
+  walked-refused d h p b e g f =
+      f ∙ ap (λ (k : ℕ). put out (refusalText s (d .number) k b)) e ∙ ap (λ (x : Begun). put out (refusalText s (d .number) (walkPlace tape count d) x)) g
+      ∙ ap (λ (x : Told Unit). put out (walkedText s tape count x)) (sym (ap toldWalk h) ∙ told-is)
 
 -- ---- the read
 
@@ -48,9 +53,11 @@ module _ (s tape t : List ℕ) (r : ReadAnswer) (told-is : toldRead r ≡ readAn
         f ∙ ap (λ (x : List ℕ). put out (walkedText s x n (walkOf x n 128 links))) tape-is
         ∙ ap (λ (x : Told ℕ). put out (readText s (readTape s tape) links x)) (sym (ap toldRead h) ∙ told-is)
 
-    pub explained-refused : (d : Refusal) → r ≡ NotRead d → end ≡ put out (refusedText s (d .number) (d .place)) → end ≡ put out (explained s tape links)
+    pub explained-refused : (d : Refusal) → r ≡ NotRead d → (b : Begun) → b ≡ readBegun s (d .number)
+        → end ≡ put out (refusalText s (d .number) (d .place) b) → end ≡ put out (explained s tape links)
     unfolding explained readText
-    explained-refused d h f = f ∙ ap (λ (x : Told ℕ). put out (readText s (readTape s tape) links x)) (sym (ap toldRead h) ∙ told-is)
+    explained-refused d h b g f =
+        f ∙ ap (λ (x : Begun). put out (refusalText s (d .number) (d .place) x)) g ∙ ap (λ (x : Told ℕ). put out (readText s (readTape s tape) links x)) (sym (ap toldRead h) ∙ told-is)
 
 module _ (tape links after : List ℕ) (a : Told ℕ) (r : ReadAnswer) (told-is : toldRead r ≡ a) where
   pub links-accepted : (n : ℕ) → r ≡ Accepted n → after ≡ linksAfter tape n 128 links → after ≡ linksBehind tape links a

@@ -1,11 +1,15 @@
 -- What is said of a text: how many entries it has and how deep they are nested, or why it is refused, and where.
 use Prim.Native.Nat.{ℕ, min}
-use mathlib.Core.List.{List, _++_}
+use mathlib.Core.List.{List, [], _++_}
 use lib.ListN.{length}
 use Rattle.depth.specs.Depth.{deepestOf}
 use Rattle.grammar.specs.Kinds.{kindsOf}
 use Rattle.lines.specs.Ascii.{ascii}
 use Rattle.lines.specs.Decimal.{decimal, wordOf}
+use Rattle.opened.specs.Begun.{readBegun}
+use Rattle.opened.specs.Brackets.{walkBegun}
+use Rattle.opened.specs.declared.begun.Begun.{Begun}
+use Rattle.opened.specs.declared.begun.Begun.the-variants.{Nothing, Comment, Quote, Bracket}
 use Rattle.places.specs.Columns.{columnOf}
 use Rattle.places.specs.Entries.{walkPlace}
 use Rattle.places.specs.Lines.{lineOf}
@@ -36,10 +40,29 @@ refusedAt s n p = positionText s p ++ reasonText n ++ excerptText s p
 unfoldable pub refusedText : List ℕ → ℕ → ℕ → List ℕ
 refusedText s n at = refusedAt s n (min at (length s))
 
+-- The place where something began: line, column, what it is, and the line.
+unfoldable pub beganAt : List ℕ → List ℕ → ℕ → List ℕ
+beganAt s said p = positionText s p ++ said ++ excerptText s p
+
+-- The same; a place behind the end would be shown at the end.
+unfoldable pub beganText : List ℕ → List ℕ → ℕ → List ℕ
+beganText s said at = beganAt s said (min at (length s))
+
+-- Where what is not closed began, if anything did.
+unfoldable pub begunText : List ℕ → Begun → List ℕ
+begunText s Nothing = []
+begunText s (Comment p) = beganText s (ascii "the comment begins here\n") p
+begunText s (Quote p) = beganText s (ascii "the string begins here\n") p
+begunText s (Bracket p) = beganText s (ascii "this bracket is open\n") p
+
+-- A refusal, and below it where what is not closed began.
+unfoldable pub refusalText : List ℕ → ℕ → ℕ → Begun → List ℕ
+refusalText s n at b = refusedText s n at ++ begunText s b
+
 -- What is said of a text with so many entries on its tape, by the walk's answer.
 unfoldable pub walkedText : List ℕ → List ℕ → ℕ → Told Unit → List ℕ
 walkedText s tape count (accepted t) = acceptedText count (deepestOf (kindsOf (entriesOf count tape)))
-walkedText s tape count (refused r) = refusedText s (r .number) (walkPlace tape count r)
+walkedText s tape count (refused r) = refusalText s (r .number) (walkPlace tape count r) (walkBegun tape count r)
 
 -- The same, walked with room for so many links; up to 128 brackets may be open.
 abbrev pub walkText : List ℕ → List ℕ → ℕ → ℕ → List ℕ
@@ -48,7 +71,7 @@ walkText s tape count links = walkedText s tape count (walkOf tape count 128 lin
 -- What is said of a text, by the read's answer.
 unfoldable pub readText : List ℕ → List ℕ → ℕ → Told ℕ → List ℕ
 readText s tape links (accepted n) = walkText s tape n links
-readText s tape links (refused r) = refusedText s (r .number) (r .place)
+readText s tape links (refused r) = refusalText s (r .number) (r .place) (readBegun s (r .number))
 
 -- The links afterwards: a refused text leaves them.
 unfoldable pub linksBehind : List ℕ → List ℕ → Told ℕ → List ℕ

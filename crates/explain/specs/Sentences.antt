@@ -35,13 +35,13 @@ sentences =
     ascii "an attribute is expected\n" ++
     ascii "the end of the attribute is expected\n" ++
     ascii "the extension is not known\n" ++
-    ascii "there is no room for the entries\n" ++
+    ascii "there is no room: the tape, the links or the buffer is too short\n" ++
     ascii "the cut, the lengths or the tape are not in order\n" ++
-    ascii "more than 128 brackets are open\n" ++
+    ascii "more brackets are open than the limit allows\n" ++
     ascii "this cannot stand here\n" ++
     ascii "the text ends before its value does\n" ++
     ascii "the entry or the suffix is of another kind\n" ++
-    ascii "a place, entry number, cursor or limit is unfit\n" ++
+    ascii "a place, entry number, cursor, limit, width or mode is unfit\n" ++
     ascii "the contents hold an escape or a line continuation\n"
 
 -- The sentence of a number: its line, and the last one for a number above 28.

@@ -93,6 +93,7 @@ fn margin(o: &mut [u8], at: usize, cut: bool, b: u8) -> usize
     a
 }
 
+// Both lines, from a place of the output on: where they end there.
 pub fn excerpt(o: &mut [u8], at: usize, s: &[u8], place: usize) -> usize
     requires { ⌜ place ≤ length (now s) ⌝ }
     ensures { λ r. ⌜ (now (o .exit), r) ≡ put (now (o .entry), at) (excerptText (now (s .entry)) place) ⌝ }

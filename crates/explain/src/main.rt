@@ -1,75 +1,30 @@
 // A RON text on standard input, explained to people: how many entries it has and how deep they are nested, or why it is refused, and where.
+mod answer;
 mod excerpt;
 mod sentence;
 
+use answer::accepted;
+use answer::refused;
 use depth::deepest;
 use libc::STDIN_FILENO;
 use lines::input;
 use lines::out;
-use places::column::column_of;
+use opened::begun::read_begun;
+use opened::brackets::walk_begun;
 use places::entry::walk_place;
-use places::line::line_of;
 use sarridok::ReadAnswer;
 use sarridok::WalkAnswer;
 ghost use mathlib.Core.Path.{_≡_};
-ghost use Prim.Native.Nat.{_≤_, min};
+ghost use Prim.Native.Nat.{_≤_};
 ghost use lib.ListN.{length};
 ghost use Rattle.lines.specs.Out.{put};
 ghost use Rattle.read.specs.Read.{readAnswer, readTape};
 ghost use Rattle.rows.specs.Rows.{roomOf};
 ghost use Rattle.sarridok.specs.Walked.{linksAfter};
-ghost use Rattle.explain.specs.Explained.{acceptedText, positionText, reasonText, refusedText, walkText, linksBehind, explained};
+ghost use Rattle.explain.specs.Explained.{walkText, linksBehind, explained};
 
 // Brackets may be open up to this many.
 const LIMIT: usize = 128;
-
-fn accepted(o: &mut [u8], count: usize, depth: usize) -> usize
-    ensures { λ r. ⌜ (now (o .exit), r) ≡ put (now (o .entry), 0) (acceptedText count depth) ⌝ }
-{
-    let a = out::bytes(o, 0, b"ok");
-    let b = out::word(o, a, count as u64);
-    let c = out::bytes(o, b, b" entries, depth");
-    let d = out::word(o, c, depth as u64);
-    out::byte(o, d, b'\n')
-}
-
-// A place behind the end, which no refusal has, would be shown at the end.
-fn within(place: usize, s: &[u8]) -> usize
-    ensures { λ r. ⌜ r ≡ min place (length (now (s .entry))) ⌝ }
-{
-    if place < s.len() { place } else { s.len() }
-}
-
-// Line and column are counted from 1.
-fn position(o: &mut [u8], s: &[u8], place: usize) -> usize
-    ensures { λ r. ⌜ (now (o .exit), r) ≡ put (now (o .entry), 0) (positionText (now (s .entry)) place) ⌝ }
-{
-    let a = out::bytes(o, 0, b"line");
-    let b = out::word(o, a, line_of(s, place) as u64);
-    let c = out::bytes(o, b, b", column");
-    let d = out::word(o, c, column_of(s, place) as u64);
-    out::bytes(o, d, b": ")
-}
-
-// The sentence of a refusal, with its number.
-fn reason(o: &mut [u8], at: usize, number: u8) -> usize
-    ensures { λ r. ⌜ (now (o .exit), r) ≡ put (now (o .entry), at) (reasonText number) ⌝ }
-{
-    let a = sentence::say(o, at, number);
-    let b = out::bytes(o, a, b" [");
-    let c = out::number(o, b, number as u64);
-    out::bytes(o, c, b"]\n")
-}
-
-// The refusal with this number, at a byte of the text.
-fn refused(o: &mut [u8], s: &[u8], number: u8, at: usize) -> usize
-    ensures { λ r. ⌜ (now (o .exit), r) ≡ put (now (o .entry), 0) (refusedText (now (s .entry)) number at) ⌝ }
-{
-    let place = within(at, s);
-    let a = position(o, s, place);
-    let b = reason(o, a, number);
-    excerpt::excerpt(o, b, s, place)
-}
 
 // The walk of a tape with so many entries.
 fn walked(o: &mut [u8], s: &[u8], tape: &[u32], count: usize, links: &mut [u32]) -> usize
@@ -80,7 +35,11 @@ fn walked(o: &mut [u8], s: &[u8], tape: &[u32], count: usize, links: &mut [u32])
     let r = sarridok::walk(tape, count, LIMIT, links);
     match r {
         WalkAnswer::Walked => accepted(o, count, deepest(tape, count)),
-        WalkAnswer::Refused(f) => refused(o, s, f.number, walk_place(tape, count, f)),
+        WalkAnswer::Refused(f) => {
+            let place = walk_place(tape, count, f);
+            let begun = walk_begun(tape, count, f);
+            refused(o, s, f.number, place, begun)
+        }
     }
 }
 
@@ -93,7 +52,7 @@ fn explain(o: &mut [u8], s: &[u8], tape: &mut [u32], links: &mut [u32]) -> usize
     let r = sarridok::read(s, tape);
     match r {
         ReadAnswer::Accepted(n) => walked(o, s, &tape[..], n, links),
-        ReadAnswer::Refused(f) => refused(o, s, f.number, f.place),
+        ReadAnswer::Refused(f) => refused(o, s, f.number, f.place, read_begun(s, f.number)),
     }
 }
 

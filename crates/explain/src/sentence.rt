@@ -25,6 +25,7 @@ fn known(number: u8) -> usize
     if number < 29 { number as usize } else { 29 }
 }
 
+// The sentence of a number, from a place of the output on.
 pub fn say(o: &mut [u8], at: usize, number: u8) -> usize
     ensures { λ r. ⌜ (now (o .exit), r) ≡ put (now (o .entry), at) (sentenceOf number) ⌝ }
 {
@@ -50,13 +51,13 @@ pub fn say(o: &mut [u8], at: usize, number: u8) -> usize
             an attribute is expected\n\
             the end of the attribute is expected\n\
             the extension is not known\n\
-            there is no room for the entries\n\
+            there is no room: the tape, the links or the buffer is too short\n\
             the cut, the lengths or the tape are not in order\n\
-            more than 128 brackets are open\n\
+            more brackets are open than the limit allows\n\
             this cannot stand here\n\
             the text ends before its value does\n\
             the entry or the suffix is of another kind\n\
-            a place, entry number, cursor or limit is unfit\n\
+            a place, entry number, cursor, limit, width or mode is unfit\n\
             the contents hold an escape or a line continuation\n";
     out::bytes(o, at, line(all, known(number)))
 }

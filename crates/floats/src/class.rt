@@ -5,6 +5,7 @@ ghost use mathlib.Core.Path.{_≡_};
 ghost use lib.ListN.{getD};
 ghost use Rattle.floats.specs.Classes.{sign, scale, floatGoes, floatRun};
 
+// `+` or `-`.
 pub fn is_sign(c: u8) -> bool
     ensures { λ r. ⌜ r ≡ sign c ⌝ }
 {
@@ -14,6 +15,7 @@ pub fn is_sign(c: u8) -> bool
     c == b'-'
 }
 
+// `e` or `E`, which an exponent begins with.
 pub fn is_scale(c: u8) -> bool
     ensures { λ r. ⌜ r ≡ scale c ⌝ }
 {

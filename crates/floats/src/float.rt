@@ -27,13 +27,11 @@ pub enum AnyFloat {
 fn float_suffix(t: &[u8]) -> Found
     ensures { λ r. ⌜ r ≡ firstOf floatSuffixes (now (t .entry)) ⌝ }
 {
-    let a = check_ident(t, b"f32");
-    if a != 0 {
-        return Found { code: 32, end: a };
+    if check_ident(t, b"f32") {
+        return Found { code: 32, end: 3 };
     }
-    let b = check_ident(t, b"f64");
-    if b != 0 {
-        return Found { code: 64, end: b };
+    if check_ident(t, b"f64") {
+        return Found { code: 64, end: 3 };
     }
     nothing()
 }
@@ -42,29 +40,23 @@ fn float_suffix(t: &[u8]) -> Found
 pub fn special(t: &[u8]) -> Found
     ensures { λ r. ⌜ r ≡ firstOf specials (now (t .entry)) ⌝ }
 {
-    let a = check_ident(t, b"inf");
-    if a != 0 {
-        return Found { code: 0, end: a };
+    if check_ident(t, b"inf") {
+        return Found { code: 0, end: 3 };
     }
-    let b = check_ident(t, b"inff32");
-    if b != 0 {
-        return Found { code: 32, end: b };
+    if check_ident(t, b"inff32") {
+        return Found { code: 32, end: 6 };
     }
-    let d = check_ident(t, b"inff64");
-    if d != 0 {
-        return Found { code: 64, end: d };
+    if check_ident(t, b"inff64") {
+        return Found { code: 64, end: 6 };
     }
-    let e = check_ident(t, b"NaN");
-    if e != 0 {
-        return Found { code: 0, end: e };
+    if check_ident(t, b"NaN") {
+        return Found { code: 0, end: 3 };
     }
-    let f = check_ident(t, b"NaNf32");
-    if f != 0 {
-        return Found { code: 32, end: f };
+    if check_ident(t, b"NaNf32") {
+        return Found { code: 32, end: 6 };
     }
-    let g = check_ident(t, b"NaNf64");
-    if g != 0 {
-        return Found { code: 64, end: g };
+    if check_ident(t, b"NaNf64") {
+        return Found { code: 64, end: 6 };
     }
     nothing()
 }
@@ -83,6 +75,7 @@ fn behind_judged(judged: Judged, code: u8, end: usize) -> AnyFloat
     }
 }
 
+// A float without inf and NaN.
 fn run_at(s: &[u8]) -> AnyFloat
     ensures { λ r. ⌜ r ≡ runAt (now (s .entry)) ⌝ }
 {
@@ -96,6 +89,7 @@ fn run_at(s: &[u8]) -> AnyFloat
     behind_judged(judged, found.code, end)
 }
 
+// The float that the part begins with; inf and NaN are floats behind a sign only.
 pub fn float(s: &[u8]) -> AnyFloat
     ensures { λ r. ⌜ r ≡ floatOf (now (s .entry)) ⌝ }
 {

@@ -30,6 +30,7 @@ fn may_follow(may: bool, c: u8) -> bool
     may
 }
 
+// An underscore where none may follow.
 fn is_misplaced(may: bool, c: u8) -> bool
     ensures { λ r. ⌜ r ≡ misplaced may c ⌝ }
 {

@@ -117,6 +117,7 @@ pub fn advance(st: State, c: u8) -> State
     step(st, c)
 }
 
+// A float may end here.
 pub fn is_final(st: State) -> bool
     ensures { λ r. ⌜ r ≡ final st ⌝ }
 {

@@ -13,12 +13,13 @@ use Rattle.integers.specs.declared.width.Width.{Width}
 use Rattle.read.specs.Read.{fitted, readAnswer, readingOf}
 use Rattle.repair.specs.Repair.{repairAnswerOf, repairOf}
 use Rattle.rows.specs.Rows.{roomOf}
+use Rattle.structs.specs.Kinds.{placedKind}
 use Rattle.structs.specs.Structs.{structTypeOf}
 use Rattle.structs.specs.declared.kinds.NewtypeMode.{NewtypeMode}
 use Rattle.structs.specs.declared.kinds.TupleMode.{TupleMode}
 use Rattle.sarridok.specs.Contents.{contentsOf, decodedAnswer}
 use Rattle.sarridok.specs.Skip.{skipOf, toldSkip}
-use Rattle.sarridok.specs.StructKind.{kindPlaced, structKindOf, toldStruct}
+use Rattle.sarridok.specs.StructKind.{structKindOf, toldStruct}
 use Rattle.sarridok.specs.Typed.{integerAt, integerOf, placedAt, toldInteger as toldTyped}
 use Rattle.given.proofs.Owns.{contents-own, decoded-own, or-unfit, skip-own, struct-own}
 use Rattle.given.proofs.Repairs.{fitted-own, repaired-own}
@@ -40,7 +41,7 @@ unfolding integerOf behindFront
 integer-front text place width = front text _ (or-unfit (placeFits text place) _ (integer-own place width (drop place text)))
 
 pub struct-kind-front : (text : List ℕ) (place : ℕ) (newtype : NewtypeMode) (tuple : TupleMode)
-    → FrontOf text (structKindOf text place newtype tuple) (cond (placeFits text place) (toldStruct (kindPlaced place (structTypeOf (drop place text) newtype tuple))) (refused unfit))
+    → FrontOf text (structKindOf text place newtype tuple) (cond (placeFits text place) (toldStruct (placedKind place (structTypeOf (drop place text) newtype tuple))) (refused unfit))
 unfolding structKindOf behindFront
 struct-kind-front text place newtype tuple = front text _ (or-unfit (placeFits text place) _ (struct-own place (drop place text) newtype tuple))
 

@@ -20,7 +20,8 @@ use Rattle.strings.specs.declared.literal.LiteralAnswer.the-variants.{Read, Ref
 use Rattle.entries.specs.Contents.{byNamed, decodedIn}
 use Rattle.entries.specs.Named.{literalDecoded, literalOf, namedOf}
 use Rattle.entries.specs.declared.named.Named.{Named}
-use Rattle.entries.specs.declared.named.Named.the-variants.{At, Unnamed}
+use Rattle.entries.specs.declared.named.Named.the-variants.{At}
+use Rattle.entries.specs.declared.named.Named.the-variants as named
 use Rattle.sarridok.specs.Contents.{decodedAnswer}
 use Rattle.quoted.specs.Decoding.{Decodes}
 use Rattle.quoted.proofs.Decoded.{literal-reads, literal-stands}
@@ -60,7 +61,7 @@ module _ (text tape : List ℕ) (count entry room : ℕ) where
   by-named : (x : Named) → judgedOf text ≡ Fit → namedOf text tape count entry ≡ x → Own-named x
       → byNamed x (λ bytes place. decodedIn place room (literalOf bytes (drop place text))) ≡ refused noRoom → TooLong
   by-named (At bytes place) j m o f = by-literal bytes place (literalOf bytes (drop place text)) j m refl (literal-inner bytes (drop place text)) f
-  by-named (Unnamed r) j m o f = let z : r .number ≡ 22 = ap numberIn f in absurd (omega (arith, within-true 23 28 (r .number) o .0))
+  by-named (named.Refused r) j m o f = let z : r .number ≡ 22 = ap numberIn f in absurd (omega (arith, within-true 23 28 (r .number) o .0))
 
   gives : decodedAnswer text tape count entry room ≡ refused noRoom → TooLong
   gives e =

@@ -17,11 +17,12 @@ use Rattle.cursor.specs.Cursor.{unclosedLine}
 use Rattle.cursor.specs.Skip.{cursorFits, lengthFits, skipWsOf}
 use Rattle.cursor.specs.declared.ParserCursor.{ParserCursor}
 use Rattle.integers.specs.declared.width.Width.{Width}
+use Rattle.structs.specs.Kinds.{placedKind}
 use Rattle.structs.specs.Structs.{structTypeOf}
 use Rattle.structs.specs.declared.kinds.NewtypeMode.{NewtypeMode}
 use Rattle.structs.specs.declared.kinds.TupleMode.{TupleMode}
 use Rattle.sarridok.specs.Skip.{skipOf, toldSkip}
-use Rattle.sarridok.specs.StructKind.{kindPlaced, structKindOf, toldStruct}
+use Rattle.sarridok.specs.StructKind.{structKindOf, toldStruct}
 use Rattle.sarridok.specs.Typed.{integerAt, integerOf, placedAt, toldInteger as toldTyped}
 use Rattle.given.proofs.Front.{FourTo-told, told-number}
 use Rattle.given.proofs.Owns.{skip-own, struct-own}
@@ -102,6 +103,6 @@ integer-placed text place width s =
 
 -- and so does struct kind
 pub struct-kind-placed : (text : List ℕ) (place : ℕ) (newtype : NewtypeMode) (tuple : TupleMode) → Sound text
-    → PlacedOf (Boundary text place) (structKindOf text place newtype tuple) (toldStruct (kindPlaced place (structTypeOf (drop place text) newtype tuple)))
+    → PlacedOf (Boundary text place) (structKindOf text place newtype tuple) (toldStruct (placedKind place (structTypeOf (drop place text) newtype tuple)))
 struct-kind-placed text place newtype tuple s =
     placed (placeFits text place) _ _ _ (struct-kind-front text place newtype tuple .past s) (struct-own place (drop place text) newtype tuple) (place-exactly text place (s .encoded))

@@ -13,11 +13,14 @@ use Rattle.attributes.specs.Words.{keywordAt}
 use Rattle.attributes.specs.declared.AttributeAnswer.{AttributeAnswer}
 use Rattle.attributes.specs.declared.AttributeAnswer.the-variants.{Read, Refused}
 use Rattle.attributes.specs.declared.list.Listed.{Listed}
-use Rattle.attributes.specs.declared.list.Listed.the-variants.{Ended, Unlisted}
+use Rattle.attributes.specs.declared.list.Listed.the-variants.{Ended}
+use Rattle.attributes.specs.declared.list.Listed.the-variants as listing
 use Rattle.attributes.specs.declared.steps.All.{All}
-use Rattle.attributes.specs.declared.steps.All.the-variants.{At, Failed}
+use Rattle.attributes.specs.declared.steps.All.the-variants.{At}
+use Rattle.attributes.specs.declared.steps.All.the-variants as consumed
 use Rattle.attributes.specs.declared.steps.Step.{Step}
-use Rattle.attributes.specs.declared.steps.Step.the-variants.{On, Bad}
+use Rattle.attributes.specs.declared.steps.Step.the-variants.{On}
+use Rattle.attributes.specs.declared.steps.Step.the-variants as step
 use Rattle.attributes.specs.declared.words.Keyword.{Keyword}
 use Rattle.attributes.specs.declared.words.Keyword.the-variants.{Enable, Text, NoKeyword}
 use Rattle.strings.specs.Strings.{stringOf}
@@ -35,7 +38,7 @@ Inner-attribute (Refused r) = Inner r
 
 answer-at : (a : Step) (go : ℕ → AttributeAnswer) → Inner-step a → ((p : ℕ) → Inner-attribute (go p)) → Inner-attribute (answerAt a go)
 answer-at (On p) go h k = k p
-answer-at (Bad r) go h k = h
+answer-at (step.Refused r) go h k = h
 
 -- ---- its end
 
@@ -49,7 +52,7 @@ list-end s all at sum = both Inner-attribute (eqb (getD s at 0) 0x5d) (both Inne
 
 by-bracket : (s : List ℕ) (sum : ℕ) (a : All) → Inner-all a → Inner-attribute (byBracket s sum a)
 by-bracket s sum (At all at) h = list-end s all at sum
-by-bracket s sum (Failed r) h = h
+by-bracket s sum (consumed.Refused r) h = h
 
 close-list : (s : List ℕ) (at sum : ℕ) → Inner-attribute (closeList s at sum)
 unfolding closeList
@@ -71,7 +74,7 @@ string-from s at = by-string s at (stringOf (drop at s)) (string-inner (drop at 
 
 by-listed : (s : List ℕ) (a : Listed) → Inner-listed a → Inner-attribute (byListed s a)
 by-listed s (Ended at sum) h = close-list s at sum
-by-listed s (Unlisted r) h = h
+by-listed s (listing.Refused r) h = h
 
 by-keyword : (s : List ℕ) (k : Keyword) → Inner-attribute (byKeyword s k)
 unfolding enableFrom stringValueFrom within
@@ -82,7 +85,7 @@ by-keyword s NoKeyword = refl
 by-opened : (s : List ℕ) (a : All) → Inner-all a → Inner-attribute (byOpened s a)
 unfolding keywordFrom within
 by-opened s (At all at) h = both Inner-attribute all (by-keyword s (keywordAt s at)) refl
-by-opened s (Failed r) h = h
+by-opened s (consumed.Refused r) h = h
 
 opened : (s : List ℕ) → Inner-all (openedOf s)
 unfolding openedOf

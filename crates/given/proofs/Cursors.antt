@@ -69,8 +69,8 @@ expected-inner text c b r h = both Inner-step (beginsWith b (drop (c .cursor) te
 -- ---- escapes
 
 abbrev pub Inner-escaped : Escaped → Type 0
-Inner-escaped (escaped.Byte b c) = Unit
-Inner-escaped (escaped.Point p c) = Unit
+Inner-escaped (escaped.Ascii b c) = Unit
+Inner-escaped (escaped.Utf8 p c) = Unit
 Inner-escaped (escaped.Refused r) = Inner r
 
 behind-escape : (c : ParserCursor) (a : EscapeAnswer) → Inner-escape a → Inner-escaped (behindEscape c a)

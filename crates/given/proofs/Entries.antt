@@ -16,7 +16,8 @@ use Rattle.strings.specs.declared.literal.LiteralAnswer.the-variants.{Read, Ref
 use Rattle.entries.specs.Contents.{byNamed, contentsIn, decodedIn}
 use Rattle.entries.specs.Named.{byKind, insideOf, namedOf, literalOf}
 use Rattle.entries.specs.declared.named.Named.{Named}
-use Rattle.entries.specs.declared.named.Named.the-variants.{At, Unnamed}
+use Rattle.entries.specs.declared.named.Named.the-variants.{At}
+use Rattle.entries.specs.declared.named.Named.the-variants as named
 use Rattle.given.specs.Given.{within}
 use Rattle.given.proofs.Both.{both}
 use Rattle.given.proofs.Front.{Own-told, inner-own}
@@ -24,7 +25,7 @@ use Rattle.given.proofs.Strings.{Inner-literal, string-inner, byte-stri
 
 abbrev pub Own-named : Named → Type 0
 Own-named (At bytes place) = Unit
-Own-named (Unnamed r) = within 23 28 (r .number) ≡ true
+Own-named (named.Refused r) = within 23 28 (r .number) ≡ true
 
 by-kind : (kind place : ℕ) → Own-named (byKind kind place)
 unfolding byKind within
@@ -42,7 +43,7 @@ named-own text tape count entry =
 
 pub by-named : {A : Type 0} (n : Named) (own : Bool → ℕ → Told A) → Own-named n → ((bytes : Bool) (place : ℕ) → Own-told (own bytes place)) → Own-told (byNamed n own)
 by-named (At bytes place) own h k = k bytes place
-by-named (Unnamed r) own h k = let w = within-true 23 28 (r .number) h in in-range 4 29 (r .number) (omega (arith, w .0)) (omega (arith, w .1))
+by-named (named.Refused r) own h k = let w = within-true 23 28 (r .number) h in in-range 4 29 (r .number) (omega (arith, w .0)) (omega (arith, w .1))
 
 pub literal-inner : (bytes : Bool) (s : List ℕ) → Inner-literal (literalOf bytes s)
 literal-inner false s = string-inner s

@@ -11,13 +11,16 @@ use Rattle.attributes.specs.declared.extensions.Extension.{Extension}
 use Rattle.attributes.specs.declared.extensions.Named.{Named}
 use Rattle.attributes.specs.declared.extensions.Named.the-variants.{Known, Unknown}
 use Rattle.attributes.specs.declared.list.Item.{Item}
-use Rattle.attributes.specs.declared.list.Item.the-variants.{More, Last, NoName, NoComma, Spoilt}
+use Rattle.attributes.specs.declared.list.Item.the-variants.{More, Last, NoName, NoComma}
+use Rattle.attributes.specs.declared.list.Item.the-variants as items
 use Rattle.attributes.specs.declared.list.Listed.{Listed}
-use Rattle.attributes.specs.declared.list.Listed.the-variants.{Ended, Unlisted}
+use Rattle.attributes.specs.declared.list.Listed.the-variants.{Ended}
+use Rattle.attributes.specs.declared.list.Listed.the-variants as listing
 use Rattle.attributes.specs.declared.list.OtherChar.{OtherChar}
 use Rattle.attributes.specs.declared.list.OtherChar.the-variants.{Goes, Ends}
 use Rattle.attributes.specs.declared.steps.All.{All}
-use Rattle.attributes.specs.declared.steps.All.the-variants.{At, Failed}
+use Rattle.attributes.specs.declared.steps.All.the-variants.{At}
+use Rattle.attributes.specs.declared.steps.All.the-variants as consumed
 use Rattle.names.specs.Identifiers.{identifierOf}
 use Rattle.names.specs.declared.Identifier.{Identifier}
 use Rattle.names.specs.declared.Identifier.the-variants.{Missing, Name, RawName}
@@ -30,11 +33,11 @@ Inner-item (More n e) = Unit
 Inner-item (Last n e) = Unit
 Inner-item NoName = Unit
 Inner-item NoComma = Unit
-Inner-item (Spoilt r) = Inner r
+Inner-item (items.Refused r) = Inner r
 
 abbrev pub Inner-listed : Listed → Type 0
 Inner-listed (Ended at sum) = Unit
-Inner-listed (Unlisted r) = Inner r
+Inner-listed (listing.Refused r) = Inner r
 
 by-other : (o : OtherChar) (e : Extension) (comma : Bool) (at : ℕ) → Inner-item (byOther o e comma at)
 by-other Goes e comma at = both Inner-item comma tt tt
@@ -43,7 +46,7 @@ by-other Ends e comma at = tt
 by-comma : (t : List ℕ) (e : Extension) (a : All) → Inner-all a → Inner-item (byComma t e a)
 unfolding itemEnd
 by-comma t e (At comma at) h = by-other (otherChar t at) e comma at
-by-comma t e (Failed r) h = h
+by-comma t e (consumed.Refused r) h = h
 
 behind-name : (t : List ℕ) (e : Extension) (n : ℕ) → Inner-item (behindName t e n)
 unfolding behindName
@@ -70,7 +73,7 @@ by-item (More n e) on at sum h k = k n e
 by-item (Last n e) on at sum h k = tt
 by-item NoName on at sum h k = refl
 by-item NoComma on at sum h k = refl
-by-item (Spoilt r) on at sum h k = h
+by-item (items.Refused r) on at sum h k = h
 
 list-from : (t : List ℕ) (left at sum : ℕ) → Inner-listed (listFrom t left at sum)
 unfolding listFrom within

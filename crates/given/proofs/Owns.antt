@@ -20,13 +20,14 @@ use Rattle.grammar.specs.declared.ends.Verdict.{Verdict}
 use Rattle.grammar.specs.declared.ends.Verdict.the-variants as verdict
 use Rattle.rows.specs.Order.{inOrder}
 use Rattle.rows.specs.Rows.{roomOf, entriesOf}
+use Rattle.structs.specs.Kinds.{placedKind}
 use Rattle.structs.specs.Structs.{structTypeOf}
 use Rattle.structs.specs.declared.kinds.NewtypeMode.{NewtypeMode}
 use Rattle.structs.specs.declared.kinds.TupleMode.{TupleMode}
 use Rattle.structs.specs.declared.kinds.StructAnswer.{StructAnswer}
 use Rattle.structs.specs.declared.kinds.StructAnswer.the-variants as struct
 use Rattle.sarridok.specs.Skip.{toldSkip}
-use Rattle.sarridok.specs.StructKind.{toldStruct, kindPlaced}
+use Rattle.sarridok.specs.StructKind.{toldStruct}
 use Rattle.sarridok.specs.Walked.{judged, behindWalkFront, walkOf}
 use Rattle.given.specs.Given.{within}
 use Rattle.given.proofs.Both.{both}
@@ -51,11 +52,11 @@ told-step (step.Refused r) h = higher 21 27 r (lit≤ tt) h
 pub skip-own : (text : List ℕ) (c : ParserCursor) → FourTo-told 27 (toldSkip (skipWsOf text c))
 skip-own text c = told-step (skipWsOf text c) (skip-ws-inner text c)
 
-told-struct : (place : ℕ) (a : StructAnswer) → Inner-struct a → FourTo-told 27 (toldStruct (kindPlaced place a))
+told-struct : (place : ℕ) (a : StructAnswer) → Inner-struct a → FourTo-told 27 (toldStruct (placedKind place a))
 told-struct place (struct.Kind k) h = tt
 told-struct place (struct.Refused r) h = higher 21 27 r (lit≤ tt) h
 
-pub struct-own : (place : ℕ) (s : List ℕ) (newtype : NewtypeMode) (tuple : TupleMode) → FourTo-told 27 (toldStruct (kindPlaced place (structTypeOf s newtype tuple)))
+pub struct-own : (place : ℕ) (s : List ℕ) (newtype : NewtypeMode) (tuple : TupleMode) → FourTo-told 27 (toldStruct (placedKind place (structTypeOf s newtype tuple)))
 struct-own place s newtype tuple = told-struct place (structTypeOf s newtype tuple) (struct-type-inner s newtype tuple)
 
 -- ---- calls for an entry

@@ -17,7 +17,8 @@ use Rattle.strings.specs.Quoted.{measured, quotedOf}
 use Rattle.strings.specs.Raw.{hash, rawEnd, missing, rawOf}
 use Rattle.strings.specs.Strings.{stringOf, byteStringOf}
 use Rattle.strings.specs.declared.pieces.Piece.{Piece}
-use Rattle.strings.specs.declared.pieces.Piece.the-variants.{Quote, Plain, Backslash, Spoilt}
+use Rattle.strings.specs.declared.pieces.Piece.the-variants.{Quote, Plain, Backslash}
+use Rattle.strings.specs.declared.pieces.Piece.the-variants as pieces
 use Rattle.strings.specs.declared.literal.LiteralAnswer.{LiteralAnswer}
 use Rattle.strings.specs.declared.literal.LiteralAnswer.the-variants.{Read, Refused}
 use Rattle.given.specs.Given.{Inner, within}
@@ -34,7 +35,7 @@ abbrev Inner-piece : Piece → Type 0
 Inner-piece Quote = Unit
 Inner-piece (Plain n) = Unit
 Inner-piece (Backslash n d) = Unit
-Inner-piece (Spoilt r) = Inner r
+Inner-piece (pieces.Refused r) = Inner r
 
 abbrev Inner-body : Body → Type 0
 Inner-body closes = Unit
@@ -57,7 +58,7 @@ by-piece : (p : Piece) (s : List ℕ) (rest : ℕ → Body) → Inner-piece p �
 by-piece Quote s rest h k = tt
 by-piece (Plain n) s rest h k = k n
 by-piece (Backslash n d) s rest h k = k n
-by-piece (Spoilt r) s rest h k = h
+by-piece (pieces.Refused r) s rest h k = h
 
 body : (m : Mode) (s : List ℕ) (left : ℕ) → Inner-body (bodyFrom m s left)
 unfolding bodyFrom

@@ -1,4 +1,5 @@
 // The kinds of entries that the grammar tells apart.
+use rows::kinds;
 ghost use mathlib.Core.Path.{_≡_};
 ghost use Rattle.grammar.specs.Kinds.{kindOf, sideOf};
 
@@ -28,39 +29,40 @@ pub enum Side {
 pub fn kind_of(k: u32) -> Kind
     ensures { λ r. ⌜ r ≡ kindOf k ⌝ }
 {
-    if k == 1 {
+    if k == kinds::OPEN_PAREN {
         return Kind::OpenRound;
     }
-    if k == 2 {
+    if k == kinds::CLOSE_PAREN {
         return Kind::CloseRound;
     }
-    if k == 3 {
+    if k == kinds::OPEN_BRACKET {
         return Kind::OpenSquare;
     }
-    if k == 4 {
+    if k == kinds::CLOSE_BRACKET {
         return Kind::CloseSquare;
     }
-    if k == 5 {
+    if k == kinds::OPEN_BRACE {
         return Kind::OpenCurly;
     }
-    if k == 6 {
+    if k == kinds::CLOSE_BRACE {
         return Kind::CloseCurly;
     }
-    if k == 7 {
+    if k == kinds::COMMA {
         return Kind::Comma;
     }
-    if k == 8 {
+    if k == kinds::COLON {
         return Kind::Colon;
     }
-    if k < 11 {
+    if k < kinds::INTEGER {
         return Kind::Name;
     }
-    if k < 16 {
+    if k < kinds::ATTRIBUTE {
         return Kind::Scalar;
     }
     Kind::Attribute
 }
 
+// All three shapes of brackets count.
 pub fn side_of(kind: Kind) -> Side
     ensures { λ r. ⌜ r ≡ sideOf kind ⌝ }
 {

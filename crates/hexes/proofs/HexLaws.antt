@@ -4,8 +4,9 @@ use native.Mathlib.Omega.{arith}
 use mathlib.Core.Bool.{cond, true, false}
 use mathlib.Core.Path.{_≡_, _∙_, refl, sym}
 use lib.Dec.{ltb}
-use borrow.Author.Tests.{lt-ltb, ltb-false}
-use Rattle.hexes.specs.Hex.{hexOf}
+use borrow.Author.Tests.{lt-ltb, ltb-false, ltb-true}
+use Rattle.hexes.specs.Hex.{hexAnswer, hexOf}
+use Rattle.hexes.specs.declared.HexAnswer.the-variants.{Digit, NoDigit}
 use Rattle.text.proofs.Choices.{bool-cases, cond-cases, either, lt-or-le}
 use Rattle.text.proofs.ClassLaws.{above, below, within-true}
 use Rattle.text.specs.Classes.{digit, hexDigit, within}
@@ -55,3 +56,18 @@ hex-value c t =
 -- a hex digit is ASCII
 pub hex-ascii : (c : ℕ) → (hexOf c ≡ 16 → ⊥) → c < 0x80
 hex-ascii c n = either (lt-or-le c 0x80) (λ h. h) (λ h. absurd (n (hex-none c (hex-above c (omega arith)))))
+
+-- ---- what an answer says of the byte
+
+module _ (c : ℕ) where
+  pub digit-value : (k : ℕ) → hexAnswer c ≡ Digit k → k ≡ hexOf c
+  digit-value k e = either (bool-cases (hexDigit c)) (λ t. let z : Digit (hexOf c) ≡ Digit k = rw t at e in cc) (λ n. let z : NoDigit ≡ Digit k = rw n at e in cc)
+
+  pub digit-lt : (k : ℕ) → hexAnswer c ≡ Digit k → k < 16
+  digit-lt k e = either (bool-cases (hexDigit c)) (λ t. omega (arith, digit-value k e, ltb-true (hexOf c) 16 (sym (hex-class c) ∙ t))) (λ n. let z : NoDigit ≡ Digit k = rw n at e in let q : _≡_ {A = ℕ} 0 1 = cc in absurd (omega arith))
+
+  pub digit-some : (k : ℕ) → hexAnswer c ≡ Digit k → hexOf c ≡ 16 → ⊥
+  digit-some k e z = omega (arith, z, digit-value k e, digit-lt k e)
+
+  pub no-digit : hexAnswer c ≡ NoDigit → hexOf c ≡ 16
+  no-digit e = either (bool-cases (hexDigit c)) (λ t. let z : Digit (hexOf c) ≡ NoDigit = rw t at e in cc) (hex-none c)

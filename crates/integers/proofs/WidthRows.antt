@@ -1,8 +1,10 @@
 -- The row of a number that names none of the first seven widths, the last one's; and what the widths without a sign hold below 0. Assumes nothing.
 use Prim.Native.Nat.{ℕ, suc, zero}
+use native.Mathlib.Omega.{arith}
 use mathlib.Core.Bool.{false, true}
 use mathlib.Core.List.{List, [], _∷_}
 use mathlib.Core.Path.{_≡_, ap, refl}
+use lib.ListN.{length}
 use Rattle.integers.specs.Width.{limitAt, limitOf, row, suffixWord, widthAt}
 use Rattle.integers.specs.declared.width.Width.{Width}
 use Rattle.integers.specs.declared.width.Width.the-variants.{U64}
@@ -45,3 +47,31 @@ none-below (suc (suc (suc (suc (suc (suc zero)))))) a b c d = refl
 none-below (suc (suc (suc (suc (suc (suc (suc zero))))))) a b c d = refl
 none-below (suc (suc (suc (suc (suc (suc (suc (suc zero)))))))) a b c d = refl
 none-below (suc (suc (suc (suc (suc (suc (suc (suc (suc code))))))))) a b c d = refl
+
+-- ---- the letters of a suffix
+
+pub three-letters : (code : ℕ) → (code ≡ 1 → ⊥) → (code ≡ 5 → ⊥) → length (suffixWord code) ≡ 3
+unfolding suffixWord widthAt
+three-letters zero a b = refl
+three-letters (suc zero) a b = absurd (a refl)
+three-letters (suc (suc zero)) a b = refl
+three-letters (suc (suc (suc zero))) a b = refl
+three-letters (suc (suc (suc (suc zero)))) a b = refl
+three-letters (suc (suc (suc (suc (suc zero))))) a b = absurd (b refl)
+three-letters (suc (suc (suc (suc (suc (suc zero)))))) a b = refl
+three-letters (suc (suc (suc (suc (suc (suc (suc zero))))))) a b = refl
+three-letters (suc (suc (suc (suc (suc (suc (suc (suc zero)))))))) a b = refl
+three-letters (suc (suc (suc (suc (suc (suc (suc (suc (suc code))))))))) a b = refl
+
+pub some-letters : (code : ℕ) → length (suffixWord code) ≡ 0 → ⊥
+unfolding suffixWord widthAt
+some-letters zero h = omega arith
+some-letters (suc zero) h = omega arith
+some-letters (suc (suc zero)) h = omega arith
+some-letters (suc (suc (suc zero))) h = omega arith
+some-letters (suc (suc (suc (suc zero)))) h = omega arith
+some-letters (suc (suc (suc (suc (suc zero))))) h = omega arith
+some-letters (suc (suc (suc (suc (suc (suc zero)))))) h = omega arith
+some-letters (suc (suc (suc (suc (suc (suc (suc zero))))))) h = omega arith
+some-letters (suc (suc (suc (suc (suc (suc (suc (suc zero)))))))) h = omega arith
+some-letters (suc (suc (suc (suc (suc (suc (suc (suc (suc code))))))))) h = omega arith

@@ -2,11 +2,12 @@
 use Prim.Native.Nat.{ℕ, _≤_}
 use native.Mathlib.Omega.{arith}
 use mathlib.Core.List.{List, [], _∷_}
-use mathlib.Core.Path.{_≡_}
+use mathlib.Core.Bool.{false, true}
+use mathlib.Core.Path.{_≡_, refl}
 use lib.Dec.{eqb}
 use lib.ListN.{length, getD, drop}
 use borrow.Author.Tests.{eq-eqb, ne-eqb}
-use Rattle.integers.specs.Words.{identOf, Word, firstOf}
+use Rattle.integers.specs.Words.{identAt, identOf, Word, firstOf}
 use Rattle.text.proofs.Choices.{bool-cases, either}
 use Rattle.text.proofs.WordLaws.{starts-le, starts-other}
 use Rattle.text.specs.Ahead.{nextAhead}
@@ -20,6 +21,23 @@ ident-le word t =
     either (bool-cases (startsWith word t)) (λ a.
     either (bool-cases (nextAhead (drop (length word) t))) (λ b. rw (a, b) (omega arith)) (λ b. rw (a, b) (starts-le word t a)))
     (λ a. rw a (omega arith))
+
+-- ---- its length, by whether it stands there
+
+module _ (word t : List ℕ) where
+  pub ident-here : identAt word t ≡ true → identOf word t ≡ length word
+  unfolding identAt identOf
+  ident-here e =
+      either (bool-cases (startsWith word t)) (λ a.
+      either (bool-cases (nextAhead (drop (length word) t))) (λ b. let z : false ≡ true = simp (a, b) at e in cc) (λ b. rw (a, b) refl))
+      (λ a. let z : false ≡ true = simp a at e in cc)
+
+  pub ident-none : identAt word t ≡ false → identOf word t ≡ 0
+  unfolding identAt identOf
+  ident-none e =
+      either (bool-cases (startsWith word t)) (λ a.
+      either (bool-cases (nextAhead (drop (length word) t))) (λ b. rw (a, b) refl) (λ b. let z : true ≡ false = simp (a, b) at e in cc))
+      (λ a. rw a refl)
 
 -- ---- tables of words
 

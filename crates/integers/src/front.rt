@@ -3,11 +3,13 @@ use text::bytes::peek;
 ghost use mathlib.Core.Path.{_≡_};
 ghost use Rattle.integers.specs.Front.{signOf, prefixOf, frontOf};
 
+// Whether a minus stands there, and the place behind the sign.
 pub struct Sign {
     pub minus: bool,
     pub end: usize,
 }
 
+// The base that a prefix names, or 10, and the place behind the prefix.
 pub struct Prefix {
     pub base: u64,
     pub end: usize,
@@ -20,6 +22,7 @@ pub struct Front {
     pub end: usize,
 }
 
+// The sign at the front of the part, if there is one.
 pub fn sign_of(s: &[u8]) -> Sign
     ensures { λ r. ⌜ r ≡ signOf (now (s .entry)) ⌝ }
 {
@@ -42,6 +45,7 @@ pub fn sign_of(s: &[u8]) -> Sign
     }
 }
 
+// `0b`, `0o` or `0x` at the front of the part.
 fn prefix_of(s: &[u8]) -> Prefix
     ensures { λ r. ⌜ r ≡ prefixOf (now (s .entry)) ⌝ }
 {
@@ -61,6 +65,7 @@ fn prefix_of(s: &[u8]) -> Prefix
     Prefix { base: 10, end: 0 }
 }
 
+// The sign and the prefix at the front of the part.
 pub fn front_of(s: &[u8]) -> Front
     ensures { λ r. ⌜ r ≡ frontOf (now (s .entry)) ⌝ }
 {

@@ -1,15 +1,17 @@
 // Words at the front of a part, after the crate's `check_str` and `check_ident`.
 use text::ahead::is_next_ahead;
 ghost use mathlib.Core.Path.{_≡_};
-ghost use Rattle.integers.specs.Words.{identOf};
+ghost use Rattle.integers.specs.Words.{identAt};
 ghost use Rattle.text.specs.Words.{startsWith};
 
-// What the word found says, and its length; 0 and 0 where none was found.
+// The number that a word stands for, and the place behind it. Without a word both are 0: no bytes are passed, which callers add as they add a word's, and the
+// number is a suffix's own 0 for none.
 pub struct Found {
     pub code: u8,
     pub end: usize,
 }
 
+// No word.
 pub fn nothing() -> Found
     ensures { λ r. ⌜ r ≡ Rattle.integers.specs.Words.nothingFound ⌝ }
 {
@@ -33,16 +35,16 @@ pub fn check_str(t: &[u8], word: &[u8]) -> bool
     true
 }
 
-// The word's length where it stands at the front and no name goes on behind it, else 0.
-pub fn check_ident(t: &[u8], word: &[u8]) -> usize
-    ensures { λ r. ⌜ r ≡ identOf (now (word .entry)) (now (t .entry)) ⌝ }
+// The word stands at the front and no name goes on behind it.
+pub fn check_ident(t: &[u8], word: &[u8]) -> bool
+    ensures { λ r. ⌜ r ≡ identAt (now (word .entry)) (now (t .entry)) ⌝ }
 {
     if check_str(t, word) {
         let n = word.len();
         if is_next_ahead(&t[n..]) {
-            return 0;
+            return false;
         }
-        return n;
+        return true;
     }
-    0
+    false
 }

@@ -4,12 +4,13 @@ use crate::ident::check_ident;
 use crate::ident::nothing;
 use text::bytes::peek;
 ghost use mathlib.Core.Path.{_≡_};
-ghost use Rattle.integers.specs.Words.{identOf};
+ghost use lib.ListN.{length};
+ghost use Rattle.integers.specs.Words.{identAt};
 ghost use Rattle.integers.specs.Width.{suffixFirst, suffixWord, suffixOf};
 
-// How long the suffix of a width is where it stands at the front, else 0.
-fn suffix_at(t: &[u8], code: u8) -> usize
-    ensures { λ r. ⌜ r ≡ identOf (suffixWord code) (now (t .entry)) ⌝ }
+// The suffix of a width stands at the front.
+fn suffix_at(t: &[u8], code: u8) -> bool
+    ensures { λ r. ⌜ r ≡ identAt (suffixWord code) (now (t .entry)) ⌝ }
 {
     if code == 1 {
         return check_ident(t, b"i8");
@@ -35,6 +36,19 @@ fn suffix_at(t: &[u8], code: u8) -> usize
     check_ident(t, b"u64")
 }
 
+// How many letters the suffix of a width has: i8 and u8 two, the others three.
+fn suffix_len(code: u8) -> usize
+    ensures { λ r. ⌜ r ≡ length (suffixWord code) ⌝ }
+{
+    if code == 1 {
+        return 2;
+    }
+    if code == 5 {
+        return 2;
+    }
+    3
+}
+
 // A suffix begins with it.
 fn is_suffix_first(b: u8) -> bool
     ensures { λ r. ⌜ r ≡ suffixFirst b ⌝ }
@@ -57,9 +71,9 @@ pub fn suffix_of(t: &[u8]) -> Found
         if 8 < k {
             break Found { code: 0, end: 0 };
         }
-        let n = suffix_at(t, k);
-        if n != 0 {
-            break Found { code: k, end: n };
+        if suffix_at(t, k) {
+            let end = suffix_len(k);
+            break Found { code: k, end };
         }
         k += 1;
     };

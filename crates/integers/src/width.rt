@@ -4,6 +4,7 @@ ghost use mathlib.Core.Bool.{true, false};
 ghost use lib.IntN.{pos, negℤ};
 ghost use Rattle.integers.specs.Width.{codeOf, widthAt, limitAt, firstFit, widest};
 
+// An integer's type.
 pub enum Width {
     I8,
     I16,
@@ -15,6 +16,7 @@ pub enum Width {
     U64,
 }
 
+// The paper's number of a width.
 pub fn code_of(width: Width) -> u8
     ensures { λ r. ⌜ r ≡ codeOf width ⌝ }
 {
@@ -30,6 +32,7 @@ pub fn code_of(width: Width) -> u8
     }
 }
 
+// The width of a number; the last also for any other number.
 pub fn width_at(code: u8) -> Width
     ensures { λ r. ⌜ r ≡ widthAt code ⌝ }
 {
@@ -133,6 +136,7 @@ pub fn first_fit(minus: bool, magnitude: u64) -> Width
     Width::U64
 }
 
+// The same behind a minus.
 fn first_signed(magnitude: u64) -> Width
     ensures { λ r. ⌜ r ≡ firstFit true magnitude ⌝ }
 {

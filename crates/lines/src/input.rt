@@ -37,7 +37,8 @@ fn read_part(part: &mut [u8]) -> usize
 
 // Reads once, behind the n bytes that are there.
 fn read_behind(buf: &mut [u8], n: usize) -> Input
-    ensures { λ r. ⌜ (n < length (now (buf .entry)) → ReadBehind n (now (buf .entry)) (now (buf .exit)) r) × (length (now (buf .entry)) ≤ n → (r ≡ endedInput) × (now (buf .exit) ≡ now (buf .entry))) ⌝ }
+    ensures { λ r. ⌜ (n < length (now (buf .entry)) → ReadBehind n (now (buf .entry)) (now (buf .exit)) r)
+        × (length (now (buf .entry)) ≤ n → (r ≡ endedInput) × (now (buf .exit) ≡ now (buf .entry))) ⌝ }
 {
     if n < buf.len() {
         let got = read_part(&mut buf[n..]);
@@ -62,7 +63,8 @@ fn ended() -> Input
 
 // What is not yet used goes to the front, and the input is read once behind it.
 pub fn more(buf: &mut [u8], from: usize, to: usize) -> Input
-    ensures { λ r. ⌜ (leavesRoom from to (length (now (buf .entry))) ≡ true → ReadBehind (to - from) (drop from (now (buf .entry))) (now (buf .exit)) r) × (leavesRoom from to (length (now (buf .entry))) ≡ false → (r ≡ endedInput) × (now (buf .exit) ≡ now (buf .entry))) ⌝ }
+    ensures { λ r. ⌜ (leavesRoom from to (length (now (buf .entry))) ≡ true → ReadBehind (to - from) (drop from (now (buf .entry))) (now (buf .exit)) r)
+        × (leavesRoom from to (length (now (buf .entry))) ≡ false → (r ≡ endedInput) × (now (buf .exit) ≡ now (buf .entry))) ⌝ }
 {
     if to < from {
         return ended();

@@ -29,6 +29,7 @@ pub fn byte(out: &mut [u8], at: usize, b: u8) -> usize
     1
 }
 
+// One after another, so that a full buffer is written out in between.
 pub fn bytes(out: &mut [u8], at: usize, s: &[u8]) -> usize
     ensures { λ r. ⌜ (now (out .exit), r) ≡ put (now (out .entry), at) (now (s .entry)) ⌝ }
 {

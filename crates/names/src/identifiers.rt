@@ -75,6 +75,7 @@ fn raw(s: &[u8]) -> Identifier
     Identifier::RawName(end)
 }
 
+// The name or raw name that a part begins with; what begins a string or a byte literal is none.
 pub fn skip_identifier(s: &[u8]) -> Identifier
     ensures { λ r. ⌜ r ≡ skipIdentifierOf (now (s .entry)) ⌝ }
 {

@@ -4,6 +4,7 @@ ghost use mathlib.Core.List.{[], _∷_};
 ghost use Rattle.names.specs.Starts.{beginsString, beginsRaw};
 ghost use Rattle.text.specs.Words.{startsWith};
 
+// A word of two bytes.
 pub fn starts_with2(s: &[u8], a: u8, b: u8) -> bool
     ensures { λ r. ⌜ r ≡ startsWith (a ∷ b ∷ []) (now (s .entry)) ⌝ }
 {
@@ -16,6 +17,7 @@ pub fn starts_with2(s: &[u8], a: u8, b: u8) -> bool
     s[1] == b
 }
 
+// A word of three bytes.
 pub fn starts_with3(s: &[u8], a: u8, b: u8, c: u8) -> bool
     ensures { λ r. ⌜ r ≡ startsWith (a ∷ b ∷ c ∷ []) (now (s .entry)) ⌝ }
 {
@@ -56,6 +58,7 @@ pub fn begins_string(s: &[u8]) -> bool
     starts_with3(s, b'r', b'#', b'#')
 }
 
+// `r#`: a raw name, unless it begins a string.
 pub fn begins_raw(s: &[u8]) -> bool
     ensures { λ r. ⌜ r ≡ beginsRaw (now (s .entry)) ⌝ }
 {

@@ -37,6 +37,7 @@ pub fn next_bytes_is_float(s: &[u8]) -> bool
     valid_int_len < valid_float_len
 }
 
+// A float's answer as a number's.
 fn of_float(f: AnyFloat) -> Number
     ensures { λ r. ⌜ r ≡ ofFloat f ⌝ }
 {
@@ -62,6 +63,7 @@ fn or_float(refusal: Refusal, s: &[u8]) -> Number
     }
 }
 
+// The number that the part begins with.
 pub fn any_number(s: &[u8]) -> Number
     ensures { λ r. ⌜ r ≡ numberOf (now (s .entry)) ⌝ }
 {

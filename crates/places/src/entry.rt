@@ -28,10 +28,10 @@ pub fn walk_place(tape: &[u32], count: usize, r: Refusal) -> usize
     requires { ⌜ count ≤ roomOf (length (now tape)) ⌝ }
     ensures { λ p. ⌜ p ≡ walkPlace (now (tape .entry)) count r ⌝ }
 {
-    if r.number < 24 {
+    if r.number < Refusal::DEPTH_LIMIT_PASSED {
         return r.place;
     }
-    if 26 < r.number {
+    if Refusal::TAPE_ENDS_EARLY < r.number {
         return r.place;
     }
     entry_place(tape, count, r.place)

@@ -1,19 +1,16 @@
 // Whitespace of one byte.
 use comments::is_blank;
 ghost use mathlib.Core.Path.{_≡_};
-ghost use Prim.Native.Nat.{_+_, _≤_};
-ghost use lib.ListN.{length, drop};
 ghost use Rattle.text.specs.Classes.{blank1};
 ghost use Rattle.text.specs.Runs.{run};
 
-// The place behind the blanks at `at`.
-pub fn behind_blanks(text: &[u8], at: usize) -> usize
-    requires { ⌜ at ≤ length (now text) ⌝ }
-    ensures { λ r. ⌜ r ≡ at + run blank1 (drop at (now (text .entry))) ⌝ }
+// How many blanks the part begins with.
+pub fn count_blanks(s: &[u8]) -> usize
+    ensures { λ r. ⌜ r ≡ run blank1 (now (s .entry)) ⌝ }
 {
-    let mut i = at;
-    while i < text.len() {
-        if !is_blank(text[i]) {
+    let mut i = 0;
+    while i < s.len() {
+        if !is_blank(s[i]) {
             return i;
         }
         i += 1;

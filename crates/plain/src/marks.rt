@@ -1,4 +1,5 @@
 // The kind of a mark, as `mark_kind` of crate tokens tells it, by ranges: most bytes then take a few tests and no table of jumps.
+use rows::kinds;
 ghost use mathlib.Core.Path.{_≡_};
 ghost use Prim.Native.Nat.{_≤_, _<_};
 ghost use Rattle.tokens.specs.Shapes.{markKind};
@@ -9,22 +10,22 @@ fn low_mark(a: u8) -> u32
     ensures { λ r. ⌜ r ≡ markKind a ⌝ }
 {
     if 0x39 < a {
-        return 8;
+        return kinds::COLON;
     }
     if 0x2c < a {
         return 0;
     }
     if 0x2b < a {
-        return 7;
+        return kinds::COMMA;
     }
     if 0x29 < a {
         return 0;
     }
     if 0x28 < a {
-        return 2;
+        return kinds::CLOSE_PAREN;
     }
     if 0x27 < a {
-        return 1;
+        return kinds::OPEN_PAREN;
     }
     0
 }
@@ -36,18 +37,18 @@ fn high_mark(a: u8) -> u32
 {
     if a < 0x5e {
         if a == b'[' {
-            return 3;
+            return kinds::OPEN_BRACKET;
         }
         if a == b']' {
-            return 4;
+            return kinds::CLOSE_BRACKET;
         }
         return 0;
     }
     if a == b'{' {
-        return 5;
+        return kinds::OPEN_BRACE;
     }
     if a == b'}' {
-        return 6;
+        return kinds::CLOSE_BRACE;
     }
     0
 }

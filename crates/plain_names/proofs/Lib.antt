@@ -1,4 +1,4 @@
 pub mod NameRuns
-pub mod PlaceLaws
+pub mod PartLaws
 pub mod PlainNames
 pub mod Worked

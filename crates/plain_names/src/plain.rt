@@ -1,24 +1,23 @@
-// Plain names at a place of the text.
+// Plain names at the front of a part.
 use names::starts::starts_with3;
 use quiet::bytes::is_quiet;
 use text::classes::is_ascii_first;
 use text::classes::is_ascii_next;
 ghost use mathlib.Core.Path.{_≡_};
-ghost use Prim.Native.Nat.{_+_, _<_, _≤_};
-ghost use lib.ListN.{drop, length};
+ghost use Prim.Native.Nat.{_<_};
+ghost use lib.ListN.{length};
 ghost use Rattle.names.specs.Classify.{beginsFloat};
 ghost use Rattle.plain_names.specs.inner.PlainNames.{plainName};
 ghost use Rattle.text.specs.Classes.{asciiNext};
 ghost use Rattle.text.specs.Runs.{run};
 
-// The end of the letters, digits and `_` from `at` on.
-fn name_end(text: &[u8], at: usize) -> usize
-    requires { ⌜ at ≤ length (now text) ⌝ }
-    ensures { λ r. ⌜ r ≡ at + run asciiNext (drop at (now (text .entry))) ⌝ }
+// How many letters, digits and `_` the part begins with.
+fn name_len(s: &[u8]) -> usize
+    ensures { λ r. ⌜ r ≡ run asciiNext (now (s .entry)) ⌝ }
 {
-    let mut i = at;
-    while i < text.len() {
-        if !is_ascii_next(text[i] as u32) {
+    let mut i = 0;
+    while i < s.len() {
+        if !is_ascii_next(s[i] as u32) {
             return i;
         }
         i += 1;
@@ -26,37 +25,37 @@ fn name_end(text: &[u8], at: usize) -> usize
     i
 }
 
-// Whether `inf` or `NaN` stands at `at`: the first byte decides nearly always.
-fn begins_float(text: &[u8], at: usize) -> bool
-    requires { ⌜ at < length (now text) ⌝ }
-    ensures { λ r. ⌜ r ≡ beginsFloat (drop at (now (text .entry))) ⌝ }
+// Whether the part begins with `inf` or `NaN`: the first byte decides nearly always.
+fn begins_float(s: &[u8]) -> bool
+    requires { ⌜ 0 < length (now s) ⌝ }
+    ensures { λ r. ⌜ r ≡ beginsFloat (now (s .entry)) ⌝ }
 {
-    if text[at] == b'i' {
-        return starts_with3(&text[at..], b'i', b'n', b'f');
+    if s[0] == b'i' {
+        return starts_with3(s, b'i', b'n', b'f');
     }
-    if text[at] == b'N' {
-        return starts_with3(&text[at..], b'N', b'a', b'N');
+    if s[0] == b'N' {
+        return starts_with3(s, b'N', b'a', b'N');
     }
     false
 }
 
-// The length of the plain name at `at`, 0 where there is none.
-pub fn plain_name(text: &[u8], at: usize) -> usize
-    requires { ⌜ at < length (now text) ⌝ }
-    ensures { λ r. ⌜ r ≡ plainName (drop at (now (text .entry))) ⌝ }
+// The length of the plain name at the front, 0 where there is none.
+pub fn plain_name(s: &[u8]) -> usize
+    requires { ⌜ 0 < length (now s) ⌝ }
+    ensures { λ r. ⌜ r ≡ plainName (now (s .entry)) ⌝ }
 {
-    if !is_ascii_first(text[at] as u32) {
+    if !is_ascii_first(s[0] as u32) {
         return 0;
     }
-    let end = name_end(text, at + 1);
-    if text.len() <= end {
+    let len = 1 + name_len(&s[1..]);
+    if s.len() <= len {
         return 0;
     }
-    if !is_quiet(text[end]) {
+    if !is_quiet(s[len]) {
         return 0;
     }
-    if begins_float(text, at) {
+    if begins_float(s) {
         return 0;
     }
-    end - at
+    len
 }

@@ -87,7 +87,7 @@ module _ (t : List ℕ) (some : 0 < run digit t) (few : run digit t ≤ 9) where
       (record {
         only = λ i k. inr (let d = digit-in (getD part i 0) (only i k) in omega (arith, digit-value (getD part i 0) (only i k)));
         value = refl;
-        fits = omega (arith, wide minus, value-nine t n (omega arith) few);
+        fits = omega (arith, wide minus, value-nine part only (omega (arith, long, few)));
       })
 
 -- ---- the whole

@@ -1,6 +1,6 @@
 pub mod Runs
 pub mod Values
-pub mod Places
+pub mod Said
 pub mod Begins
 pub mod Integers
 pub mod Floats

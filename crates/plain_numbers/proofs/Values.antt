@@ -4,10 +4,11 @@ use native.Mathlib.Nat.{mul-assoc, mul-comm, mul-le-mul-right, pow-le-pow-right,
 use native.Mathlib.Omega.{arith}
 use mathlib.Core.Bool.{true}
 use mathlib.Core.List.{List, [], _∷_}
-use mathlib.Core.Path.{_≡_, ap, sym, _∙_}
+use mathlib.Core.Path.{_≡_, ap, refl, sym, _∙_}
 use lib.ListN.{length, take, drop, getD}
 use lib.Seq.{getD-drop, getD-take, length-take-le}
 use borrow.Author.Tests.{ne-eqb}
+use Rattle.text.proofs.Choices.{bool-cases, either}
 use Rattle.text.proofs.Lists.{front}
 use Rattle.text.proofs.RunLaws.{run-le, run-holds}
 use Rattle.text.specs.Classes.{digit}
@@ -34,6 +35,15 @@ run-only t n h i k =
     let l : i < n = omega (arith, length-take-le n t (omega (arith, run-le digit t))) in
     rw (getD-take n t i 0 l) (run-holds digit t i (omega arith))
 
+pub all-only : (s : List ℕ) → run digit s ≡ length s → OnlyDigits s
+all-only s e i k = run-holds digit s i (omega arith)
+
+-- digits in front, cut out, are digits throughout
+pub cut-all : (t : List ℕ) → run digit (take (run digit t) t) ≡ length (take (run digit t) t)
+unfolding run
+cut-all [] = refl
+cut-all (a ∷ t) = either (bool-cases (digit a)) (λ e. rw (e, e) (ap suc (cut-all t))) (λ e. rw e)
+
 pub value-below : (s : List ℕ) (acc : ℕ) → OnlyDigits s → valueFrom 10 acc s < (acc + 1) * 10 ^ length s
 unfolding valueFrom
 value-below [] acc h = omega arith
@@ -47,19 +57,15 @@ value-below (c ∷ s) acc h =
     mul-assoc (acc + 1) 10 (10 ^ length s) ∙ ap (λ (x : ℕ). (acc + 1) * x) (mul-comm 10 (10 ^ length s) ∙ sym (pow-suc 10 (length s))) in
     omega arith
 
--- n digits are below the power of so many
-pub value-within : (t : List ℕ) (n m : ℕ) → n ≤ run digit t → n ≤ m → valueOf 10 (take n t) < 10 ^ m
-value-within t n m h k =
-    let below = value-below (take n t) 0 (run-only t n h) in
-    let long : length (take n t) ≡ n = length-take-le n t (omega (arith, run-le digit t)) in
-    let most : 10 ^ length (take n t) ≤ 10 ^ m = pow-le-pow-right (omega arith) (omega arith) in
+-- digits are below the power of so many
+pub value-within : (s : List ℕ) (m : ℕ) → OnlyDigits s → length s ≤ m → valueOf 10 s < 10 ^ m
+value-within s m only k =
+    let below = value-below s 0 only in
+    let most : 10 ^ length s ≤ 10 ^ m = pow-le-pow-right (omega arith) k in
     omega arith
 
-pub value-nine : (t : List ℕ) (n : ℕ) → n ≤ run digit t → n ≤ 9 → valueOf 10 (take n t) < 1000000000
-value-nine t n h k = value-within t n 9 h k
-
-pub value-two : (t : List ℕ) (n : ℕ) → n ≤ run digit t → n ≤ 2 → valueOf 10 (take n t) < 100
-value-two t n h k = value-within t n 2 h k
+pub value-nine : (s : List ℕ) → OnlyDigits s → length s ≤ 9 → valueOf 10 s < 1000000000
+value-nine s only k = value-within s 9 only k
 
 pub value-least : (s : List ℕ) (acc : ℕ) → OnlyDigits s → acc * 10 ^ length s ≤ valueFrom 10 acc s
 unfolding valueFrom
@@ -72,41 +78,35 @@ value-least (c ∷ s) acc h =
     omega arith
 
 -- four digits, the first of them no 0
-pub value-four : (t : List ℕ) → 4 ≤ run digit t → (getD t 0 0 ≡ 0x30 → ⊥) → (1000 ≤ valueOf 10 (take 4 t)) × (valueOf 10 (take 4 t) < 10000)
+pub value-four : (s : List ℕ) → OnlyDigits s → length s ≡ 4 → (getD s 0 0 ≡ 0x30 → ⊥) → (1000 ≤ valueOf 10 s) × (valueOf 10 s < 10000)
 unfolding valueFrom
-value-four [] h n = absurd (omega (arith, run-le digit []))
-value-four (c ∷ s) h n =
-    let only = run-only (c ∷ s) 4 h in
-    let long : length (take 3 s) ≡ 3 = length-take-le 3 s (omega (arith, run-le digit (c ∷ s))) in
+value-four [] only h n = absurd (omega (arith, h))
+value-four (c ∷ s) only h n =
+    let long : length s ≡ 3 = omega (arith, h) in
     let e : digit c ≡ true = only 0 (omega arith) in
     let some : 1 ≤ digitStep 10 0 c = omega (arith, step-digit c e 0, digit-in c e .0) in
-    let least : digitStep 10 0 c * 10 ^ length (take 3 s) ≤ valueFrom 10 (digitStep 10 0 c) (take 3 s) = value-least (take 3 s) (digitStep 10 0 c) (λ j k. only (suc j) (omega (arith, k))) in
-    let thousand : digitStep 10 0 c * 1000 ≤ valueFrom 10 (digitStep 10 0 c) (take 3 s) = rw long at least in
-    (omega arith, value-within (c ∷ s) 4 4 h (omega arith))
+    let least : digitStep 10 0 c * 10 ^ length s ≤ valueFrom 10 (digitStep 10 0 c) s = value-least s (digitStep 10 0 c) (λ j k. only (suc j) (omega (arith, k))) in
+    let thousand : digitStep 10 0 c * 1000 ≤ valueFrom 10 (digitStep 10 0 c) s = rw long at least in
+    (omega arith, value-within (c ∷ s) 4 only (omega arith))
 
--- ---- one digit of the loop between two places
+-- ---- one digit of the loop
 
-module _ (text : List ℕ) (from end acc i : ℕ) (start : from ≤ i) (inside : i < end) (long : end ≤ length text) (nine : end ≤ from + 9) (only : end ≤ from + run digit (drop from text))
-    (inv : valueFrom 10 acc (take (end - i) (drop i text)) ≡ valueOf 10 (take (end - from) (drop from text))) where
-  digit-at : digit (getD text i 0) ≡ true
-  digit-at =
-      let e : from + (i - from) ≡ i = omega arith in
-      sym (ap digit (getD-drop from text (i - from) 0 ∙ ap (λ (k : ℕ). getD text k 0) e)) ∙ run-holds digit (drop from text) (i - from) (omega arith)
+module _ (s : List ℕ) (acc i : ℕ) (inside : i < length s) (nine : length s ≤ 9) (only : run digit s ≡ length s) (inv : valueFrom 10 acc (drop i s) ≡ valueOf 10 s) where
+  digit-at : digit (getD s i 0) ≡ true
+  digit-at = run-holds digit s i (omega arith)
 
-  pub digit-least : 0x30 ≤ getD text i 0
-  digit-least = digit-in (getD text i 0) digit-at .0
+  pub digit-least : 0x30 ≤ getD s i 0
+  digit-least = digit-in (getD s i 0) digit-at .0
 
-  pub turned : valueFrom 10 (acc * 10 + (getD text i 0 - 0x30)) (take (end - (i + 1)) (drop (i + 1) text)) ≡ valueOf 10 (take (end - from) (drop from text))
+  pub turned : valueFrom 10 (acc * 10 + (getD s i 0 - 0x30)) (drop (i + 1) s) ≡ valueOf 10 s
   unfolding valueFrom
   turned =
-      let e : end - i ≡ suc (end - (i + 1)) = omega arith in
-      let part : take (end - i) (drop i text) ≡ getD text i 0 ∷ take (end - (i + 1)) (drop (i + 1) text) = rw (e, front text i (omega arith)) in
-      ap (λ (a : ℕ). valueFrom 10 a (take (end - (i + 1)) (drop (i + 1) text))) (sym (step-digit (getD text i 0) digit-at acc))
-      ∙ ap (valueFrom 10 acc) (sym part) ∙ inv
+      ap (λ (a : ℕ). valueFrom 10 a (drop (i + 1) s)) (sym (step-digit (getD s i 0) digit-at acc))
+      ∙ ap (valueFrom 10 acc) (sym (front s i inside)) ∙ inv
 
-  pub turned-fits : acc * 10 + (getD text i 0 - 0x30) < 1000000000
+  pub turned-fits : acc * 10 + (getD s i 0 - 0x30) < 1000000000
   turned-fits =
-      let next : ℕ = acc * 10 + (getD text i 0 - 0x30) in
-      let grows = value-grows 10 next (take (end - (i + 1)) (drop (i + 1) text)) (omega arith) in
-      let below = value-nine (drop from text) (end - from) (omega arith) (omega arith) in
+      let next : ℕ = acc * 10 + (getD s i 0 - 0x30) in
+      let grows = value-grows 10 next (drop (i + 1) s) (omega arith) in
+      let below = value-nine s (all-only s only) nine in
       omega (arith, turned)

@@ -1,31 +1,29 @@
-// The parts of a plain number, from a place of the text on.
+// The parts of a plain number, each at the front of what is left.
 use quiet::bytes::is_quiet;
 ghost use mathlib.Core.Path.{_≡_};
-ghost use Prim.Native.Nat.{_+_, _≤_};
-ghost use lib.ListN.{length, drop, getD};
+ghost use lib.ListN.{getD};
 ghost use Rattle.reading.specs.Owed.{quietByte};
 ghost use Rattle.text.specs.Classes.{digit};
 ghost use Rattle.text.specs.Runs.{run};
 ghost use Rattle.plain_numbers.specs.inner.PlainNumbers.{fractionOf};
 
-// A quiet byte stands there; none stands at the end.
-pub fn quiet_at(text: &[u8], at: usize) -> bool
-    ensures { λ r. ⌜ r ≡ quietByte (getD (now (text .entry)) at 0) ⌝ }
+// The part begins with a quiet byte; an empty one doesn't.
+pub fn begins_quiet(s: &[u8]) -> bool
+    ensures { λ r. ⌜ r ≡ quietByte (getD (now (s .entry)) 0 0) ⌝ }
 {
-    if text.len() <= at {
+    if s.len() == 0 {
         return false;
     }
-    is_quiet(text[at])
+    is_quiet(s[0])
 }
 
-// The place behind the digits.
-pub fn digits_end(text: &[u8], from: usize) -> usize
-    requires { ⌜ from ≤ length (now text) ⌝ }
-    ensures { λ r. ⌜ r ≡ from + run digit (drop from (now (text .entry))) ⌝ }
+// How many digits the part begins with.
+pub fn digits_len(s: &[u8]) -> usize
+    ensures { λ r. ⌜ r ≡ run digit (now (s .entry)) ⌝ }
 {
-    let mut i = from;
-    while i < text.len() {
-        let c = text[i];
+    let mut i = 0;
+    while i < s.len() {
+        let c = s[i];
         if c < b'0' {
             return i;
         }
@@ -37,24 +35,22 @@ pub fn digits_end(text: &[u8], from: usize) -> usize
     i
 }
 
-// How many bytes a point and one or more digits before a quiet byte are, and 0 where they do not stand there.
-pub fn fraction_len(text: &[u8], point: usize) -> usize
-    requires { ⌜ point ≤ length (now text) ⌝ }
-    ensures { λ r. ⌜ r ≡ fractionOf (drop point (now (text .entry))) ⌝ }
+// How many bytes a point and one or more digits before a quiet byte are, and 0 where the part does not begin with them.
+pub fn fraction_len(s: &[u8]) -> usize
+    ensures { λ r. ⌜ r ≡ fractionOf (now (s .entry)) ⌝ }
 {
-    if text.len() <= point {
+    if s.len() == 0 {
         return 0;
     }
-    if text[point] != b'.' {
+    if s[0] != b'.' {
         return 0;
     }
-    let from = point + 1;
-    let end = digits_end(text, from);
-    if end == from {
+    let n = digits_len(&s[1..]);
+    if n == 0 {
         return 0;
     }
-    if quiet_at(text, end) {
-        let len = end - point;
+    let len = n + 1;
+    if begins_quiet(&s[len..]) {
         return len;
     }
     0

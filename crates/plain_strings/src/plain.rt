@@ -1,25 +1,24 @@
-// Plain strings at a place of the text.
+// Plain strings at the front of a part.
 use strings::runs::find_end;
 ghost use mathlib.Core.Path.{_≡_};
 ghost use Prim.Native.Nat.{_<_};
-ghost use lib.ListN.{drop, length};
+ghost use lib.ListN.{length};
 ghost use Rattle.plain_strings.specs.inner.PlainStrings.{plainString};
 
-// The length of the plain string at `at` with its quotes, 0 where there is none.
-pub fn plain_string(text: &[u8], at: usize) -> usize
-    requires { ⌜ at < length (now text) ⌝ }
-    ensures { λ r. ⌜ r ≡ plainString (drop at (now (text .entry))) ⌝ }
+// The length of the plain string at the front with its quotes, 0 where there is none.
+pub fn plain_string(s: &[u8]) -> usize
+    requires { ⌜ 0 < length (now s) ⌝ }
+    ensures { λ r. ⌜ r ≡ plainString (now (s .entry)) ⌝ }
 {
-    if text[at] != b'"' {
+    if s[0] != b'"' {
         return 0;
     }
-    let from = at + 1;
-    let end = from + find_end(&text[from..]);
-    if text.len() <= end {
+    let end = 1 + find_end(&s[1..]);
+    if s.len() <= end {
         return 0;
     }
-    if text[end] != b'"' {
+    if s[end] != b'"' {
         return 0;
     }
-    end - at + 1
+    end + 1
 }

@@ -11,14 +11,15 @@ use Rattle.text.specs.Utf8.{Encoded}
 use Rattle.text.specs.declared.refusal.Refusal.{Refusal}
 use Rattle.scanned.specs.ByCharacters.{structTypeChars}
 use Rattle.scanned.specs.Characters.{scanCharsOf}
+use Rattle.structs.specs.Kinds.{placedKind}
 use Rattle.structs.specs.Scan.{scanOf}
 use Rattle.structs.specs.Structs.{structTypeOf}
 use Rattle.structs.specs.declared.kinds.NewtypeMode.{NewtypeMode}
+use Rattle.structs.specs.declared.kinds.StructAnswer.{StructAnswer}
 use Rattle.structs.specs.declared.kinds.TupleMode.{TupleMode}
 use Rattle.scanned.proofs.ScanCharacters as scans
 use Rattle.scanned.proofs.StructCharacters as kinds
-use Rattle.sarridok.specs.StructKind.{kindPlaced, structKindOf, toldStruct}
-use Rattle.sarridok.specs.declared.struct_kind_call.StructKindAnswer.{StructKindAnswer}
+use Rattle.sarridok.specs.StructKind.{structKindOf, toldStruct}
 use Rattle.sarridok.proofs.StructKindDetermined.{struct-kind-determined}
 use Rattle.fronts.specs.Fronts.{Boundary, FrontOf, PlacedOf, Sound}
 use Rattle.fronts.proofs.Calls as fronts
@@ -35,11 +36,11 @@ struct-kind-characters = kinds.struct-characters
 
 module _ (text : List ℕ) (place : ℕ) (newtype : NewtypeMode) (tuple : TupleMode) where
   -- 1 and 2 exactly in their cases, and past both exactly where the text is sound.
-  pub struct-kind-front : FrontOf text (structKindOf text place newtype tuple) (cond (placeFits text place) (toldStruct (kindPlaced place (structTypeOf (drop place text) newtype tuple))) (refused unfit))
+  pub struct-kind-front : FrontOf text (structKindOf text place newtype tuple) (cond (placeFits text place) (toldStruct (placedKind place (structTypeOf (drop place text) newtype tuple))) (refused unfit))
   struct-kind-front = fronts.struct-kind-front text place newtype tuple
 
   -- 28 exactly where the place is no boundary of characters.
-  pub struct-kind-placed : Sound text → PlacedOf (Boundary text place) (structKindOf text place newtype tuple) (toldStruct (kindPlaced place (structTypeOf (drop place text) newtype tuple)))
+  pub struct-kind-placed : Sound text → PlacedOf (Boundary text place) (structKindOf text place newtype tuple) (toldStruct (placedKind place (structTypeOf (drop place text) newtype tuple)))
   struct-kind-placed = places.struct-kind-placed text place newtype tuple
 
   -- A refusal's number is 1, 2 or one of 4 to 29.
@@ -47,5 +48,5 @@ module _ (text : List ℕ) (place : ℕ) (newtype : NewtypeMode) (tuple : TupleM
   struct-kind-numbers = struct-given text place newtype tuple
 
   -- Two answers that meet the promise are equal.
-  pub one-struct-kind : (x y : StructKindAnswer) → toldStruct x ≡ structKindOf text place newtype tuple → toldStruct y ≡ structKindOf text place newtype tuple → x ≡ y
+  pub one-struct-kind : (x y : StructAnswer) → toldStruct x ≡ structKindOf text place newtype tuple → toldStruct y ≡ structKindOf text place newtype tuple → x ≡ y
   one-struct-kind = struct-kind-determined text place newtype tuple

@@ -25,7 +25,7 @@ use Rattle.strings.specs.Quoted.{literal, measured}
 use Rattle.strings.specs.declared.literal.Literal.{Literal}
 use Rattle.strings.specs.declared.literal.LiteralAnswer.the-variants.{Read}
 use Rattle.strings.specs.declared.pieces.Decoded.{Decoded}
-use Rattle.strings.specs.declared.pieces.Decoded.the-variants.{Byte, Nothing, Point}
+use Rattle.strings.specs.declared.pieces.Decoded.the-variants.{Ascii, Nothing, Utf8}
 use Rattle.strings.specs.declared.pieces.Piece.the-variants.{Backslash, Plain, Quote}
 use Rattle.text.proofs.Choices.{bool-cases, either, or-false}
 use Rattle.text.specs.Classes.{continuationBlank}
@@ -33,8 +33,8 @@ use Rattle.text.specs.Runs.{run}
 
 -- what an escape means, as a piece decodes to it
 abbrev meaning : Meant → Decoded
-meaning (byte b) = Byte b
-meaning (point c) = Point c
+meaning (byte b) = Ascii b
+meaning (point c) = Utf8 c
 
 -- and these are the same bytes
 meaning-bytes : (v : Meant) → bytesOf (meaning v) ≡ decodedTo v

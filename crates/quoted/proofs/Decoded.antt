@@ -11,7 +11,8 @@ use borrow.Author.Tests.{le-ltb, ltb-false}
 use Rattle.entries.specs.Contents.{byNamed, decodedIn, writtenBy}
 use Rattle.entries.specs.Named.{literalDecoded, literalOf, namedOf}
 use Rattle.entries.specs.declared.named.Named.{Named}
-use Rattle.entries.specs.declared.named.Named.the-variants.{At, Unnamed}
+use Rattle.entries.specs.declared.named.Named.the-variants.{At}
+use Rattle.entries.specs.declared.named.Named.the-variants as named
 use Rattle.quoted.proofs.Exactly.{byte-string-exactly, byte-string-length, string-exactly, string-length}
 use Rattle.quoted.specs.Decoding.{Decodes}
 use Rattle.quoted.specs.Literals.{LiteralAt}
@@ -71,7 +72,7 @@ module _ (text tape : List ℕ) (count entry room n : ℕ) where
   -- by the judgement and the name
   from-answer : (j : Judged) (m : Named) → judgedOf text ≡ j → namedOf text tape count entry ≡ m → behindJudged j (byNamed m own) ≡ accepted n → Decodes text tape count entry room n
   from-answer Fit (At bytes place) e f g = from-read bytes place (literalOf bytes (drop place text)) e f refl g
-  from-answer Fit (Unnamed r) e f g = let z : _≡_ {A = ℕ} 0 1 = cc in absurd (omega arith)
+  from-answer Fit (named.Refused r) e f g = let z : _≡_ {A = ℕ} 0 1 = cc in absurd (omega arith)
   from-answer (Unjudged r) m e f g = let z : _≡_ {A = ℕ} 0 1 = cc in absurd (omega arith)
 
   -- what is accepted is decoded

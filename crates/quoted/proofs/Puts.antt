@@ -25,7 +25,8 @@ use Rattle.strings.specs.Quoted.{literal, measured}
 use Rattle.strings.specs.declared.literal.Literal.{Literal}
 use Rattle.strings.specs.declared.literal.LiteralAnswer.the-variants.{Read}
 use Rattle.strings.specs.declared.pieces.Piece.{Piece}
-use Rattle.strings.specs.declared.pieces.Piece.the-variants.{Backslash, Plain, Quote, Spoilt}
+use Rattle.strings.specs.declared.pieces.Piece.the-variants.{Backslash, Plain, Quote}
+use Rattle.strings.specs.declared.pieces.Piece.the-variants as pieces
 use Rattle.text.proofs.Choices.{bool-cases, cond-cases, either, or-left, or-right}
 use Rattle.text.specs.Classes.{continuationBlank}
 use Rattle.text.specs.Runs.{run}
@@ -61,7 +62,7 @@ module _ (m : Mode) where
   Puts t Quote = Inside m t [] (drop 1 t)
   Puts t (Plain k) = Before t k (take k t)
   Puts t (Backslash k d) = Before t k (bytesOf d)
-  Puts t (Spoilt r) = Unit
+  Puts t (pieces.Refused r) = Unit
 
   -- an escape means what it decodes to
   escape-puts : (w : List ℕ) (a : EscapeAnswer) → escapeOf m w ≡ a → Puts (0x5C ∷ w) (byEscape a)
@@ -99,7 +100,7 @@ module _ (m : Mode) where
   good-by t Quote z x rest = (z .0, x)
   good-by t (Plain k) z x rest = (z .1, x, rest k (z .0) (z .1))
   good-by t (Backslash k d) z x rest = (z .1, x, rest k (z .0) (z .1))
-  good-by t (Spoilt r) z x rest = tt
+  good-by t (pieces.Refused r) z x rest = tt
 
   -- every body is such, by the length of its part
   good-fuel : (fuel : ℕ) (t : List ℕ) → length t ≤ fuel → Good t (bodyOf m t)

@@ -55,9 +55,11 @@ module _ (text : List ℕ) (at : ℕ) (f : Following) (h : answerOf f ≡ ronTok
 
 -- ---- a plain token there
 
-module _ (text : List ℕ) (at : ℕ) (l : Lexeme) (e : l ≡ plainOf (drop at text)) (h : 0 < l .len) where
+module _ (text : List ℕ) (at : ℕ) (l : Lexeme) (e : l ≡ plainOf (take (length text - at) (drop at text))) (h : 0 < l .len) where
   stands : ronToken (drop at text) ≡ token (tokenAt 0 l)
-  stands = subst (λ (x : Lexeme). 0 < x .len → ronToken (drop at text) ≡ token (tokenAt 0 x)) (sym e) (plain-token (drop at text)) h
+  stands =
+      let is : l ≡ plainOf (drop at text) = e ∙ ap plainOf (tail-part text at) in
+      subst (λ (x : Lexeme). 0 < x .len → ronToken (drop at text) ≡ token (tokenAt 0 x)) (sym is) (plain-token (drop at text)) h
 
   pub step-plain : readFrom ronToken text at ≡ entry (record { kind = l .kind; start = at; end = at + l .len; detail = l .detail }) (readFrom ronToken text (at + l .len))
   step-plain =
@@ -74,9 +76,12 @@ module _ (text : List ℕ) (at : ℕ) (l : Lexeme) (e : l ≡ plainOf (drop at t
 
 -- ---- blanks there
 
-module _ (text : List ℕ) (at front : ℕ) (e : front ≡ at + run blank1 (drop at text)) where
-  pub step-blanks : readFrom ronToken text at ≡ readFrom ronToken text front
-  step-blanks = from-blanks text at ∙ ap (readFrom ronToken text) (sym e)
+module _ (text : List ℕ) (at n : ℕ) (e : n ≡ run blank1 (take (length text - at) (drop at text))) where
+  blanks-are : n ≡ run blank1 (drop at text)
+  blanks-are = e ∙ ap (run blank1) (tail-part text at)
 
-  pub blanks-within : at ≤ length text → front ≤ length text
-  blanks-within h = omega (arith, run-le blank1 (drop at text), length-drop at text)
+  pub step-blanks : readFrom ronToken text at ≡ readFrom ronToken text (at + n)
+  step-blanks = from-blanks text at ∙ ap (λ (k : ℕ). readFrom ronToken text (at + k)) (sym blanks-are)
+
+  pub blanks-within : at ≤ length text → at + n ≤ length text
+  blanks-within h = omega (arith, blanks-are, run-le blank1 (drop at text), length-drop at text)

@@ -8,6 +8,7 @@ ghost use Rattle.reading.specs.Readings.{readFrom, counted};
 ghost use Rattle.tokens.specs.Ron.{ronToken};
 ghost use Rattle.read.specs.Read.{toldRead};
 
+// What a read answers.
 pub enum ReadAnswer {
     // The number of entries.
     Accepted(usize),

@@ -1,6 +1,6 @@
 // One pass over a text: it counts or refuses, and where it is on it lays the entries on the tape.
 use crate::measure::ReadAnswer;
-use plain::blanks::behind_blanks;
+use plain::blanks::count_blanks;
 use plain::forms::plain;
 use rows::Entry;
 use rows::row;
@@ -45,16 +45,19 @@ fn put(tape: &mut [u32], i: usize, e: Entry, on: bool)
 // The first n entries of a text from a place on; blanks and plain tokens are taken here, and the general reader is asked for the rest.
 pub fn pass(text: &[u8], from: usize, tape: &mut [u32], n: usize, on: bool) -> ReadAnswer
     requires { ⌜ (length (now text) ≤ 65536) × (from ≤ length (now text)) × (on ≡ true → n ≤ roomOf (length (now tape))) ⌝ }
-    ensures { λ r. ⌜ (toldRead r ≡ counted 0 (upTo n (readFrom ronToken (now (text .entry)) from))) × (now (tape .exit) ≡ passedTape on (upTo n (readFrom ronToken (now (text .entry)) from)) (now (tape .entry))) ⌝ }
+    ensures { λ r. ⌜ (toldRead r ≡ counted 0 (upTo n (readFrom ronToken (now (text .entry)) from)))
+        × (now (tape .exit) ≡ passedTape on (upTo n (readFrom ronToken (now (text .entry)) from)) (now (tape .entry))) ⌝ }
 {
     let mut at = from;
     let mut i = 0;
     while i < n {
-        let front = behind_blanks(text, at);
+        let blanks = count_blanks(&text[at..]);
+        let front = at + blanks;
         if text.len() <= front {
             return ReadAnswer::Accepted(i);
         }
-        let p = plain(text, front);
+        let part = &text[front..];
+        let p = plain(part);
         if 0 < p.len {
             let end = front + p.len;
             put(tape, i, entry_of(p, front, end), on);
@@ -62,7 +65,7 @@ pub fn pass(text: &[u8], from: usize, tape: &mut [u32], n: usize, on: bool) -> R
             i += 1;
             continue;
         }
-        let found = next_token(&text[front..]);
+        let found = next_token(part);
         match found {
             Following::Token(g, l) => {
                 let start = front + g;

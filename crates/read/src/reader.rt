@@ -13,7 +13,8 @@ ghost use Rattle.read.specs.Read.{toldRead, fitted, readingOf, laidBy};
 // The entries of a text of at most 65,536 bytes into the tape; 22 last.
 pub fn read_text(text: &[u8], tape: &mut [u32]) -> ReadAnswer
     requires { ⌜ length (now text) ≤ 65536 ⌝ }
-    ensures { λ r. ⌜ (toldRead r ≡ fitted (roomOf (length (now (tape .entry)))) (readingOf (now (text .entry)))) × (now (tape .exit) ≡ laidBy (toldRead r) (readingOf (now (text .entry))) (now (tape .entry))) ⌝ }
+    ensures { λ r. ⌜ (toldRead r ≡ fitted (roomOf (length (now (tape .entry)))) (readingOf (now (text .entry))))
+        × (now (tape .exit) ≡ laidBy (toldRead r) (readingOf (now (text .entry))) (now (tape .entry))) ⌝ }
 {
     let measured = measure(text);
     match measured {

@@ -18,6 +18,7 @@ fn cut_fits(old_len: usize, a: usize, b: usize, new_len: usize) -> bool
     kept <= new_len
 }
 
+// The cut lies in the old text, the new text is long enough for what was not cut, and the tape is in order.
 pub fn repair_fits(
     tape: &[u32],
     count: usize,

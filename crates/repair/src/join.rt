@@ -14,6 +14,7 @@ ghost use Rattle.tokens.specs.Ron.{ronToken};
 ghost use Rattle.repair.specs.Repair.{leading, scanOf};
 ghost use Rattle.repair.specs.inner.Steps.{startsBefore};
 
+// Where the two meet, or what the new text is refused with before.
 pub enum Scan {
     // How many new entries stand before the join, and the number of the old entry there.
     Found(usize, usize),
@@ -31,7 +32,8 @@ pub fn find_join(
     b: usize,
     e: usize,
 ) -> Scan
-    requires { ⌜ (length (now text) ≤ 65536) × (from ≤ length (now text)) × (count ≤ roomOf (length (now tape))) × (length (now text) - e + b < 2 ^ 64) × (j ≤ leading (startsBefore b) (entriesOf count (now tape))) ⌝ }
+    requires { ⌜ (length (now text) ≤ 65536) × (from ≤ length (now text)) × (count ≤ roomOf (length (now tape)))
+        × (length (now text) - e + b < 2 ^ 64) × (j ≤ leading (startsBefore b) (entriesOf count (now tape))) ⌝ }
     ensures { λ r. ⌜ r ≡ scanOf (entriesOf count (now (tape .entry))) b e 0 (readFrom ronToken (now (text .entry)) from) ⌝ }
 {
     let mut at = from;

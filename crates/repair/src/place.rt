@@ -3,6 +3,7 @@ ghost use mathlib.Core.Path.{_≡_};
 ghost use Prim.Native.Nat.{_≤_, _+_};
 ghost use Rattle.repair.specs.inner.Steps.{clipped};
 
+// As the places of a text are.
 pub fn wide(place: u32) -> usize
     ensures { λ r. ⌜ r ≡ place ⌝ }
 {

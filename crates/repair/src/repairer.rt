@@ -18,6 +18,7 @@ ghost use Rattle.tokens.specs.Ron.{ronToken};
 ghost use Rattle.repair.specs.Repair.{toldRepair, repairAnswerOf, repairTapeOf};
 ghost use Rattle.repair.specs.inner.Steps.{Movable, finishAnswer, finishTape};
 
+// What a repair comes to; refused, it leaves the tape as it was.
 pub enum RepairAnswer {
     // How many entries the tape holds now, and how many were kept before and behind.
     Repaired(usize, usize, usize),
@@ -26,8 +27,11 @@ pub enum RepairAnswer {
 
 // The first j entries kept, the rest written anew; 22 last.
 fn finish(tape: &mut [u32], j: usize, text: &[u8], rest: Rest) -> RepairAnswer
-    requires { ⌜ (length (now text) ≤ 65536) × (rest .from ≤ length (now text)) × (rest .n ≤ length (entries (readFrom ronToken (now text) (rest .from)))) × (j + rest .f + rest .m ≤ roomOf (length (now tape))) × (rest .n ≤ 65536) × Movable (rest .b) (rest .e) (entriesOf (rest .m) (drop (width * (j + rest .f)) (now tape))) ⌝ }
-    ensures { λ r. ⌜ (toldRepair r ≡ finishAnswer (roomOf (length (now (tape .entry)))) j rest) × (now (tape .exit) ≡ finishTape (now (tape .entry)) j (now (text .entry)) rest) ⌝ }
+    requires { ⌜ (length (now text) ≤ 65536) × (rest .from ≤ length (now text))
+        × (rest .n ≤ length (entries (readFrom ronToken (now text) (rest .from)))) × (j + rest .f + rest .m ≤ roomOf (length (now tape)))
+        × (rest .n ≤ 65536) × Movable (rest .b) (rest .e) (entriesOf (rest .m) (drop (width * (j + rest .f)) (now tape))) ⌝ }
+    ensures { λ r. ⌜ (toldRepair r ≡ finishAnswer (roomOf (length (now (tape .entry)))) j rest)
+        × (now (tape .exit) ≡ finishTape (now (tape .entry)) j (now (text .entry)) rest) ⌝ }
 {
     let total = j + rest.n + rest.m;
     if row::room(&tape[..]) < total {
@@ -47,7 +51,8 @@ pub fn repair_text(
     text: &[u8],
 ) -> RepairAnswer
     requires { ⌜ length (now text) ≤ 65536 ⌝ }
-    ensures { λ r. ⌜ (toldRepair r ≡ repairAnswerOf (now (tape .entry)) count «old_len» a b (now (text .entry))) × (now (tape .exit) ≡ repairTapeOf (now (tape .entry)) count «old_len» a b (now (text .entry))) ⌝ }
+    ensures { λ r. ⌜ (toldRepair r ≡ repairAnswerOf (now (tape .entry)) count «old_len» a b (now (text .entry)))
+        × (now (tape .exit) ≡ repairTapeOf (now (tape .entry)) count «old_len» a b (now (text .entry))) ⌝ }
 {
     if !repair_fits(&tape[..], count, old_len, a, b, text.len()) {
         return RepairAnswer::Refused(Refusal::not_in_order());

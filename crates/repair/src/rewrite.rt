@@ -24,8 +24,12 @@ pub struct Rest {
 
 // The n new entries, behind them the m old ones from row f on, and zeros up to where these ended.
 pub fn rewrite(part: &mut [u32], text: &[u8], rest: Rest)
-    requires { ⌜ (length (now text) ≤ 65536) × (rest .from ≤ length (now text)) × (rest .n ≤ length (entries (readFrom ronToken (now text) (rest .from)))) × (rest .n + rest .m ≤ roomOf (length (now part))) × (rest .f + rest .m ≤ roomOf (length (now part))) × Movable (rest .b) (rest .e) (entriesOf (rest .m) (drop (width * rest .f) (now part))) ⌝ }
-    ensures { λ r. ⌜ now (part .exit) ≡ laid (take (rest .n) (entries (readFrom ronToken (now (text .entry)) (rest .from))) ++ map (clippedFrom (rest .b) (rest .e)) (entriesOf (rest .m) (drop (width * rest .f) (now (part .entry))))) (cleared (rest .f + rest .m) (now (part .entry))) ⌝ }
+    requires { ⌜ (length (now text) ≤ 65536) × (rest .from ≤ length (now text))
+        × (rest .n ≤ length (entries (readFrom ronToken (now text) (rest .from)))) × (rest .n + rest .m ≤ roomOf (length (now part)))
+        × (rest .f + rest .m ≤ roomOf (length (now part))) × Movable (rest .b) (rest .e) (entriesOf (rest .m) (drop (width * rest .f) (now part))) ⌝ }
+    ensures { λ r. ⌜ now (part .exit) ≡ laid (take (rest .n) (entries (readFrom ronToken (now (text .entry)) (rest .from)))
+        ++ map (clippedFrom (rest .b) (rest .e)) (entriesOf (rest .m) (drop (width * rest .f) (now (part .entry)))))
+        (cleared (rest .f + rest .m) (now (part .entry))) ⌝ }
 {
     shift(part, rest.m, rest.f, rest.n, rest.b, rest.e);
     fill(text, rest.from, part, rest.n);

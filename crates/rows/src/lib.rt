@@ -2,6 +2,7 @@
 //
 // `row` reads and writes one entry, `order` tells whether a tape is in order (refusal 23). Every other crate speaks of lists of entries, through `laid`
 // and `entriesOf` of specs/Rows.
+pub mod kinds;
 pub mod order;
 pub mod row;
 

@@ -1,5 +1,6 @@
 // Whether the entries of a tape are in order: what walk and repair ask of it (refusal 23).
 use crate::Entry;
+use crate::kinds;
 use crate::row;
 ghost use mathlib.Core.Path.{_≡_};
 ghost use Prim.Native.Nat.{_≤_, _+_, _-_, _*_};
@@ -12,10 +13,10 @@ ghost use Rattle.rows.specs.Order.{orderly, fourOrderly, inOrderFrom, in
 fn is_orderly(at: u32, e: Entry) -> bool
     ensures { λ r. ⌜ r ≡ orderly at e ⌝ }
 {
-    if e.kind < 1 {
+    if e.kind < kinds::OPEN_PAREN {
         return false;
     }
-    if 16 < e.kind {
+    if kinds::ATTRIBUTE < e.kind {
         return false;
     }
     if e.start < at {
@@ -33,7 +34,8 @@ fn ends_within(at: u32, limit: usize) -> bool
 // Whether the four entries from row i on may stand behind a place, one behind the other: asked together, since a loop's turn for each row costs more.
 fn four_orderly(tape: &[u32], i: usize, at: u32) -> bool
     requires { ⌜ i + 4 ≤ roomOf (length (now tape)) ⌝ }
-    ensures { λ r. ⌜ r ≡ fourOrderly at (entryAt (now (tape .entry)) i) (entryAt (now (tape .entry)) (i + 1)) (entryAt (now (tape .entry)) (i + 2)) (entryAt (now (tape .entry)) (i + 3)) ⌝ }
+    ensures { λ r. ⌜ r ≡ fourOrderly at (entryAt (now (tape .entry)) i) (entryAt (now (tape .entry)) (i + 1))
+        (entryAt (now (tape .entry)) (i + 2)) (entryAt (now (tape .entry)) (i + 3)) ⌝ }
 {
     let a = row::entry(tape, i);
     if !is_orderly(at, a) {

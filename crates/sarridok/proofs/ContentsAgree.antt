@@ -21,7 +21,8 @@ use Rattle.strings.specs.Strings.{stringOf, stringDecoded}
 use Rattle.strings.proofs.Encodes.{string-encoded}
 use Rattle.strings.proofs.Wholes.{string-whole, byte-string-whole}
 use Rattle.entries.specs.declared.named.Named.{Named}
-use Rattle.entries.specs.declared.named.Named.the-variants.{At, Unnamed}
+use Rattle.entries.specs.declared.named.Named.the-variants.{At}
+use Rattle.entries.specs.declared.named.Named.the-variants as named
 use Rattle.entries.specs.Named.{namedOf, literalOf, literalDecoded}
 use Rattle.entries.specs.Contents.{Span, byNamed, contentsIn, decodedIn}
 use Rattle.entries.proofs.NamedLaws.{named-fits}
@@ -55,7 +56,7 @@ module _ (text : List ℕ) where
   part-by : (j : Judged) (n : Named) (s : Span) → behindJudged j (byNamed n (λ bytes place. contentsIn place (literalOf bytes (drop place text)))) ≡ accepted s
       → partOf text (accepted s) ≡ namedBytes text n
   part-by Fit (At bytes place) s q = part-read bytes place (literalOf bytes (drop place text)) s refl q
-  part-by Fit (Unnamed r) s q = let z : _≡_ {A = ℕ} 0 1 = cc in absurd (omega arith)
+  part-by Fit (named.Refused r) s q = let z : _≡_ {A = ℕ} 0 1 = cc in absurd (omega arith)
   part-by (Unjudged r) n s q = let z : _≡_ {A = ℕ} 0 1 = cc in absurd (omega arith)
 
   count-read : (bytes : Bool) (place room : ℕ) (a : LiteralAnswer) (n : ℕ) → literalOf bytes (drop place text) ≡ a → decodedIn place room a ≡ accepted n
@@ -69,7 +70,7 @@ module _ (text : List ℕ) where
   count-by : (j : Judged) (m : Named) (room n : ℕ) → behindJudged j (byNamed m (λ bytes place. decodedIn place room (literalOf bytes (drop place text)))) ≡ accepted n
       → length (namedBytes text m) ≡ n
   count-by Fit (At bytes place) room n q = count-read bytes place room (literalOf bytes (drop place text)) n refl q
-  count-by Fit (Unnamed r) room n q = let z : _≡_ {A = ℕ} 0 1 = cc in absurd (omega arith)
+  count-by Fit (named.Refused r) room n q = let z : _≡_ {A = ℕ} 0 1 = cc in absurd (omega arith)
   count-by (Unjudged r) m room n q = let z : _≡_ {A = ℕ} 0 1 = cc in absurd (omega arith)
 
   encoded-read : (place room : ℕ) (a : LiteralAnswer) (n : ℕ) → Encoded (drop place text) → stringOf (drop place text) ≡ a → decodedIn place room a ≡ accepted n

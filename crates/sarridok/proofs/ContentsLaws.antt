@@ -10,7 +10,8 @@ use Rattle.text.specs.Judged.{judgedOf, behindJudged}
 use Rattle.text.specs.declared.refusal.Refusal.{Refusal}
 use Rattle.text.specs.declared.judge.Judged.{Judged}
 use Rattle.text.specs.declared.judge.Judged.the-variants.{Fit, Refused}
-use Rattle.entries.specs.declared.named.Named.the-variants.{At, Unnamed}
+use Rattle.entries.specs.declared.named.Named.the-variants.{At}
+use Rattle.entries.specs.declared.named.Named.the-variants as named
 use Rattle.entries.specs.Named.{namedOf, literalOf, literalDecoded}
 use Rattle.entries.specs.Contents.{Span, contentsIn, decodedIn, writtenBy}
 use Rattle.entries.proofs.NamedLaws.{Inside, contents-inside, named-within}
@@ -34,7 +35,7 @@ module _ (text tape : List ℕ) (count entry : ℕ) where
 
   -- ---- 28, 23 and 27
 
-  module _ (r : Refusal) (e : judgedOf text ≡ Fit) (n : namedOf text tape count entry ≡ Unnamed r) where
+  module _ (r : Refusal) (e : judgedOf text ≡ Fit) (n : namedOf text tape count entry ≡ named.Refused r) where
     pub contents-unnamed : contentsOf text tape count entry ≡ refused r
     unfolding contentsOf
     contents-unnamed = rw (e, n)

@@ -5,7 +5,7 @@ use lib.ListN.{length, take, drop}
 use Rattle.text.specs.Refusals.{Told, accepted, refused}
 use Rattle.text.specs.Judged.{judgedOf, behindJudged}
 use Rattle.entries.specs.declared.named.Named.{Named}
-use Rattle.entries.specs.declared.named.Named.the-variants.{At, Unnamed}
+use Rattle.entries.specs.declared.named.Named.the-variants.{At, Refused}
 use Rattle.entries.specs.Named.{namedOf, literalOf, literalDecoded}
 use Rattle.entries.specs.Contents.{Span, byNamed, contentsIn, decodedIn, writtenBy}
 
@@ -27,7 +27,7 @@ decodedAnswer text tape count entry room =
 -- The bytes that the string which an entry names decodes to.
 abbrev pub namedBytes : List ℕ → Named → List ℕ
 namedBytes text (At bytes place) = literalDecoded bytes (drop place text)
-namedBytes text (Unnamed r) = []
+namedBytes text (Refused r) = []
 
 -- The buffer afterwards.
 unfoldable pub decodedOut : List ℕ → List ℕ → ℕ → ℕ → List ℕ → List ℕ

@@ -3,28 +3,22 @@
 use Prim.Native.Nat.{ℕ}
 use mathlib.Core.List.{List}
 use lib.ListN.{drop}
-use Rattle.text.specs.Refusals.{Told, accepted, refused, placedBehind}
+use Rattle.text.specs.Refusals.{Told, accepted, refused}
 use Rattle.text.specs.Judged.{placeFits, behindFront}
+use Rattle.structs.specs.Kinds.{placedKind}
 use Rattle.structs.specs.Structs.{structTypeOf}
 use Rattle.structs.specs.declared.kinds.NewtypeMode.{NewtypeMode}
 use Rattle.structs.specs.declared.kinds.TupleMode.{TupleMode}
 use Rattle.structs.specs.declared.kinds.StructType.{StructType}
 use Rattle.structs.specs.declared.kinds.StructAnswer.{StructAnswer}
-use Rattle.structs.specs.declared.kinds.StructAnswer.the-variants as read
-use Rattle.sarridok.specs.declared.struct_kind_call.StructKindAnswer.{StructKindAnswer}
-use Rattle.sarridok.specs.declared.struct_kind_call.StructKindAnswer.the-variants as answer
+use Rattle.structs.specs.declared.kinds.StructAnswer.the-variants as answer
 
 -- The paper's answer for each case of the code's.
-abbrev pub toldStruct : StructKindAnswer → Told StructType
+abbrev pub toldStruct : StructAnswer → Told StructType
 toldStruct (answer.Kind k) = accepted k
 toldStruct (answer.Refused r) = refused r
 
--- The answer for the part that begins at the place, seen from the front of the text.
-abbrev pub kindPlaced : ℕ → StructAnswer → StructKindAnswer
-kindPlaced place (read.Kind k) = answer.Kind k
-kindPlaced place (read.Refused r) = answer.Refused (placedBehind place r)
-
--- The whole answer.
+-- The whole answer: that for the part which begins at the place, seen from the front of the text.
 unfoldable pub structKindOf : List ℕ → ℕ → NewtypeMode → TupleMode → Told StructType
 structKindOf text place newtype tuple =
-    behindFront text (placeFits text place) (toldStruct (kindPlaced place (structTypeOf (drop place text) newtype tuple)))
+    behindFront text (placeFits text place) (toldStruct (placedKind place (structTypeOf (drop place text) newtype tuple)))

@@ -9,6 +9,7 @@ ghost use mathlib.Core.Path.{_≡_};
 ghost use Rattle.entries.specs.Contents.{toldContents};
 ghost use Rattle.sarridok.specs.Contents.{contentsOf, partOf};
 
+// Where the bytes inside stand in the text, if nothing was escaped: else 29.
 pub fn contents(text: &[u8], tape: &[u32], count: usize, entry: usize) -> ContentsAnswer
     ensures { λ r. ⌜ toldContents r ≡ contentsOf (now (text .entry)) (now (tape .entry)) count entry ⌝ }
 {
@@ -19,7 +20,7 @@ pub fn contents(text: &[u8], tape: &[u32], count: usize, entry: usize) -> Conten
     let named = find_named(text, tape, count, entry);
     match named {
         Named::At(bytes, place) => contents_at(text, bytes, place),
-        Named::Unnamed(refusal) => ContentsAnswer::Refused(refusal),
+        Named::Refused(refusal) => ContentsAnswer::Refused(refusal),
     }
 }
 

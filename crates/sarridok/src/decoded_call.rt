@@ -10,6 +10,7 @@ ghost use lib.ListN.{length};
 ghost use Rattle.entries.specs.Contents.{toldDecoded};
 ghost use Rattle.sarridok.specs.Contents.{decodedAnswer, decodedOut};
 
+// What the string decodes to, at the front of `out`; refused, it writes nothing.
 pub fn decoded(
     text: &[u8],
     tape: &[u32],
@@ -27,6 +28,6 @@ pub fn decoded(
     let named = find_named(text, tape, count, entry);
     match named {
         Named::At(bytes, place) => decoded_at(text, bytes, place, out),
-        Named::Unnamed(refusal) => DecodedAnswer::Refused(refusal),
+        Named::Refused(refusal) => DecodedAnswer::Refused(refusal),
     }
 }

@@ -63,6 +63,7 @@ fn placed(read: Integer, place: usize) -> IntegerAnswer
     }
 }
 
+// The integer at the place, in the width asked for; 27 where its suffix names another.
 pub fn integer(text: &[u8], place: usize, width: Width) -> IntegerAnswer
     ensures { λ r. ⌜ toldInteger r ≡ integerOf (now (text .entry)) place width ⌝ }
 {

@@ -7,8 +7,10 @@ ghost use mathlib.Core.Path.{_≡_};
 ghost use lib.ListN.{length};
 ghost use Rattle.read.specs.Read.{toldRead, readAnswer, readTape};
 
+// Four numbers an entry, from the front of the tape on; refused, it writes nothing.
 pub fn read(text: &[u8], tape: &mut [u32]) -> ReadAnswer
-    ensures { λ r. ⌜ (toldRead r ≡ readAnswer (now (text .entry)) (length (now (tape .entry)))) × (now (tape .exit) ≡ readTape (now (text .entry)) (now (tape .entry))) ⌝ }
+    ensures { λ r. ⌜ (toldRead r ≡ readAnswer (now (text .entry)) (length (now (tape .entry))))
+        × (now (tape .exit) ≡ readTape (now (text .entry)) (now (tape .entry))) ⌝ }
 {
     let judged = judge(text);
     if let Judged::Refused(refusal) = judged {

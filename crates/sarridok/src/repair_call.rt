@@ -15,7 +15,8 @@ pub fn repair(
     b: usize,
     text: &[u8],
 ) -> RepairAnswer
-    ensures { λ r. ⌜ (toldRepair r ≡ repairOf (now (tape .entry)) count «old_len» a b (now (text .entry))) × (now (tape .exit) ≡ repairedTape (now (tape .entry)) count «old_len» a b (now (text .entry))) ⌝ }
+    ensures { λ r. ⌜ (toldRepair r ≡ repairOf (now (tape .entry)) count «old_len» a b (now (text .entry)))
+        × (now (tape .exit) ≡ repairedTape (now (tape .entry)) count «old_len» a b (now (text .entry))) ⌝ }
 {
     let judged = judge(text);
     if let Judged::Refused(refusal) = judged {

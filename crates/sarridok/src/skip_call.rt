@@ -7,6 +7,7 @@ use text::judge::judge;
 ghost use mathlib.Core.Path.{_≡_};
 ghost use Rattle.sarridok.specs.Skip.{toldSkip, skipOf};
 
+// 28 for a cursor that is unfit for the text.
 pub fn skip(text: &[u8], c: ParserCursor) -> Step
     ensures { λ r. ⌜ toldSkip r ≡ skipOf (now (text .entry)) c ⌝ }
 {

@@ -15,6 +15,7 @@ pub enum WalkAnswer {
     Refused(Refusal),
 }
 
+// A bracket links to its partner, any other entry to itself; refused, it writes nothing.
 pub fn walk(tape: &[u32], count: usize, limit: usize, links: &mut [u32]) -> WalkAnswer
     ensures answer { λ r. ⌜ toldWalk r ≡ walkOf (now (tape .entry)) count limit (length (now (links .entry))) ⌝ }
     ensures left { λ r. ⌜ now (links .exit) ≡ linksAfter (now (tape .entry)) count limit (now (links .entry)) ⌝ }

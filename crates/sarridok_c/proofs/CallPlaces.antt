@@ -22,7 +22,7 @@ use Rattle.entries.proofs.NamedLaws.{Within as NamedWithin, named-within}
 use Rattle.entries.specs.Contents.{byNamed, contentsIn, decodedIn}
 use Rattle.entries.specs.Named.{byKind, insideOf, literalOf, namedOf}
 use Rattle.entries.specs.declared.named.Named.{Named}
-use Rattle.entries.specs.declared.named.Named.the-variants.{At, Unnamed}
+use Rattle.entries.specs.declared.named.Named.the-variants.{At, Refused}
 use Rattle.integers.proofs.Bounded.{TypedBounded}
 use Rattle.integers.specs.declared.integer.Integer.{Integer}
 use Rattle.integers.specs.declared.integer.Integer.the-variants as integer
@@ -32,6 +32,7 @@ use Rattle.strings.specs.declared.literal.LiteralAnswer.{LiteralAnswer}
 use Rattle.strings.specs.declared.literal.LiteralAnswer.the-variants as literal
 use Rattle.structs.proofs.ScanLaws.{Within as StructWithin}
 use Rattle.structs.proofs.TypeLaws.{struct-bounded}
+use Rattle.structs.specs.Kinds.{placedKind}
 use Rattle.structs.specs.Structs.{structTypeOf}
 use Rattle.structs.specs.declared.kinds.NewtypeMode.{NewtypeMode}
 use Rattle.structs.specs.declared.kinds.StructAnswer.{StructAnswer}
@@ -43,7 +44,7 @@ use Rattle.given.proofs.Both.{both}
 use Rattle.sarridok.proofs.Places.{at-bounded}
 use Rattle.sarridok.specs.Contents.{contentsOf, decodedAnswer}
 use Rattle.sarridok.specs.Skip.{skipOf, toldSkip as toldStep}
-use Rattle.sarridok.specs.StructKind.{kindPlaced, structKindOf, toldStruct}
+use Rattle.sarridok.specs.StructKind.{structKindOf, toldStruct}
 use Rattle.sarridok.specs.Typed.{integerAt, integerOf, placedAt, toldInteger as toldTyped}
 use Rattle.sarridok_c.specs.Packed.{bitOf}
 use Rattle.sarridok_c.specs.Words.{kindWord}
@@ -98,7 +99,7 @@ kind-low NonNewtypeTuple = omega arith
 kind-low NamedStruct = omega arith
 kind-low UnitStruct = omega arith
 
-kind-placed : (place n : ℕ) (a : StructAnswer) → place + n ≤ 65536 → StructWithin n a → Low kindParts (toldStruct (kindPlaced place a))
+kind-placed : (place n : ℕ) (a : StructAnswer) → place + n ≤ 65536 → StructWithin n a → Low kindParts (toldStruct (placedKind place a))
 kind-placed place n (struct.Kind k) h b = (omega arith, omega (arith, kind-low k))
 kind-placed place n (struct.Refused r) h b = omega arith
 
@@ -128,7 +129,7 @@ decoded-in place room s (literal.Refused r) h b = omega arith
 -- what names no string is refused at 0
 abbrev Nowhere : Named → Type 0
 Nowhere (At bytes place) = Unit {0}
-Nowhere (Unnamed r) = r .place ≡ 0
+Nowhere (Refused r) = r .place ≡ 0
 
 named-nowhere : (text tape : List ℕ) (count entry : ℕ) → Nowhere (namedOf text tape count entry)
 unfolding namedOf insideOf byKind
@@ -142,7 +143,7 @@ named-nowhere text tape count entry =
 named-low : {A : Type 0} (parts : A → Halves) (text : List ℕ) (own : Bool → ℕ → Told A) (n : Named) → NamedWithin text n → Nowhere n
     → ((bytes : Bool) (place : ℕ) → place ≤ length text → Low parts (own bytes place)) → Low parts (byNamed n own)
 named-low parts text own (At bytes place) w z f = f bytes place w
-named-low parts text own (Unnamed r) w z f = omega (arith, z)
+named-low parts text own (Refused r) w z f = omega (arith, z)
 
 pub contents-low : (text tape : List ℕ) (count entry : ℕ) → Low spanParts (contentsOf text tape count entry)
 unfolding contentsOf

@@ -2,3 +2,4 @@ pub mod Packed
 pub mod Words
 pub mod Numbered
 pub mod Whole
+pub mod Version

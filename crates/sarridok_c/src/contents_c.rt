@@ -17,6 +17,7 @@ fn word(answer: ContentsAnswer) -> u64
     }
 }
 
+// Where the contents of a string entry begin and end, where nothing in them is escaped.
 #[no_mangle]
 pub extern "C" fn sarridok_contents(text: &[u8], tape: &[u32], count: usize, entry: usize) -> u64
     ensures { λ r. ⌜ r ≡ packed spanWord (contentsOf (now (text .entry)) (now (tape .entry)) count entry) ⌝ }

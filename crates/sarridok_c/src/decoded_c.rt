@@ -18,6 +18,7 @@ fn word(answer: DecodedAnswer) -> u64
     }
 }
 
+// Decodes the contents of a string entry into `out`. Its answer is how many bytes stand at the front of it.
 #[no_mangle]
 pub extern "C" fn sarridok_decoded(
     text: &[u8],
@@ -26,7 +27,8 @@ pub extern "C" fn sarridok_decoded(
     entry: usize,
     out: &mut [u8],
 ) -> u64
-    ensures { λ r. ⌜ (r ≡ packed countWord (decodedAnswer (now (text .entry)) (now (tape .entry)) count entry (length (now (out .entry))))) × (now (out .exit) ≡ decodedOut (now (text .entry)) (now (tape .entry)) count entry (now (out .entry))) ⌝ }
+    ensures { λ r. ⌜ (r ≡ packed countWord (decodedAnswer (now (text .entry)) (now (tape .entry)) count entry (length (now (out .entry)))))
+        × (now (out .exit) ≡ decodedOut (now (text .entry)) (now (tape .entry)) count entry (now (out .entry))) ⌝ }
 {
     word(sarridok::decoded(text, tape, count, entry, out))
 }

@@ -12,7 +12,8 @@ ghost use Rattle.sarridok_c.specs.Words.{typedWord, magnitudeOf};
 ghost use Rattle.sarridok_c.specs.Numbered.{integerNumbered};
 
 fn word(answer: IntegerAnswer, magnitude: &mut u64) -> u64
-    ensures { λ r. ⌜ (r ≡ packed typedWord (toldInteger answer)) × (now (magnitude .exit) ≡ lentAfter magnitudeOf (toldInteger answer) (now (magnitude .entry))) ⌝ }
+    ensures { λ r. ⌜ (r ≡ packed typedWord (toldInteger answer))
+        × (now (magnitude .exit) ≡ lentAfter magnitudeOf (toldInteger answer) (now (magnitude .entry))) ⌝ }
 {
     match answer {
         IntegerAnswer::Value(value, end) => {
@@ -23,6 +24,7 @@ fn word(answer: IntegerAnswer, magnitude: &mut u64) -> u64
     }
 }
 
+// The integer at a place, in a width by its number. Its answer is the minus and the place behind it; `magnitude` is written.
 #[no_mangle]
 pub extern "C" fn sarridok_integer(
     text: &[u8],

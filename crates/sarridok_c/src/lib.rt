@@ -11,6 +11,7 @@ mod read_c;
 mod repair_c;
 mod skip_c;
 mod struct_kind_c;
+mod version_c;
 mod walk_c;
 
 pub use contents_c::sarridok_contents;
@@ -20,4 +21,5 @@ pub use read_c::sarridok_read;
 pub use repair_c::sarridok_repair;
 pub use skip_c::sarridok_skip;
 pub use struct_kind_c::sarridok_struct_kind;
+pub use version_c::sarridok_version;
 pub use walk_c::sarridok_walk;

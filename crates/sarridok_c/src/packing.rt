@@ -5,6 +5,7 @@ use text::judge::judge;
 ghost use mathlib.Core.Path.{_≡_};
 ghost use Rattle.sarridok_c.specs.Packed.{atMost, pairOf, bitOf, refusalWord, unfitIn};
 
+// A number, or the largest that there is room for.
 fn at_most(most: u64, n: u64) -> u64
     ensures { λ r. ⌜ r ≡ atMost most n ⌝ }
 {
@@ -24,6 +25,7 @@ pub fn pair(high: u64, low: u64) -> u64
     raised + below
 }
 
+// Whether, as a number.
 pub fn bit(set: bool) -> u64
     ensures { λ r. ⌜ r ≡ bitOf set ⌝ }
 {

@@ -17,9 +17,11 @@ fn word(answer: ReadAnswer) -> u64
     }
 }
 
+// Reads a text into a tape. Its answer is how many entries now stand at the tape's front.
 #[no_mangle]
 pub extern "C" fn sarridok_read(text: &[u8], tape: &mut [u32]) -> u64
-    ensures { λ r. ⌜ (r ≡ packed countWord (readAnswer (now (text .entry)) (length (now (tape .entry))))) × (now (tape .exit) ≡ readTape (now (text .entry)) (now (tape .entry))) ⌝ }
+    ensures { λ r. ⌜ (r ≡ packed countWord (readAnswer (now (text .entry)) (length (now (tape .entry)))))
+        × (now (tape .exit) ≡ readTape (now (text .entry)) (now (tape .entry))) ⌝ }
 {
     word(sarridok::read(text, tape))
 }

@@ -8,7 +8,9 @@ ghost use Rattle.sarridok_c.specs.Packed.{packed, lentAfter};
 ghost use Rattle.sarridok_c.specs.Words.{repairedWord, beforeOf, behindOf};
 
 fn word(answer: RepairAnswer, before: &mut u64, behind: &mut u64) -> u64
-    ensures { λ r. ⌜ (r ≡ packed repairedWord (toldRepair answer)) × (now (before .exit) ≡ lentAfter beforeOf (toldRepair answer) (now (before .entry))) × (now (behind .exit) ≡ lentAfter behindOf (toldRepair answer) (now (behind .entry))) ⌝ }
+    ensures { λ r. ⌜ (r ≡ packed repairedWord (toldRepair answer))
+        × (now (before .exit) ≡ lentAfter beforeOf (toldRepair answer) (now (before .entry)))
+        × (now (behind .exit) ≡ lentAfter behindOf (toldRepair answer) (now (behind .entry))) ⌝ }
 {
     match answer {
         RepairAnswer::Repaired(count, kept_before, kept_behind) => {
@@ -20,6 +22,7 @@ fn word(answer: RepairAnswer, before: &mut u64, behind: &mut u64) -> u64
     }
 }
 
+// Makes the tape of an old text that of `text`, in which bytes `a` to `b` of the old one were replaced. Its answer is how many entries the tape has now.
 #[no_mangle]
 pub extern "C" fn sarridok_repair(
     tape: &mut [u32],
@@ -33,8 +36,10 @@ pub extern "C" fn sarridok_repair(
 ) -> u64
     ensures answer { λ r. ⌜ r ≡ packed repairedWord (repairOf (now (tape .entry)) count «old_len» a b (now (text .entry))) ⌝ }
     ensures entries { λ r. ⌜ now (tape .exit) ≡ repairedTape (now (tape .entry)) count «old_len» a b (now (text .entry)) ⌝ }
-    ensures before { λ r. ⌜ now (before .exit) ≡ lentAfter beforeOf (repairOf (now (tape .entry)) count «old_len» a b (now (text .entry))) (now (before .entry)) ⌝ }
-    ensures behind { λ r. ⌜ now (behind .exit) ≡ lentAfter behindOf (repairOf (now (tape .entry)) count «old_len» a b (now (text .entry))) (now (behind .entry)) ⌝ }
+    ensures before { λ r. ⌜ now (before .exit) ≡
+        lentAfter beforeOf (repairOf (now (tape .entry)) count «old_len» a b (now (text .entry))) (now (before .entry)) ⌝ }
+    ensures behind { λ r. ⌜ now (behind .exit) ≡
+        lentAfter behindOf (repairOf (now (tape .entry)) count «old_len» a b (now (text .entry))) (now (behind .entry)) ⌝ }
 {
     word(
         sarridok::repair(tape, count, old_len, a, b, text),

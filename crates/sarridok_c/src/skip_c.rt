@@ -10,7 +10,8 @@ ghost use Rattle.sarridok_c.specs.Packed.{packed, lentAfter};
 ghost use Rattle.sarridok_c.specs.Words.{cursorWord, preOf, lengthOf};
 
 fn word(step: Step, pre: &mut u64, len: &mut u64) -> u64
-    ensures { λ r. ⌜ (r ≡ packed cursorWord (toldSkip step)) × (now (pre .exit) ≡ lentAfter preOf (toldSkip step) (now (pre .entry))) × (now (len .exit) ≡ lentAfter lengthOf (toldSkip step) (now (len .entry))) ⌝ }
+    ensures { λ r. ⌜ (r ≡ packed cursorWord (toldSkip step)) × (now (pre .exit) ≡ lentAfter preOf (toldSkip step) (now (pre .entry)))
+        × (now (len .exit) ≡ lentAfter lengthOf (toldSkip step) (now (len .entry))) ⌝ }
 {
     match step {
         Step::Moved(c) => {
@@ -22,6 +23,7 @@ fn word(step: Step, pre: &mut u64, len: &mut u64) -> u64
     }
 }
 
+// Moves a cursor of three numbers behind the whitespace and comments at it. Its answer is the place; the two others are written.
 #[no_mangle]
 pub extern "C" fn sarridok_skip(
     text: &[u8],
@@ -32,8 +34,10 @@ pub extern "C" fn sarridok_skip(
     new_last_ws_len: &mut u64,
 ) -> u64
     ensures answer { λ r. ⌜ r ≡ packed cursorWord (skipOf (now (text .entry)) (cursorOf cursor «pre_ws_cursor» «last_ws_len»)) ⌝ }
-    ensures pre { λ r. ⌜ now («new_pre_ws_cursor» .exit) ≡ lentAfter preOf (skipOf (now (text .entry)) (cursorOf cursor «pre_ws_cursor» «last_ws_len»)) (now («new_pre_ws_cursor» .entry)) ⌝ }
-    ensures len { λ r. ⌜ now («new_last_ws_len» .exit) ≡ lentAfter lengthOf (skipOf (now (text .entry)) (cursorOf cursor «pre_ws_cursor» «last_ws_len»)) (now («new_last_ws_len» .entry)) ⌝ }
+    ensures pre { λ r. ⌜ now («new_pre_ws_cursor» .exit) ≡
+        lentAfter preOf (skipOf (now (text .entry)) (cursorOf cursor «pre_ws_cursor» «last_ws_len»)) (now («new_pre_ws_cursor» .entry)) ⌝ }
+    ensures len { λ r. ⌜ now («new_last_ws_len» .exit) ≡
+        lentAfter lengthOf (skipOf (now (text .entry)) (cursorOf cursor «pre_ws_cursor» «last_ws_len»)) (now («new_last_ws_len» .entry)) ⌝ }
 {
     let c = ParserCursor {
         cursor,

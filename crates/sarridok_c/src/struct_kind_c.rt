@@ -2,7 +2,7 @@
 use crate::packing::refused;
 use crate::packing::unfit_in;
 use sarridok::NewtypeMode;
-use sarridok::StructKindAnswer;
+use sarridok::StructAnswer;
 use sarridok::StructType;
 use sarridok::TupleMode;
 ghost use mathlib.Core.Path.{_≡_};
@@ -42,15 +42,16 @@ fn number_of(kind: StructType) -> u64
     }
 }
 
-fn word(answer: StructKindAnswer) -> u64
+fn word(answer: StructAnswer) -> u64
     ensures { λ r. ⌜ r ≡ packed kindWord (toldStruct answer) ⌝ }
 {
     match answer {
-        StructKindAnswer::Kind(kind) => number_of(kind),
-        StructKindAnswer::Refused(refusal) => refused(refusal),
+        StructAnswer::Kind(kind) => number_of(kind),
+        StructAnswer::Refused(refusal) => refused(refusal),
     }
 }
 
+// The type of the struct at a place, in two modes by their numbers. Its answer is the type's number.
 #[no_mangle]
 pub extern "C" fn sarridok_struct_kind(text: &[u8], place: usize, newtype: u32, tuple: u32) -> u64
     ensures { λ r. ⌜ r ≡ packed kindWord (kindNumbered (now (text .entry)) place newtype tuple) ⌝ }

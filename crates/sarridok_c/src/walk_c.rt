@@ -16,9 +16,11 @@ fn word(answer: WalkAnswer) -> u64
     }
 }
 
+// Joins the brackets of a tape, at most `limit` of them open at once. Its answer is 0; the links are written.
 #[no_mangle]
 pub extern "C" fn sarridok_walk(tape: &[u32], count: usize, limit: usize, links: &mut [u32]) -> u64
-    ensures { λ r. ⌜ (r ≡ packed doneWord (walkOf (now (tape .entry)) count limit (length (now (links .entry))))) × (now (links .exit) ≡ linksAfter (now (tape .entry)) count limit (now (links .entry))) ⌝ }
+    ensures { λ r. ⌜ (r ≡ packed doneWord (walkOf (now (tape .entry)) count limit (length (now (links .entry)))))
+        × (now (links .exit) ≡ linksAfter (now (tape .entry)) count limit (now (links .entry))) ⌝ }
 {
     word(sarridok::walk(tape, count, limit, links))
 }

@@ -5,6 +5,7 @@ ghost use lib.ListN.{length, drop};
 ghost use Rattle.text.specs.Runs.{run};
 ghost use Rattle.search.specs.inner.Others.{other, neither, atMost};
 
+// The place of the first b at or behind `from`, or the end.
 pub fn find_one(s: &[u8], from: usize, b: u8) -> usize
     requires { ⌜ from ≤ length (now s) ⌝ }
     ensures { λ r. ⌜ r ≡ from + run (other b) (drop from (now (s .entry))) ⌝ }
@@ -19,6 +20,7 @@ pub fn find_one(s: &[u8], from: usize, b: u8) -> usize
     i
 }
 
+// The place of the first a or b at or behind `from`, or the end.
 pub fn find_one_of(s: &[u8], from: usize, a: u8, b: u8) -> usize
     requires { ⌜ from ≤ length (now s) ⌝ }
     ensures { λ r. ⌜ r ≡ from + run (neither a b) (drop from (now (s .entry))) ⌝ }

@@ -8,6 +8,7 @@ use lines::out;
 use sarridok::ContentsAnswer;
 use sarridok::DecodedAnswer;
 
+// Where the part stands, or the refusal.
 pub fn view(o: &mut [u8], at: usize, r: ContentsAnswer) -> usize
     ensures { λ p. ⌜ (now (o .exit), p) ≡ put (now (o .entry), at) (answerText spanText (toldContents r)) ⌝ }
 {

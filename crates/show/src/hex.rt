@@ -15,6 +15,7 @@ fn digit(n: u8) -> u8
     87 + k
 }
 
+// Two digits a byte, the high one first.
 pub fn bytes(o: &mut [u8], at: usize, s: &[u8]) -> usize
     ensures { λ r. ⌜ (now (o .exit), r) ≡ put (now (o .entry), at) (hexText (now (s .entry))) ⌝ }
 {

@@ -21,6 +21,7 @@ fn value(o: &mut [u8], at: usize, v: Value) -> usize
     out::number(o, at, v.magnitude)
 }
 
+// The value and the place behind it, or the refusal.
 pub fn read(o: &mut [u8], at: usize, r: IntegerAnswer) -> usize
     ensures { λ p. ⌜ (now (o .exit), p) ≡ put (now (o .entry), at) (answerText typedText (toldInteger r)) ⌝ }
 {

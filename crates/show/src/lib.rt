@@ -21,6 +21,7 @@ pub fn bad(o: &mut [u8], at: usize) -> usize
     out::bytes(o, at, b"bad")
 }
 
+// Number and place.
 pub fn refused(o: &mut [u8], at: usize, r: Refusal) -> usize
     ensures { λ p. ⌜ (now (o .exit), p) ≡ put (now (o .entry), at) (refusedText r) ⌝ }
 {

@@ -15,7 +15,8 @@ use sarridok::ReadAnswer;
 
 // An entry's four numbers behind a separator.
 fn entry(o: &mut [u8], at: usize, tape: &[u32], i: usize, between: u8) -> usize
-    ensures { λ r. ⌜ (now (o .exit), r) ≡ put (now (o .entry), at) (cond (ltb i (roomOf (length (now (tape .entry))))) (entryText between (entryAt (now (tape .entry)) i)) []) ⌝ }
+    ensures { λ r. ⌜ (now (o .exit), r) ≡ put (now (o .entry), at)
+        (cond (ltb i (roomOf (length (now (tape .entry))))) (entryText between (entryAt (now (tape .entry)) i)) []) ⌝ }
 {
     if row::room(tape) <= i {
         return at;
@@ -28,6 +29,7 @@ fn entry(o: &mut [u8], at: usize, tape: &[u32], i: usize, between: u8) -> usize
     out::word(o, d, e.detail as u64)
 }
 
+// The first n entries of the tape.
 pub fn entries(o: &mut [u8], at: usize, tape: &[u32], n: usize, between: u8) -> usize
     ensures { λ r. ⌜ (now (o .exit), r) ≡ put (now (o .entry), at) (tapeText between (now (tape .entry)) n) ⌝ }
 {

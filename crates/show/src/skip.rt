@@ -26,6 +26,7 @@ fn cursor(o: &mut [u8], at: usize, c: ParserCursor) -> usize
     length(o, b, c.last_ws_len)
 }
 
+// The three numbers of the cursor, or the refusal.
 pub fn skipped(o: &mut [u8], at: usize, s: Step) -> usize
     ensures { λ r. ⌜ (now (o .exit), r) ≡ put (now (o .entry), at) (answerText movedText (toldSkip s)) ⌝ }
 {

@@ -5,7 +5,7 @@ ghost use Rattle.sarridok.specs.StructKind.{toldStruct};
 ghost use Rattle.show.specs.Answers.{answerText};
 ghost use Rattle.show.specs.StructKinds.{kindName, kindText};
 use lines::out;
-use sarridok::StructKindAnswer;
+use sarridok::StructAnswer;
 use sarridok::StructType;
 
 fn name(o: &mut [u8], at: usize, kind: StructType) -> usize
@@ -21,14 +21,15 @@ fn name(o: &mut [u8], at: usize, kind: StructType) -> usize
     }
 }
 
-pub fn kind(o: &mut [u8], at: usize, r: StructKindAnswer) -> usize
+// The kind by its name in the crate, or the refusal.
+pub fn kind(o: &mut [u8], at: usize, r: StructAnswer) -> usize
     ensures { λ p. ⌜ (now (o .exit), p) ≡ put (now (o .entry), at) (answerText kindText (toldStruct r)) ⌝ }
 {
     match r {
-        StructKindAnswer::Kind(k) => {
+        StructAnswer::Kind(k) => {
             let a = out::bytes(o, at, b"ok ");
             name(o, a, k)
         }
-        StructKindAnswer::Refused(f) => crate::refused(o, at, f),
+        StructAnswer::Refused(f) => crate::refused(o, at, f),
     }
 }

@@ -34,7 +34,8 @@ use Rattle.strings.specs.declared.literal.LiteralAnswer.{LiteralAnswer}
 use Rattle.strings.specs.declared.literal.LiteralAnswer.the-variants.{Read, Refused}
 use Rattle.strings.specs.declared.pieces.Decoded.the-variants.{Nothing}
 use Rattle.strings.specs.declared.pieces.Piece.{Piece}
-use Rattle.strings.specs.declared.pieces.Piece.the-variants.{Backslash, Plain, Quote, Spoilt}
+use Rattle.strings.specs.declared.pieces.Piece.the-variants.{Backslash, Plain, Quote}
+use Rattle.strings.specs.declared.pieces.Piece.the-variants as pieces
 use Rattle.text.proofs.Choices.{bool-cases, cond-cases, either, lt-or-le}
 use Rattle.text.proofs.Utf8Agree.{Head, char-scalar, charLen-char, decode-encode, head-view}
 use Rattle.text.proofs.Utf8Agree.Head.{a-char, no-char}
@@ -81,7 +82,7 @@ abbrev Less : ℕ → Piece → Type 0
 Less k Quote = Unit
 Less k (Plain n) = n < k
 Less k (Backslash n d) = n < k
-Less k (Spoilt r) = ⊥
+Less k (pieces.Refused r) = ⊥
 
 by-piece : (k : ℕ) (t : Bool) (x y x′ y′ : Piece) → (Less k x → x′ ≡ x) → (Less k y → y′ ≡ y) → Less k (cond t x y) → cond t x′ y′ ≡ cond t x y
 by-piece k true x y x′ y′ f g = f
@@ -131,7 +132,7 @@ least-one : (t : List ℕ) (p : Piece) → Sized t p → (p ≡ Quote → ⊥) �
 least-one t Quote z n h = n refl
 least-one t (Plain k) z n h = omega arith
 least-one t (Backslash k d) z n h = omega arith
-least-one t (Spoilt r) z n h = h
+least-one t (pieces.Refused r) z n h = h
 
 no-quote-piece : (m : Mode) (v : List ℕ) → behindBackslash m v ≡ Quote → ⊥
 unfolding behindBackslash
@@ -178,7 +179,7 @@ less-by : (m : Mode) (k : ℕ) (t : List ℕ) (p : Piece) → Closes k (byPiece 
 less-by m k t Quote c = tt
 less-by m k t (Plain n) c = omega (arith, c .0, some-room (k - n) (drop n t) (bodyOf m (drop n t)) (whole-body m (drop n t)) (c .1))
 less-by m k t (Backslash n d) c = omega (arith, c .0, some-room (k - n) (drop n t) (bodyOf m (drop n t)) (whole-body m (drop n t)) (c .1))
-less-by m k t (Spoilt r) c = c
+less-by m k t (pieces.Refused r) c = c
 
 -- one piece, and the rest
 piece-on : (m : Mode) (u v v′ : List ℕ) (p : Piece) → Sized (u ++ v) p → Closes (length u) (byPiece p (u ++ v) (λ n. bodyOf m (drop n (u ++ v))))
@@ -196,7 +197,7 @@ piece-on m u v v′ (Backslash n b) z c rest =
     let d′ = drop-append-le n u v′ (c .0) in
     let w = subst (λ (x : List ℕ). Closes (length u - n) (bodyOf m x)) d (c .1) in
     ap (next n (bytesOf b) true) (ap (bodyOf m) d′ ∙ rest n (z .0) (c .0) w ∙ sym (ap (bodyOf m) d))
-piece-on m u v v′ (Spoilt r) z c rest = refl
+piece-on m u v v′ (pieces.Refused r) z c rest = refl
 
 body-fuel : (m : Mode) (fuel : ℕ) (u v v′ : List ℕ) → length u ≤ fuel → Closes (length u) (bodyOf m (u ++ v)) → bodyOf m (u ++ v′) ≡ bodyOf m (u ++ v)
 body-fuel m zero [] v v′ h c = absurd (omega (arith, some-room 0 v (bodyOf m v) (whole-body m v) c))

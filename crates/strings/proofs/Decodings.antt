@@ -14,7 +14,7 @@ use Rattle.strings.specs.Pieces.{bodyOf, byPiece, bytesOf, decodedOf, pi
 use Rattle.strings.specs.Strings.{intoOut}
 use Rattle.strings.specs.declared.pieces.Decoded.{Decoded}
 use Rattle.strings.specs.declared.pieces.Piece.{Piece}
-use Rattle.strings.specs.declared.pieces.Piece.the-variants.{Backslash, Plain, Quote, Spoilt}
+use Rattle.strings.specs.declared.pieces.Piece.the-variants.{Backslash, Plain, Quote, Refused}
 use Rattle.text.specs.declared.refusal.Refusal.{Refusal}
 
 -- ---- a body
@@ -28,9 +28,9 @@ module _ (m : Mode) (s : List ℕ) (at : ℕ) where
   unfolding decodedOf
   decoded-quote h e = whole h Quote e
 
-  pub decoded-spoilt : at < length s → (r : Refusal) → Spoilt r ≡ pieceOf m (drop at s) → decodedOf (bodyOf m (drop at s)) ≡ []
+  pub decoded-spoilt : at < length s → (r : Refusal) → Refused r ≡ pieceOf m (drop at s) → decodedOf (bodyOf m (drop at s)) ≡ []
   unfolding decodedOf
-  decoded-spoilt h r e = whole h (Spoilt r) e
+  decoded-spoilt h r e = whole h (Refused r) e
 
   pub decoded-end : length s ≤ at → decodedOf (bodyOf m (drop at s)) ≡ []
   unfolding decodedOf

@@ -25,7 +25,8 @@ use Rattle.strings.specs.declared.literal.Literal.{Literal}
 use Rattle.strings.specs.declared.literal.LiteralAnswer.{LiteralAnswer}
 use Rattle.strings.specs.declared.literal.LiteralAnswer.the-variants.{Read}
 use Rattle.strings.specs.declared.pieces.Piece.{Piece}
-use Rattle.strings.specs.declared.pieces.Piece.the-variants.{Backslash, Plain, Quote, Spoilt}
+use Rattle.strings.specs.declared.pieces.Piece.the-variants.{Backslash, Plain, Quote}
+use Rattle.strings.specs.declared.pieces.Piece.the-variants as pieces
 use Rattle.text.proofs.Choices.{and-true, bool-cases, cond-cases, either, lt-or-le}
 use Rattle.text.proofs.Lists.{head-at}
 use Rattle.text.proofs.Utf8Agree.{encode-1}
@@ -48,7 +49,7 @@ abbrev Pure : List ℕ → Piece → Type 0
 Pure t Quote = Unit
 Pure t (Plain n) = n ≡ run plain t
 Pure t (Backslash n d) = (n ≤ run ascii t) × Encoded (bytesOf d)
-Pure t (Spoilt r) = Unit
+Pure t (pieces.Refused r) = Unit
 
 blank-ascii : (b : ℕ) → continuationBlank b ≡ true → ascii b ≡ true
 unfolding continuationBlank
@@ -105,7 +106,7 @@ piece-encoded t (Plain n) e h z rest =
     let r = encoded-cut (take n t) (drop n t) (subst Encoded (sym (take-append-drop n t)) e) (subst (λ (x : ℕ). getD (drop x t) 0 0 < 0x80) (sym h) (stop-ascii t)) in
     encoded-join (r .0) (rest n (z .0) (z .1) (r .1))
 piece-encoded t (Backslash n d) e h z rest = encoded-join (h .1) (rest n (z .0) (z .1) (encoded-behind n t e (h .0)))
-piece-encoded t (Spoilt r) e h z rest = ends
+piece-encoded t (pieces.Refused r) e h z rest = ends
 
 end-encoded : (m : Mode) → Encoded (decodedOf (bodyOf m []))
 unfolding decodedOf

@@ -1,5 +1,6 @@
 pub mod PieceLaws
 pub mod CharLaws
+pub mod CursorLaws
 pub mod QuotedLaws
 pub mod RawLaws
 pub mod Writes

@@ -16,9 +16,11 @@ use Rattle.escapes.specs.declared.answers.Mode.{Mode}
 use Rattle.strings.specs.Pieces.{behindBackslash, bodyFrom, bodyOf, byEscape, byPiece, bytesOf, decodedLen, lineEnd, pieceOf, plain, writable}
 use Rattle.strings.specs.Pieces.Body.{next, unclosed}
 use Rattle.strings.specs.declared.pieces.Decoded.{Decoded}
-use Rattle.strings.specs.declared.pieces.Decoded.the-variants.{Byte, Nothing, Point}
+use Rattle.strings.specs.declared.pieces.Decoded.the-variants.{Nothing}
+use Rattle.strings.specs.declared.pieces.Decoded.the-variants as decoded
 use Rattle.strings.specs.declared.pieces.Piece.{Piece}
-use Rattle.strings.specs.declared.pieces.Piece.the-variants.{Backslash, Plain, Quote, Spoilt}
+use Rattle.strings.specs.declared.pieces.Piece.the-variants.{Backslash, Plain, Quote}
+use Rattle.strings.specs.declared.pieces.Piece.the-variants as pieces
 use Rattle.text.proofs.Choices.{bool-cases, cond-cases, either}
 use Rattle.text.proofs.RunLaws.{run-le}
 use Rattle.text.proofs.Utf8Agree.{scalar-scalar}
@@ -62,14 +64,14 @@ encoded-le c =
 -- what is decoded can be written
 abbrev pub Fine : Decoded → Type 0
 Fine Nothing = Unit
-Fine (Byte b) = Unit
-Fine (Point c) = Scalar c
+Fine (decoded.Ascii b) = Unit
+Fine (decoded.Utf8 c) = Scalar c
 
 abbrev pub Sized : List ℕ → Piece → Type 0
 Sized s Quote = (1 ≤ length s) × (getD s 0 0 ≡ 0x22)
 Sized s (Plain n) = (1 ≤ n) × (n ≤ length s)
 Sized s (Backslash n d) = (1 ≤ n) × (n ≤ length s) × (decodedLen d ≤ n) × Fine d
-Sized s (Spoilt r) = r .place ≤ length s
+Sized s (pieces.Refused r) = r .place ≤ length s
 
 escape-sized : (b : ℕ) (s : List ℕ) (a : EscapeAnswer) → Fits s a → Sized (b ∷ s) (byEscape a)
 unfolding decodedLen
@@ -126,7 +128,7 @@ body-by : (m : Mode) (b : ℕ) (s : List ℕ) (p : Piece) → Sized (b ∷ s) p
 body-by m b s Quote h = refl
 body-by m b s (Plain n) h = ap (next n (take n (b ∷ s)) false) (rest-of m b s n (h .0))
 body-by m b s (Backslash n d) h = ap (next n (bytesOf d) true) (rest-of m b s n (h .0))
-body-by m b s (Spoilt r) h = refl
+body-by m b s (pieces.Refused r) h = refl
 
 body-first : (m : Mode) (s : List ℕ) → 0 < length s → bodyOf m s ≡ byPiece (pieceOf m s) s (λ n. bodyOf m (drop n s))
 unfolding bodyFrom bodyOf
@@ -145,5 +147,5 @@ decoded-length d = refl
 
 pub fine-writable : (d : Decoded) → Fine d → writable d ≡ true
 fine-writable Nothing h = refl
-fine-writable (Byte b) h = refl
-fine-writable (Point c) h = scalar-scalar c h
+fine-writable (decoded.Ascii b) h = refl
+fine-writable (decoded.Utf8 c) h = scalar-scalar c h

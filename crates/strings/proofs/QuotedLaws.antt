@@ -18,7 +18,8 @@ use Rattle.strings.specs.declared.literal.LiteralAnswer.{LiteralAnswer}
 use Rattle.strings.specs.declared.literal.LiteralAnswer.the-variants.{Read, Refused}
 use Rattle.strings.specs.declared.pieces.Decoded.{Decoded}
 use Rattle.strings.specs.declared.pieces.Piece.{Piece}
-use Rattle.strings.specs.declared.pieces.Piece.the-variants.{Backslash, Plain, Quote, Spoilt}
+use Rattle.strings.specs.declared.pieces.Piece.the-variants.{Backslash, Plain, Quote}
+use Rattle.strings.specs.declared.pieces.Piece.the-variants as pieces
 use Rattle.text.proofs.Choices.{or-false, or-true, cond-cases, bool-cases, either}
 use Rattle.text.proofs.Lists.{head-at}
 use Rattle.text.specs.Refusals.{expectedStringEnd, placedBehind, expectedByteString}
@@ -63,14 +64,14 @@ module _ (m : Mode) (s : List ℕ) (start from at dec : ℕ) (esc : Bool) (h : a
       → measured (bodyOf m (drop at s)) start from at dec esc ≡ measured (bodyOf m (drop (at + n) s)) start (at + n) (at + n) (dec + decodedLen d) true
   backslash-step n d e = backslash-next n d e ∙ rw (drop-drop n at s, or-true esc)
 
-  pub spoilt-size : (r : Refusal) → Spoilt r ≡ pieceOf m (drop at s) → at + r .place ≤ length s
+  pub spoilt-size : (r : Refusal) → pieces.Refused r ≡ pieceOf m (drop at s) → at + r .place ≤ length s
   spoilt-size r e =
-      let z = found m (drop at s) (Spoilt r) (omega (arith, length-drop at s)) e in omega (arith, z, length-drop at s)
+      let z = found m (drop at s) (pieces.Refused r) (omega (arith, length-drop at s)) e in omega (arith, z, length-drop at s)
 
-  pub spoilt-step : (r : Refusal) → Spoilt r ≡ pieceOf m (drop at s)
+  pub spoilt-step : (r : Refusal) → pieces.Refused r ≡ pieceOf m (drop at s)
       → measured (bodyOf m (drop at s)) start from at dec esc ≡ Refused (placedBehind at r)
   unfolding measured
-  spoilt-step r e = step (Spoilt r) e
+  spoilt-step r e = step (pieces.Refused r) e
 
 pub end-step : (m : Mode) (s : List ℕ) (start from at dec : ℕ) (esc : Bool) → length s ≤ at
     → measured (bodyOf m (drop at s)) start from at dec esc ≡ Refused (expectedStringEnd from)

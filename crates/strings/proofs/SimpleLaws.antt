@@ -13,7 +13,7 @@ use Rattle.text.proofs.Lists.{head-at}
 use Rattle.escapes.specs.Escapes.{escapeOf, simpleOf}
 use Rattle.escapes.specs.declared.answers.Mode.{Mode}
 use Rattle.strings.specs.Pieces.{behindBackslash, lineEnd, pieceOf, simpleFront}
-use Rattle.strings.specs.declared.pieces.Decoded.the-variants.{Byte}
+use Rattle.strings.specs.declared.pieces.Decoded.the-variants.{Ascii}
 use Rattle.strings.specs.declared.pieces.Piece.the-variants.{Backslash}
 
 -- ---- which letters
@@ -62,7 +62,7 @@ module _ (s : List ℕ) (at : ℕ) where
 
 -- ---- the piece
 
-pub simple-piece : (m : Mode) (t : List ℕ) → simpleFront t ≡ true → Backslash 2 (Byte (simpleOf (getD t 1 0))) ≡ pieceOf m t
+pub simple-piece : (m : Mode) (t : List ℕ) → simpleFront t ≡ true → Backslash 2 (Ascii (simpleOf (getD t 1 0))) ≡ pieceOf m t
 unfolding simpleFront pieceOf behindBackslash lineEnd escapeOf simpleOf
 simple-piece m [] is = let y : _≡_ {A = ℕ} 0 1 = cc in absurd (omega arith)
 simple-piece m (a ∷ []) is =

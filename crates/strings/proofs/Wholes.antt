@@ -21,7 +21,7 @@ use Rattle.strings.specs.declared.literal.Literal.{Literal}
 use Rattle.strings.specs.declared.literal.LiteralAnswer.{LiteralAnswer}
 use Rattle.strings.specs.declared.literal.LiteralAnswer.the-variants.{Read}
 use Rattle.strings.specs.declared.pieces.Piece.{Piece}
-use Rattle.strings.specs.declared.pieces.Piece.the-variants.{Backslash, Plain, Quote, Spoilt}
+use Rattle.strings.specs.declared.pieces.Piece.the-variants.{Backslash, Plain, Quote, Refused}
 use Rattle.text.proofs.Choices.{or-left, or-right, and-true, bool-cases, cond-cases, either, lt-or-le}
 use Rattle.text.proofs.RunLaws.{run-le}
 use Rattle.text.specs.Runs.{run}
@@ -40,7 +40,7 @@ unfolding decodedLen
 whole-by m t Quote z rest = z
 whole-by m t (Plain n) z rest = (z .0, z .1, omega (arith, length-take-le n t (z .1)), λ e. refl, rest n (z .0) (z .1))
 whole-by m t (Backslash n d) z rest = (z .0, z .1, z .2, λ e. (let x : _≡_ {A = ℕ} 0 1 = cc in absurd (omega arith)), rest n (z .0) (z .1))
-whole-by m t (Spoilt r) z rest = z
+whole-by m t (Refused r) z rest = z
 
 whole-fuel : (m : Mode) (fuel : ℕ) (t : List ℕ) → length t ≤ fuel → Whole t (bodyOf m t)
 whole-fuel m zero [] h = subst (Whole []) (sym (body-end m [] refl)) tt

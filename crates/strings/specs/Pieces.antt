@@ -15,9 +15,11 @@ use Rattle.escapes.specs.declared.answers.EscapeAnswer.{EscapeAnswer}
 use Rattle.escapes.specs.declared.answers.EscapeAnswer.the-variants.{Ascii, Utf8, Refused}
 use Rattle.escapes.specs.Escapes.{escapeOf, simpleOf}
 use Rattle.strings.specs.declared.pieces.Decoded.{Decoded}
-use Rattle.strings.specs.declared.pieces.Decoded.the-variants.{Nothing, Byte, Point}
+use Rattle.strings.specs.declared.pieces.Decoded.the-variants.{Nothing}
+use Rattle.strings.specs.declared.pieces.Decoded.the-variants as decoded
 use Rattle.strings.specs.declared.pieces.Piece.{Piece}
-use Rattle.strings.specs.declared.pieces.Piece.the-variants.{Quote, Plain, Backslash, Spoilt}
+use Rattle.strings.specs.declared.pieces.Piece.the-variants.{Quote, Plain, Backslash}
+use Rattle.strings.specs.declared.pieces.Piece.the-variants as pieces
 
 -- ---- one piece
 
@@ -35,9 +37,9 @@ lineEnd s = eqb (getD s 0 0) 0x0A || (eqb (getD s 0 0) 0x0D && eqb (getD s 1 0) 
 
 -- An escape with its backslash.
 abbrev pub byEscape : EscapeAnswer → Piece
-byEscape (Ascii b n) = Backslash (n + 1) (Byte b)
-byEscape (Utf8 c n) = Backslash (n + 1) (Point c)
-byEscape (Refused r) = Spoilt (placedBehind 1 r)
+byEscape (Ascii b n) = Backslash (n + 1) (decoded.Ascii b)
+byEscape (Utf8 c n) = Backslash (n + 1) (decoded.Utf8 c)
+byEscape (Refused r) = pieces.Refused (placedBehind 1 r)
 
 -- From behind a backslash: a line continuation is LF or CRLF, then continuation whitespace, which LF and CR are themselves; else an escape stands there.
 unfoldable pub behindBackslash : Mode → List ℕ → Piece
@@ -56,8 +58,8 @@ simpleFront s = eqb (getD s 0 0) 0x5C && ltb (simpleOf (getD s 1 0)) 256
 -- The bytes that a piece with a backslash decodes to.
 abbrev pub bytesOf : Decoded → List ℕ
 bytesOf Nothing = []
-bytesOf (Byte b) = b ∷ []
-bytesOf (Point c) = encode c
+bytesOf (decoded.Ascii b) = b ∷ []
+bytesOf (decoded.Utf8 c) = encode c
 
 -- How many they are.
 unfoldable pub decodedLen : Decoded → ℕ
@@ -66,8 +68,8 @@ decodedLen d = length (bytesOf d)
 -- A code point can be encoded.
 abbrev pub writable : Decoded → Bool
 writable Nothing = true
-writable (Byte b) = true
-writable (Point c) = scalar c
+writable (decoded.Ascii b) = true
+writable (decoded.Utf8 c) = scalar c
 
 -- ---- piece by piece
 
@@ -83,7 +85,7 @@ abbrev pub byPiece : Piece → List ℕ → (ℕ → Body) → Body
 byPiece Quote s rest = closes
 byPiece (Plain n) s rest = next n (take n s) false (rest n)
 byPiece (Backslash n d) s rest = next n (bytesOf d) true (rest n)
-byPiece (Spoilt r) s rest = spoilt r
+byPiece (pieces.Refused r) s rest = spoilt r
 
 -- The body of s, where its first `left` bytes belong to a piece already.
 unfoldable pub bodyFrom : Mode → List ℕ → ℕ → Body

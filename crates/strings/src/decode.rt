@@ -34,10 +34,10 @@ fn put(d: Decoded, out: &mut [u8])
 {
     match d {
         Decoded::Nothing => {}
-        Decoded::Byte(b) => {
+        Decoded::Ascii(b) => {
             out[0] = b;
         }
-        Decoded::Point(c) => {
+        Decoded::Utf8(c) => {
             utf8::encode(c, out);
         }
     }
@@ -67,7 +67,7 @@ fn decode_body(m: Mode, s: &[u8], out: &mut [u8])
                 at += k;
                 n += decoded_len(d);
             }
-            Piece::Spoilt(_) => {
+            Piece::Refused(_) => {
                 return;
             }
         }

@@ -19,6 +19,7 @@ use text::Refusal;
 ghost use mathlib.Core.Path.{_≡_};
 ghost use Rattle.strings.specs.Strings.{stringOf, byteStringOf};
 
+// The string that the part begins with, quoted or raw.
 pub fn string(s: &[u8]) -> LiteralAnswer
     ensures { λ r. ⌜ r ≡ stringOf (now (s .entry)) ⌝ }
 {
@@ -34,7 +35,8 @@ pub fn string(s: &[u8]) -> LiteralAnswer
     LiteralAnswer::Refused(Refusal::expected_string(0))
 }
 
-pub fn byte_string(s: &[u8]) -> LiteralAnswer
+// The byte string that the part begins with, quoted or raw; after the crate's function of this name, which looks for no base64.
+pub fn byte_string_no_base64(s: &[u8]) -> LiteralAnswer
     ensures { λ r. ⌜ r ≡ byteStringOf (now (s .entry)) ⌝ }
 {
     if s.len() < 2 {

@@ -12,11 +12,13 @@ pub struct Literal {
     pub escaped: bool,
 }
 
+// A string that was read, or a refusal.
 pub enum LiteralAnswer {
     Read(Literal),
     Refused(Refusal),
 }
 
+// No closing quote.
 pub fn unclosed(place: usize) -> LiteralAnswer
     ensures { λ r. ⌜ r ≡ LiteralAnswer.Refused (expectedStringEnd place) ⌝ }
 {

@@ -16,8 +16,8 @@ ghost use Rattle.strings.specs.Pieces.{simpleFront, lineEnd, behindBacks
 // What a piece that begins with a backslash decodes to: a line continuation to nothing.
 pub enum Decoded {
     Nothing,
-    Byte(u8),
-    Point(u32),
+    Ascii(u8),
+    Utf8(u32),
 }
 
 // Each with its number of bytes.
@@ -25,7 +25,7 @@ pub enum Piece {
     Quote,
     Plain(usize),
     Backslash(usize, Decoded),
-    Spoilt(Refusal),
+    Refused(Refusal),
 }
 
 // The number of bytes that are decoded.
@@ -34,8 +34,8 @@ pub fn decoded_len(d: Decoded) -> usize
 {
     match d {
         Decoded::Nothing => 0,
-        Decoded::Byte(_) => 1,
-        Decoded::Point(c) => text::utf8::encoded_len(c),
+        Decoded::Ascii(_) => 1,
+        Decoded::Utf8(c) => text::utf8::encoded_len(c),
     }
 }
 
@@ -62,9 +62,9 @@ fn behind_backslash(m: Mode, s: &[u8]) -> Piece
         return Piece::Backslash(count_blanks(s) + 1, Decoded::Nothing);
     }
     match escapes::parse_escape(m, s) {
-        EscapeAnswer::Ascii(b, n) => Piece::Backslash(n + 1, Decoded::Byte(b)),
-        EscapeAnswer::Utf8(c, n) => Piece::Backslash(n + 1, Decoded::Point(c)),
-        EscapeAnswer::Refused(r) => Piece::Spoilt(placed_behind(r, 1)),
+        EscapeAnswer::Ascii(b, n) => Piece::Backslash(n + 1, Decoded::Ascii(b)),
+        EscapeAnswer::Utf8(c, n) => Piece::Backslash(n + 1, Decoded::Utf8(c)),
+        EscapeAnswer::Refused(r) => Piece::Refused(placed_behind(r, 1)),
     }
 }
 

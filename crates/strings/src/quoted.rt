@@ -55,7 +55,7 @@ fn body(m: Mode, s: &[u8], start: usize) -> LiteralAnswer
                 decoded += decoded_len(d);
                 escaped = true;
             }
-            Piece::Spoilt(r) => {
+            Piece::Refused(r) => {
                 return LiteralAnswer::Refused(placed_behind(r, at));
             }
         }

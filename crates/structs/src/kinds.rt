@@ -17,6 +17,7 @@ pub enum TupleMode {
     DifferentiateNewtype,
 }
 
+// The crate's six types of struct.
 pub enum StructType {
     AnyTuple,
     EmptyTuple,
@@ -26,6 +27,7 @@ pub enum StructType {
     Unit,
 }
 
+// The type, or why none is told.
 pub enum StructAnswer {
     Kind(StructType),
     Refused(Refusal),

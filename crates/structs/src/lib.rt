@@ -10,4 +10,5 @@ pub use kinds::NewtypeMode;
 pub use kinds::StructAnswer;
 pub use kinds::StructType;
 pub use kinds::TupleMode;
+pub use kinds::placed;
 pub use types::check_struct_type;

@@ -10,12 +10,13 @@ ghost use mathlib.Core.Path.{_≡_};
 ghost use lib.ListN.{length};
 ghost use Rattle.structs.specs.Passes.{Fits, FitsLiteral, behindLiteral, pastGap, pastChar, pastString, pastByteString};
 
-// A place that was reached.
+// A place that was reached, or the refusal on the way.
 pub enum Passed {
     To(usize),
     Refused(Refusal),
 }
 
+// Whitespace and comments.
 pub fn skip_ws(s: &[u8], from: Passed) -> Passed
     requires { ⌜ Fits (length (now s)) from ⌝ }
     ensures { λ r. ⌜ r ≡ pastGap (now (s .entry)) from ⌝ }
@@ -62,6 +63,7 @@ fn behind_literal(read: LiteralAnswer, none: u8, at: usize) -> Passed
     }
 }
 
+// A string, raw or not.
 pub fn skip_string(s: &[u8], from: Passed) -> Passed
     requires { ⌜ Fits (length (now s)) from ⌝ }
     ensures { λ r. ⌜ r ≡ pastString (now (s .entry)) from ⌝ }
@@ -69,9 +71,10 @@ pub fn skip_string(s: &[u8], from: Passed) -> Passed
     let Passed::To(at) = from else {
         return from;
     };
-    behind_literal(strings::string(&s[at..]), 16, at)
+    behind_literal(strings::string(&s[at..]), Refusal::EXPECTED_STRING, at)
 }
 
+// A byte string, raw or not.
 pub fn skip_byte_string(s: &[u8], from: Passed) -> Passed
     requires { ⌜ Fits (length (now s)) from ⌝ }
     ensures { λ r. ⌜ r ≡ pastByteString (now (s .entry)) from ⌝ }
@@ -79,5 +82,5 @@ pub fn skip_byte_string(s: &[u8], from: Passed) -> Passed
     let Passed::To(at) = from else {
         return from;
     };
-    behind_literal(strings::byte_string(&s[at..]), 18, at)
+    behind_literal(strings::byte_string_no_base64(&s[at..]), Refusal::EXPECTED_BYTE_STRING, at)
 }

@@ -56,6 +56,7 @@ fn skip_spurious(s: &[u8]) -> Passed
     skip_ws(s, bytes_passed)
 }
 
+// The next step: what holds no bracket that counts, and the byte behind it; 6 at the end of the text.
 pub fn next_step(s: &[u8]) -> Step
     ensures { λ r. ⌜ r ≡ stepOf (now (s .entry)) ⌝ }
 {

@@ -8,6 +8,7 @@ use crate::passes::Passed;
 use crate::passes::skip_ws;
 use crate::scan::behind_comma;
 use crate::scan::scan_value;
+use cursor::ParserCursor;
 use names::Identifier;
 use names::identifiers::skip_identifier;
 use text::bytes::peek;
@@ -52,6 +53,7 @@ fn behind_name(s: &[u8], at: usize, tuple: TupleMode) -> StructAnswer
     }
 }
 
+// What stands inside the brackets, from a place behind the whitespace in front.
 fn contents(s: &[u8], at: usize, tuple: TupleMode) -> StructAnswer
     requires { ⌜ at ≤ length (now s) ⌝ }
     ensures { λ r. ⌜ r ≡ insideBrackets tuple (now (s .entry)) at ⌝ }
@@ -64,12 +66,13 @@ fn contents(s: &[u8], at: usize, tuple: TupleMode) -> StructAnswer
     }
 }
 
-// s begins with `(`.
-fn in_parens(s: &[u8], tuple: TupleMode) -> StructAnswer
-    requires { ⌜ 1 ≤ length (now s) ⌝ }
+// Behind the `(` in front.
+fn in_parens(s: &[u8], cursor: ParserCursor, tuple: TupleMode) -> StructAnswer
+    requires { ⌜ (cursor .cursor ≡ 1) × (1 ≤ length (now s)) ⌝ }
     ensures { λ r. ⌜ r ≡ parenthesized tuple (now (s .entry)) ⌝ }
 {
-    let gap = skip_ws(s, Passed::To(1));
+    let at = cursor.cursor;
+    let gap = skip_ws(s, Passed::To(at));
     match gap {
         Passed::To(i) => {
             if peek(s, i) == b')' {
@@ -81,6 +84,7 @@ fn in_parens(s: &[u8], tuple: TupleMode) -> StructAnswer
     }
 }
 
+// Inside a bracket that was passed already.
 fn in_newtype(s: &[u8], tuple: TupleMode) -> StructAnswer
     ensures { λ r. ⌜ r ≡ insideNewtype tuple (now (s .entry)) ⌝ }
 {
@@ -91,13 +95,16 @@ fn in_newtype(s: &[u8], tuple: TupleMode) -> StructAnswer
     }
 }
 
+// The type of the struct at the front of a part, in both modes; without a bracket, where one has to stand, a unit struct.
 pub fn check_struct_type(s: &[u8], newtype: NewtypeMode, tuple: TupleMode) -> StructAnswer
     ensures { λ r. ⌜ r ≡ structTypeOf (now (s .entry)) newtype tuple ⌝ }
 {
     match newtype {
         NewtypeMode::NoParensMeanUnit => {
-            if peek(s, 0) == b'(' {
-                return in_parens(s, tuple);
+            let opened = ParserCursor::at(0).consume_char(s, b'(');
+            if opened.found {
+                let behind = opened.cursor;
+                return in_parens(s, behind, tuple);
             }
             StructAnswer::Kind(StructType::Unit)
         }

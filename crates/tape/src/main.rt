@@ -9,7 +9,8 @@ ghost use Rattle.tape.specs.Printed.{printedText};
 
 // The answer to a text, from the front of the output on: where it ends there.
 fn answer(text: &[u8], tape: &mut [u32], o: &mut [u8]) -> usize
-    ensures { λ r. ⌜ ((now (o .exit), r) ≡ put (now (o .entry), 0) (printedText (now (text .entry)) (now (tape .entry)))) × (now (tape .exit) ≡ readTape (now (text .entry)) (now (tape .entry))) ⌝ }
+    ensures { λ r. ⌜ ((now (o .exit), r) ≡ put (now (o .entry), 0) (printedText (now (text .entry)) (now (tape .entry))))
+        × (now (tape .exit) ≡ readTape (now (text .entry)) (now (tape .entry))) ⌝ }
 {
     let r = sarridok::read(text, tape);
     let a = show::reading::read(o, 0, r, &tape[..], b'\n');

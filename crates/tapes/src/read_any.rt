@@ -8,8 +8,11 @@ use words::hex::Hex;
 use words::number;
 use words::number::Decimal;
 
+// `bad` where the line is no case, else the entries or the refusal.
 pub fn answer(words: &[u8], text: &mut [u8], tape: &mut [u32], o: &mut [u8], at: usize) -> usize
-    ensures { λ r. ⌜ ((now (o .exit), r) ≡ put (now (o .entry), at) (anyLine (now (words .entry)) (now (text .entry)) (now (tape .entry)) .0)) × (now (text .exit) ≡ anyLine (now (words .entry)) (now (text .entry)) (now (tape .entry)) .1) × (now (tape .exit) ≡ anyLine (now (words .entry)) (now (text .entry)) (now (tape .entry)) .2) ⌝ }
+    ensures { λ r. ⌜ ((now (o .exit), r) ≡ put (now (o .entry), at) (anyLine (now (words .entry)) (now (text .entry)) (now (tape .entry)) .0))
+        × (now (text .exit) ≡ anyLine (now (words .entry)) (now (text .entry)) (now (tape .entry)) .1)
+        × (now (tape .exit) ≡ anyLine (now (words .entry)) (now (text .entry)) (now (tape .entry)) .2) ⌝ }
 {
     let first = number::decimal_of(words::word(words));
     let Decimal::Value(numbers) = first else {

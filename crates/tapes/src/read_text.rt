@@ -16,8 +16,11 @@ fn room(bytes: usize) -> usize
     262160
 }
 
+// `bad` where the line is no case, else the entries or the refusal.
 pub fn answer(words: &[u8], text: &mut [u8], tape: &mut [u32], o: &mut [u8], at: usize) -> usize
-    ensures { λ r. ⌜ ((now (o .exit), r) ≡ put (now (o .entry), at) (readLine (now (words .entry)) (now (text .entry)) (now (tape .entry)) .0)) × (now (text .exit) ≡ readLine (now (words .entry)) (now (text .entry)) (now (tape .entry)) .1) × (now (tape .exit) ≡ readLine (now (words .entry)) (now (text .entry)) (now (tape .entry)) .2) ⌝ }
+    ensures { λ r. ⌜ ((now (o .exit), r) ≡ put (now (o .entry), at) (readLine (now (words .entry)) (now (text .entry)) (now (tape .entry)) .0))
+        × (now (text .exit) ≡ readLine (now (words .entry)) (now (text .entry)) (now (tape .entry)) .1)
+        × (now (tape .exit) ≡ readLine (now (words .entry)) (now (text .entry)) (now (tape .entry)) .2) ⌝ }
 {
     let bytes = hex::bytes(words, text);
     let Hex::Bytes(n) = bytes else {

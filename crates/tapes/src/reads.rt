@@ -23,7 +23,8 @@ fn written(r: ReadAnswer) -> usize
 }
 
 fn read(text: &[u8], tape: &mut [u32], o: &mut [u8], at: usize) -> usize
-    ensures { λ r. ⌜ ((now (o .exit), r) ≡ put (now (o .entry), at) (readsText (now (text .entry)) (now (tape .entry)))) × (now (tape .exit) ≡ tapeAfter (now (text .entry)) (now (tape .entry))) ⌝ }
+    ensures { λ r. ⌜ ((now (o .exit), r) ≡ put (now (o .entry), at) (readsText (now (text .entry)) (now (tape .entry))))
+        × (now (tape .exit) ≡ tapeAfter (now (text .entry)) (now (tape .entry))) ⌝ }
 {
     numbers::mark(tape);
     let r = sarridok::read(text, tape);
@@ -34,7 +35,8 @@ fn read(text: &[u8], tape: &mut [u32], o: &mut [u8], at: usize) -> usize
 
 // The tape has so many numbers, or all that are there.
 pub fn answer(text: &[u8], room: usize, tape: &mut [u32], o: &mut [u8], at: usize) -> usize
-    ensures { λ r. ⌜ ((now (o .exit), r) ≡ put (now (o .entry), at) (readIn (now (text .entry)) room (now (tape .entry)) .0)) × (now (tape .exit) ≡ readIn (now (text .entry)) room (now (tape .entry)) .1) ⌝ }
+    ensures { λ r. ⌜ ((now (o .exit), r) ≡ put (now (o .entry), at) (readIn (now (text .entry)) room (now (tape .entry)) .0))
+        × (now (tape .exit) ≡ readIn (now (text .entry)) room (now (tape .entry)) .1) ⌝ }
 {
     if room < tape.len() {
         return read(text, &mut tape[0..room], o, at);

@@ -9,6 +9,7 @@ use words::list::Count;
 use words::number;
 use words::number::Decimal;
 
+// What is asked; or the line is no case.
 enum Said {
     Asks(Asked),
     Bad,
@@ -38,8 +39,11 @@ fn front(words: &[u8]) -> Said
     })
 }
 
+// `bad` where the line is no case, else the links or the refusal.
 pub fn answer(words: &[u8], tape: &mut [u32], links: &mut [u32], o: &mut [u8], at: usize) -> usize
-    ensures { λ r. ⌜ ((now (o .exit), r) ≡ put (now (o .entry), at) (anyLine (now (words .entry)) (now (tape .entry)) (now (links .entry)) .0)) × (now (tape .exit) ≡ anyLine (now (words .entry)) (now (tape .entry)) (now (links .entry)) .1) × (now (links .exit) ≡ anyLine (now (words .entry)) (now (tape .entry)) (now (links .entry)) .2) ⌝ }
+    ensures { λ r. ⌜ ((now (o .exit), r) ≡ put (now (o .entry), at) (anyLine (now (words .entry)) (now (tape .entry)) (now (links .entry)) .0))
+        × (now (tape .exit) ≡ anyLine (now (words .entry)) (now (tape .entry)) (now (links .entry)) .1)
+        × (now (links .exit) ≡ anyLine (now (words .entry)) (now (tape .entry)) (now (links .entry)) .2) ⌝ }
 {
     let asked = front(words);
     let Said::Asks(q) = asked else {

@@ -41,7 +41,9 @@ fn walked(
     o: &mut [u8],
     at: usize,
 ) -> usize
-    ensures { λ r. ⌜ ((now (o .exit), r) ≡ put (now (o .entry), at) (walkOfText (now (text .entry)) limit (now (tape .entry)) (now (links .entry)) .0)) × (now (tape .exit) ≡ readTape (now (text .entry)) (now (tape .entry))) × (now (links .exit) ≡ walkOfText (now (text .entry)) limit (now (tape .entry)) (now (links .entry)) .1) ⌝ }
+    ensures { λ r. ⌜ ((now (o .exit), r) ≡ put (now (o .entry), at) (walkOfText (now (text .entry)) limit (now (tape .entry)) (now (links .entry)) .0))
+        × (now (tape .exit) ≡ readTape (now (text .entry)) (now (tape .entry)))
+        × (now (links .exit) ≡ walkOfText (now (text .entry)) limit (now (tape .entry)) (now (links .entry)) .1) ⌝ }
 {
     let r = sarridok::read(text, tape);
     match r {
@@ -50,6 +52,7 @@ fn walked(
     }
 }
 
+// `bad` where the line is no case, else the links, or the refusal of the read or of the walk.
 pub fn answer(
     words: &[u8],
     text: &mut [u8],
@@ -58,7 +61,11 @@ pub fn answer(
     o: &mut [u8],
     at: usize,
 ) -> usize
-    ensures { λ r. ⌜ ((now (o .exit), r) ≡ put (now (o .entry), at) (walkLine (now (words .entry)) (now (text .entry)) (now (tape .entry)) (now (links .entry)) .0)) × (now (text .exit) ≡ walkLine (now (words .entry)) (now (text .entry)) (now (tape .entry)) (now (links .entry)) .1) × (now (tape .exit) ≡ walkLine (now (words .entry)) (now (text .entry)) (now (tape .entry)) (now (links .entry)) .2) × (now (links .exit) ≡ walkLine (now (words .entry)) (now (text .entry)) (now (tape .entry)) (now (links .entry)) .3) ⌝ }
+    ensures { λ r. ⌜ ((now (o .exit), r) ≡ put (now (o .entry), at)
+        (walkLine (now (words .entry)) (now (text .entry)) (now (tape .entry)) (now (links .entry)) .0))
+        × (now (text .exit) ≡ walkLine (now (words .entry)) (now (text .entry)) (now (tape .entry)) (now (links .entry)) .1)
+        × (now (tape .exit) ≡ walkLine (now (words .entry)) (now (text .entry)) (now (tape .entry)) (now (links .entry)) .2)
+        × (now (links .exit) ≡ walkLine (now (words .entry)) (now (text .entry)) (now (tape .entry)) (now (links .entry)) .3) ⌝ }
 {
     let first = number::decimal_of(words::word(words));
     let Decimal::Value(limit) = first else {

@@ -15,7 +15,8 @@ pub struct Asked {
 
 // A refused walk may change no link, an accepted one none behind the count.
 fn walked(tape: &[u32], q: Asked, links: &mut [u32], o: &mut [u8], at: usize) -> usize
-    ensures { λ r. ⌜ ((now (o .exit), r) ≡ put (now (o .entry), at) (walksText (now (tape .entry)) q (now (links .entry)))) × (now (links .exit) ≡ linksLeft (now (tape .entry)) q (now (links .entry))) ⌝ }
+    ensures { λ r. ⌜ ((now (o .exit), r) ≡ put (now (o .entry), at) (walksText (now (tape .entry)) q (now (links .entry))))
+        × (now (links .exit) ≡ linksLeft (now (tape .entry)) q (now (links .entry))) ⌝ }
 {
     numbers::mark(links);
     let answer = sarridok::walk(tape, q.count, q.limit, links);
@@ -33,7 +34,8 @@ fn walked(tape: &[u32], q: Asked, links: &mut [u32], o: &mut [u8], at: usize) ->
 
 // More links than there can be entries are no more than all that there are.
 pub fn answer(tape: &[u32], q: Asked, links: &mut [u32], o: &mut [u8], at: usize) -> usize
-    ensures { λ r. ⌜ ((now (o .exit), r) ≡ put (now (o .entry), at) (walkIn (now (tape .entry)) q (now (links .entry)) .0)) × (now (links .exit) ≡ walkIn (now (tape .entry)) q (now (links .entry)) .1) ⌝ }
+    ensures { λ r. ⌜ ((now (o .exit), r) ≡ put (now (o .entry), at) (walkIn (now (tape .entry)) q (now (links .entry)) .0))
+        × (now (links .exit) ≡ walkIn (now (tape .entry)) q (now (links .entry)) .1) ⌝ }
 {
     let room = q.room;
     if room < links.len() {

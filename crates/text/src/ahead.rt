@@ -23,6 +23,7 @@ fn is_wide_next(s: &[u8]) -> bool
     false
 }
 
+// An ASCII byte is told by itself.
 pub fn is_next_ahead(s: &[u8]) -> bool
     ensures { λ r. ⌜ r ≡ nextAhead (now (s .entry)) ⌝ }
 {

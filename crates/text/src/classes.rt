@@ -61,12 +61,14 @@ fn wide_blank_width(a: u8, b: u8, c: u8) -> usize
     0
 }
 
+// In base ten.
 pub fn is_digit(b: u8) -> bool
     ensures { λ r. ⌜ r ≡ digit b ⌝ }
 {
     is_within(b'0', b'9', b)
 }
 
+// What the run of a float is made of, whatever its form.
 pub fn is_float_char(b: u8) -> bool
     ensures { λ r. ⌜ r ≡ floatChar b ⌝ }
 {
@@ -113,6 +115,7 @@ fn is_letter(c: u32) -> bool
     is_between(0x61, 0x7a, c)
 }
 
+// A name's first character, up to U+007F.
 pub fn is_ascii_first(c: u32) -> bool
     ensures { λ r. ⌜ r ≡ asciiFirst c ⌝ }
 {
@@ -122,6 +125,7 @@ pub fn is_ascii_first(c: u32) -> bool
     c == 0x5f
 }
 
+// A name's next characters, up to U+007F.
 pub fn is_ascii_next(c: u32) -> bool
     ensures { λ r. ⌜ r ≡ asciiNext c ⌝ }
 {
@@ -134,6 +138,7 @@ pub fn is_ascii_next(c: u32) -> bool
     c == 0x5f
 }
 
+// A raw name's characters, up to U+007F.
 pub fn is_ascii_raw(c: u32) -> bool
     ensures { λ r. ⌜ r ≡ asciiRaw c ⌝ }
 {
@@ -182,6 +187,7 @@ pub fn is_ident_raw_char(t: &[u32; 3234], c: u32) -> bool
     is_xid_continue(t, c)
 }
 
+// What a backslash at a line's end passes over.
 pub fn is_string_continuation_whitespace(b: u8) -> bool
     ensures { λ r. ⌜ r ≡ continuationBlank b ⌝ }
 {

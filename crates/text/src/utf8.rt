@@ -140,6 +140,7 @@ pub fn code_point(s: &[u8]) -> u32
     code(peek(s, 0), peek(s, 1), peek(s, 2), peek(s, 3))
 }
 
+// A code point, and no surrogate.
 pub fn is_scalar(c: u32) -> bool
     ensures { λ r. ⌜ r ≡ scalar c ⌝ }
 {
@@ -152,6 +153,7 @@ pub fn is_scalar(c: u32) -> bool
     false
 }
 
+// How many bytes a scalar value is encoded in.
 pub fn encoded_len(c: u32) -> usize
     ensures { λ r. ⌜ r ≡ encodedLen c ⌝ }
 {

@@ -21,9 +21,11 @@ use Rattle.attributes.specs.declared.AttributeAnswer.the-variants.{Read, Refuse
 use Rattle.attributes.specs.declared.list.Listed.{Listed}
 use Rattle.attributes.specs.declared.list.Listed.the-variants as listed
 use Rattle.attributes.specs.declared.steps.All.{All}
-use Rattle.attributes.specs.declared.steps.All.the-variants.{At, Failed}
+use Rattle.attributes.specs.declared.steps.All.the-variants.{At}
+use Rattle.attributes.specs.declared.steps.All.the-variants as consumed
 use Rattle.attributes.specs.declared.steps.Step.{Step}
-use Rattle.attributes.specs.declared.steps.Step.the-variants.{On, Bad}
+use Rattle.attributes.specs.declared.steps.Step.the-variants.{On}
+use Rattle.attributes.specs.declared.steps.Step.the-variants as step
 use Rattle.attributes.specs.declared.words.Keyword.{Keyword}
 use Rattle.attributes.specs.declared.words.Keyword.the-variants.{Enable, Text, NoKeyword}
 use Rattle.strings.specs.Strings.{stringOf}
@@ -40,7 +42,7 @@ module _ (s : List ℕ) where
 
   after-step : (r : Step) (go : ℕ → AttributeAnswer) → ((p : ℕ) → Ended (go p)) → Ended (answerAt r go)
   after-step (On p) go f = f p
-  after-step (Bad r) go f = tt
+  after-step (step.Refused r) go f = tt
 
   no-end : (at : ℕ) → Ended (noEnd s at)
   unfolding noEnd
@@ -55,7 +57,7 @@ module _ (s : List ℕ) where
 
   by-bracket : (sum : ℕ) (r : All) → Ended (byBracket s sum r)
   by-bracket sum (At all at) = list-end all at sum
-  by-bracket sum (Failed r) = tt
+  by-bracket sum (consumed.Refused r) = tt
 
   close-list : (at sum : ℕ) → Ended (closeList s at sum)
   unfolding closeList
@@ -63,7 +65,7 @@ module _ (s : List ℕ) where
 
   by-listed : (r : Listed) → Ended (byListed s r)
   by-listed (listed.Ended at sum) = close-list at sum
-  by-listed (listed.Unlisted r) = tt
+  by-listed (listed.Refused r) = tt
 
   string-end : (at : ℕ) → Ended (stringEnd s at)
   unfolding stringEnd
@@ -86,7 +88,7 @@ module _ (s : List ℕ) where
   by-opened : (r : All) → Ended (byOpened s r)
   unfolding keywordFrom
   by-opened (At all at) = cond-cases Ended all _ (Refused (expectedAttribute 0)) (λ e. by-keyword (keywordAt s at)) (λ e. tt)
-  by-opened (Failed r) = tt
+  by-opened (consumed.Refused r) = tt
 
   attribute-ended : Ended (attributeOf s)
   unfolding attributeOf

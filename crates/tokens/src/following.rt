@@ -14,6 +14,7 @@ ghost use Rattle.tokens.specs.Token.{tokenOf};
 ghost use Rattle.tokens.specs.Lexemes.{lexemeOf};
 ghost use Rattle.tokens.specs.Ron.{lexemeBehind, answerOf, ronToken};
 
+// What stands next in a text.
 pub enum Following {
     // How many bytes stand in front of it, and the lexeme.
     Token(usize, Lexeme),
@@ -33,6 +34,7 @@ fn behind_gap(s: &[u8], g: usize) -> Following
     }
 }
 
+// A line comment that is not closed ends the text as its end does.
 pub fn next_token(s: &[u8]) -> Following
     ensures { λ r. ⌜ answerOf r ≡ ronToken (now (s .entry)) ⌝ }
 {

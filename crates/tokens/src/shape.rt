@@ -1,7 +1,9 @@
 // What a token is read as, told from its first three bytes.
+use rows::kinds;
 ghost use mathlib.Core.Path.{_≡_};
 ghost use Rattle.tokens.specs.Shapes.{markKind, startsNumber, behindB, behindR, shapeOf};
 
+// One for each reader of tokens.
 pub enum Shape {
     // One of the eight marks, by its kind.
     Mark(u32),
@@ -19,28 +21,28 @@ pub fn mark_kind(a: u8) -> u32
     ensures { λ r. ⌜ r ≡ markKind a ⌝ }
 {
     if a == b'(' {
-        return 1;
+        return kinds::OPEN_PAREN;
     }
     if a == b')' {
-        return 2;
+        return kinds::CLOSE_PAREN;
     }
     if a == b'[' {
-        return 3;
+        return kinds::OPEN_BRACKET;
     }
     if a == b']' {
-        return 4;
+        return kinds::CLOSE_BRACKET;
     }
     if a == b'{' {
-        return 5;
+        return kinds::OPEN_BRACE;
     }
     if a == b'}' {
-        return 6;
+        return kinds::CLOSE_BRACE;
     }
     if a == b',' {
-        return 7;
+        return kinds::COMMA;
     }
     if a == b':' {
-        return 8;
+        return kinds::COLON;
     }
     0
 }

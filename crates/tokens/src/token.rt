@@ -23,6 +23,7 @@ ghost use Rattle.strings.specs.Chars.{charOf, byteOf};
 ghost use Rattle.strings.specs.Strings.{stringOf, byteStringOf};
 ghost use Rattle.tokens.specs.Token.{ofWord, ofChar, ofByte, ofString, ofByteString, ofAttribute, tokenOf};
 
+// What a reader found, with its length; a refusal's place is counted from the token's front.
 pub enum Token {
     // One of the eight marks, by its kind.
     Mark(u32),
@@ -89,7 +90,7 @@ fn read_string(s: &[u8]) -> Token
 fn read_byte_string(s: &[u8]) -> Token
     ensures { λ r. ⌜ r ≡ ofByteString (byteStringOf (now (s .entry))) ⌝ }
 {
-    let found = strings::byte_string(s);
+    let found = strings::byte_string_no_base64(s);
     match found {
         LiteralAnswer::Read(l) => Token::ByteStr(l.len, l.decoded),
         LiteralAnswer::Refused(refusal) => Token::Refused(refusal),

@@ -13,7 +13,8 @@ ghost use Rattle.grammar.specs.declared.ends.Verdict.the-variants.{Accepted};
 
 // The entry numbers of the open brackets lie in `open`, `depth` of them; an accepted walk has no more than 128.
 pub fn join(tape: &[u32], count: usize, links: &mut [u32])
-    requires { ⌜ (count ≤ roomOf (length (now tape))) × (count ≤ length (now links)) × (count ≤ 65536) × (walkOf (kindsOf (entriesOf count (now tape))) 128 ≡ Accepted) ⌝ }
+    requires { ⌜ (count ≤ roomOf (length (now tape))) × (count ≤ length (now links)) × (count ≤ 65536)
+        × (walkOf (kindsOf (entriesOf count (now tape))) 128 ≡ Accepted) ⌝ }
     ensures { λ r. ⌜ now (links .exit) ≡ linkedOf (kindsOf (entriesOf count (now (tape .entry)))) (now (links .entry)) ⌝ }
 {
     let mut open = [0usize; 128];

@@ -5,6 +5,7 @@ ghost use Rattle.lines.specs.Over.{over};
 ghost use Rattle.words.specs.Digit.{nibbleOf};
 ghost use Rattle.words.specs.Hex.{pairOf, pairs as Hex·pairs, pairsIn, hexIn};
 
+// How many bytes were stored; or the word is none of hex, or too long for the buffer.
 pub enum Hex {
     Bytes(usize),
     Bad,

@@ -6,6 +6,7 @@ ghost use Rattle.words.specs.Numbers.{numbersOf, itemsIn, numbersIn};
 use crate::small;
 use crate::small::Small;
 
+// How many numbers were stored; or the word is no list, or too long for the tape.
 pub enum Count {
     Stored(usize),
     Bad,

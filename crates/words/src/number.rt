@@ -3,6 +3,7 @@ ghost use mathlib.Core.Path.{_≡_};
 ghost use mathlib.Core.List.{[], _∷_};
 ghost use Rattle.words.specs.Number.{decimalFrom, decimalOf};
 
+// A number below 2^64; or the word is none.
 pub enum Decimal {
     Value(u64),
     Bad,

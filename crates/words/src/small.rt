@@ -4,6 +4,7 @@ ghost use Rattle.words.specs.Small.{smallOf};
 use crate::number;
 use crate::number::Decimal;
 
+// A number below 2^32; or the word is none.
 pub enum Small {
     Value(u32),
     Bad,

@@ -9,13 +9,13 @@ use Rattle.escapes.specs.declared.answers.EscapeAnswer.the-variants as escape
 use Rattle.escapes.specs.Escapes.{escapeOf}
 use Rattle.cursor.specs.declared.ParserCursor.{ParserCursor}
 use Rattle.cursor.specs.declared.escape.Escaped.{Escaped}
-use Rattle.cursor.specs.declared.escape.Escaped.the-variants.{Byte, Point, Refused}
+use Rattle.cursor.specs.declared.escape.Escaped.the-variants.{Ascii, Utf8, Refused}
 use Rattle.cursor.specs.Cursor.{movedBy}
 
 -- The cursor behind an escape that was read over the part in front of it.
 abbrev pub behindEscape : ParserCursor → EscapeAnswer → Escaped
-behindEscape c (escape.Ascii b n) = Byte b (movedBy n c)
-behindEscape c (escape.Utf8 p n) = Point p (movedBy n c)
+behindEscape c (escape.Ascii b n) = Ascii b (movedBy n c)
+behindEscape c (escape.Utf8 p n) = Utf8 p (movedBy n c)
 behindEscape c (escape.Refused r) = Refused (placedBehind (c .cursor) r)
 
 -- The escape at the cursor, which stands behind the `\`.

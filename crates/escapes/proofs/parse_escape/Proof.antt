@@ -3,10 +3,9 @@ use native.Mathlib.Omega.{arith}
 use mathlib.Core.Path.{_∙_, ap, sym}
 use lib.ListN.{getD}
 use borrow.Author.Needs.{needs}
-use borrow.Author.Tests.{eq-eqb, le-ltb, lt-ltb, ne-eqb}
-use Rattle.escapes.proofs.EscapeLaws.{escape-at, escape-end}
+use borrow.Author.Tests.{eq-eqb, ne-eqb}
+use Rattle.escapes.proofs.EscapeLaws.{escape-at, escape-end, letter-small, letter-value, no-letter}
 use Rattle.escapes.proofs.parse_escape.Statement.{statement}
-use Rattle.escapes.specs.Escapes.{simpleOf}
 use Rattle.escapes.specs.declared.answers.EscapeAnswer.the-variants.{Ascii, Refused}
 use Rattle.text.proofs.Lists.{tail-part}
 use Rattle.text.specs.Refusals.{invalidEscape}
@@ -24,11 +23,14 @@ shared-slice-read-b c = search needs
 simple-requires : tie.Need-simple-requires
 simple-requires c κs = search needs
 
-cast-t9 : tie.Need-cast-t9
-cast-t9 c = search needs
+enum-known-letter : tie.Need-enum-known-letter
+enum-known-letter c = search needs
 
 returns-2 : tie.Need-returns-2
-returns-2 c = sym (escape-at (c .before .before .before .before .before .args .m) (c .before .before .before .before .before .args .s .now) (omega arith) ∙ simp (lt-ltb (simpleOf (getD (c .before .before .before .before .before .args .s .now) 0 0)) 256 (omega (arith, c .before .simple .ensures, c .if2 .taken))) (ap (λ (k : ℕ). Ascii k 1) (sym (c .before .simple .ensures))))
+returns-2 c = sym (escape-at (c .before .before .before .before .before .before .before .args .m) (c .before .before .before .before .before .before .before .args .s .now) (omega arith) ∙ simp (letter-small (getD (c .before .before .before .before .before .before .before .args .s .now) 0 0) _ (sym (c .before .before .before .simple .ensures) ∙ c .before .letter .given .1)) (ap (λ (k : ℕ). Ascii k 1) (sym (letter-value (getD (c .before .before .before .before .before .before .before .args .s .now) 0 0) _ (sym (c .before .before .before .simple .ensures) ∙ c .before .letter .given .1)))))
+
+enum-told : tie.Need-enum-told
+enum-told c = search needs
 
 sub-hex-escape : tie.Need-sub-hex-escape
 sub-hex-escape c = search needs
@@ -43,7 +45,7 @@ hex-escape-requires : tie.Need-hex-escape-requires
 hex-escape-requires c κs = search needs
 
 returns-3 : tie.Need-returns-3
-returns-3 c = (simp tail-part at (c .hex-escape .ensures)) ∙ sym (escape-at (c .before .before .before .before .before .before .before .before .args .m) (c .before .before .before .before .before .before .before .before .args .s .now) (omega arith) ∙ simp (le-ltb (simpleOf (getD (c .before .before .before .before .before .before .before .before .args .s .now) 0 0)) 256 (omega (arith, c .before .before .before .before .simple .ensures, c .before .before .before .if2 .left)), eq-eqb (getD (c .before .before .before .before .before .before .before .before .args .s .now) 0 0) 0x78 (c .before .before .if3 .taken)))
+returns-3 c = (simp tail-part at (c .hex-escape .ensures)) ∙ sym (escape-at (c .before .before .before .before .before .before .before .before .before .args .m) (c .before .before .before .before .before .before .before .before .before .args .s .now) (omega arith) ∙ simp (no-letter (getD (c .before .before .before .before .before .before .before .before .before .args .s .now) 0 0) (sym (c .before .before .before .before .before .simple .ensures) ∙ c .before .before .before .enum-told .given .1), eq-eqb (getD (c .before .before .before .before .before .before .before .before .before .args .s .now) 0 0) 0x78 (c .before .before .if2 .taken)))
 
 sub-unicode-escape : tie.Need-sub-unicode-escape
 sub-unicode-escape c = search needs
@@ -58,7 +60,7 @@ unicode-escape-requires : tie.Need-unicode-escape-requires
 unicode-escape-requires c κs = search needs
 
 returns-4 : tie.Need-returns-4
-returns-4 c = (simp tail-part at (c .unicode-escape .ensures)) ∙ sym (escape-at (c .before .before .before .before .before .before .before .before .before .args .m) (c .before .before .before .before .before .before .before .before .before .args .s .now) (omega arith) ∙ simp (le-ltb (simpleOf (getD (c .before .before .before .before .before .before .before .before .before .args .s .now) 0 0)) 256 (omega (arith, c .before .before .before .before .before .simple .ensures, c .before .before .before .before .if2 .left)), ne-eqb (getD (c .before .before .before .before .before .before .before .before .before .args .s .now) 0 0) 0x78 (c .before .before .before .if3 .left), eq-eqb (getD (c .before .before .before .before .before .before .before .before .before .args .s .now) 0 0) 0x75 (c .before .before .if4 .taken)))
+returns-4 c = (simp tail-part at (c .unicode-escape .ensures)) ∙ sym (escape-at (c .before .before .before .before .before .before .before .before .before .before .args .m) (c .before .before .before .before .before .before .before .before .before .before .args .s .now) (omega arith) ∙ simp (no-letter (getD (c .before .before .before .before .before .before .before .before .before .before .args .s .now) 0 0) (sym (c .before .before .before .before .before .before .simple .ensures) ∙ c .before .before .before .before .enum-told .given .1), ne-eqb (getD (c .before .before .before .before .before .before .before .before .before .before .args .s .now) 0 0) 0x78 (c .before .before .before .if2 .left), eq-eqb (getD (c .before .before .before .before .before .before .before .before .before .before .args .s .now) 0 0) 0x75 (c .before .before .if3 .taken)))
 
 char-len-requires : tie.Need-char-len-requires
 char-len-requires c κs = search needs
@@ -67,7 +69,7 @@ invalid-requires : tie.Need-invalid-requires
 invalid-requires c κs = search needs
 
 returns-5 : tie.Need-returns-5
-returns-5 c = c .invalid .ensures ∙ ap (λ (k : ℕ). Refused (invalidEscape k)) (c .before .char-len .ensures) ∙ sym (escape-at (c .before .before .before .before .before .before .before .before .before .args .m) (c .before .before .before .before .before .before .before .before .before .args .s .now) (omega arith) ∙ simp (le-ltb (simpleOf (getD (c .before .before .before .before .before .before .before .before .before .args .s .now) 0 0)) 256 (omega (arith, c .before .before .before .before .before .simple .ensures, c .before .before .before .before .if2 .left)), ne-eqb (getD (c .before .before .before .before .before .before .before .before .before .args .s .now) 0 0) 0x78 (c .before .before .before .if3 .left), ne-eqb (getD (c .before .before .before .before .before .before .before .before .before .args .s .now) 0 0) 0x75 (c .before .before .if4 .left)))
+returns-5 c = c .invalid .ensures ∙ ap (λ (k : ℕ). Refused (invalidEscape k)) (c .before .char-len .ensures) ∙ sym (escape-at (c .before .before .before .before .before .before .before .before .before .before .args .m) (c .before .before .before .before .before .before .before .before .before .before .args .s .now) (omega arith) ∙ simp (no-letter (getD (c .before .before .before .before .before .before .before .before .before .before .args .s .now) 0 0) (sym (c .before .before .before .before .before .before .simple .ensures) ∙ c .before .before .before .before .enum-told .given .1), ne-eqb (getD (c .before .before .before .before .before .before .before .before .before .before .args .s .now) 0 0) 0x78 (c .before .before .before .if2 .left), ne-eqb (getD (c .before .before .before .before .before .before .before .before .before .before .args .s .now) 0 0) 0x75 (c .before .before .if3 .left)))
 
 pub parse-escape-spec : {M : Type 1} → statement M
 parse-escape-spec =
@@ -77,8 +79,9 @@ parse-escape-spec =
     returns
     shared-slice-read-b
     simple-requires
-    cast-t9
+    enum-known-letter
     returns-2
+    enum-told
     sub-hex-escape
     part-hex-escape-start
     part-hex-escape-end

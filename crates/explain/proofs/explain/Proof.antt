@@ -22,6 +22,9 @@ walked-requires c κs = room-after (c .before .before .before .before .before .b
 enum-known-r-2 : tie.Need-enum-known-r-2
 enum-known-r-2 c = search needs
 
+read-begun-requires : tie.Need-read-begun-requires
+read-begun-requires c κs = search needs
+
 refused-requires : tie.Need-refused-requires
 refused-requires c κs = search needs
 
@@ -53,13 +56,13 @@ same-length-5 c = search needs
 
 returns-2 : tie.Need-returns-2
 returns-2 c =
-    let s : List ℕ = c .before .before .before .before .before .before .before .before .before .before .before .before .before .before .before .args .s .now in
-    let t : List ℕ = c .before .before .before .before .before .before .before .before .before .before .before .before .before .before .before .args .tape .now in
-    let links : List ℕ = c .before .before .before .before .before .before .before .before .before .before .before .before .before .before .before .args .links .now in
+    let s : List ℕ = c .before .before .before .before .before .before .before .before .before .before .before .before .before .before .before .before .args .s .now in
+    let t : List ℕ = c .before .before .before .before .before .before .before .before .before .before .before .before .before .before .before .before .args .tape .now in
+    let links : List ℕ = c .before .before .before .before .before .before .before .before .before .before .before .before .before .before .before .before .args .links .now in
     let answer : Told ℕ = readAnswer s (length t) in
-    let out : List ℕ × ℕ = (c .before .before .before .before .before .before .before .before .before .before .before .before .before .before .before .args .o .now, 0) in (
-      explained-refused s t _ (c .before .before .before .before .before .before .before .before .before .read .result) (c .before .before .before .before .before .before .before .before .before .read .ensures .0) (c .before .before .before .before .before .before .before .before .before .read .ensures .1) out _ (length links) (c .before .before .before .before .before .r2 .given .0 .0) (c .before .before .before .before .before .r2 .given .1) (c .before .before .refused .ensures),
-      (c .before .before .before .before .before .before .before .before .before .read .ensures .1, links-refused _ links _ answer (c .before .before .before .before .before .before .before .before .before .read .result) (c .before .before .before .before .before .before .before .before .before .read .ensures .0) (c .before .before .before .before .before .r2 .given .0 .0) (c .before .before .before .before .before .r2 .given .1) refl),
+    let out : List ℕ × ℕ = (c .before .before .before .before .before .before .before .before .before .before .before .before .before .before .before .before .args .o .now, 0) in (
+      explained-refused s t _ (c .before .before .before .before .before .before .before .before .before .before .read .result) (c .before .before .before .before .before .before .before .before .before .before .read .ensures .0) (c .before .before .before .before .before .before .before .before .before .before .read .ensures .1) out _ (length links) (c .before .before .before .before .before .before .r2 .given .0 .0) (c .before .before .before .before .before .before .r2 .given .1) (c .before .before .before .read-begun .result) (c .before .before .before .read-begun .ensures) (c .before .before .refused .ensures),
+      (c .before .before .before .before .before .before .before .before .before .before .read .ensures .1, links-refused _ links _ answer (c .before .before .before .before .before .before .before .before .before .before .read .result) (c .before .before .before .before .before .before .before .before .before .before .read .ensures .0) (c .before .before .before .before .before .before .r2 .given .0 .0) (c .before .before .before .before .before .before .r2 .given .1) refl),
     )
 
 pub explain-spec : {M : Type 1} → statement M
@@ -70,6 +73,7 @@ explain-spec =
     enum-known-r
     walked-requires
     enum-known-r-2
+    read-begun-requires
     refused-requires
     same-length
     same-length-2

@@ -26,6 +26,9 @@ enum-known-r c = search needs
 walk-place-requires : tie.Need-walk-place-requires
 walk-place-requires c κs = search needs
 
+walk-begun-requires : tie.Need-walk-begun-requires
+walk-begun-requires c κs = search needs
+
 refused-requires : tie.Need-refused-requires
 refused-requires c κs = search needs
 
@@ -54,13 +57,13 @@ same-length-4 c = search needs
 
 returns-2 : tie.Need-returns-2
 returns-2 c =
-    let s : List ℕ = c .before .before .before .before .before .before .before .before .before .before .before .before .before .before .before .before .args .s .now in
-    let t : List ℕ = c .before .before .before .before .before .before .before .before .before .before .before .before .before .before .before .before .args .tape .now in
-    let n : ℕ = c .before .before .before .before .before .before .before .before .before .before .before .before .before .before .before .before .args .count in
-    let answer : Told Unit = walkOf t n 128 (length (c .before .before .before .before .before .before .before .before .before .before .before .before .before .before .before .before .args .links .now)) in
-    let out : List ℕ × ℕ = (c .before .before .before .before .before .before .before .before .before .before .before .before .before .before .before .before .args .o .now, 0) in (
-      walked-refused s t n answer (c .before .before .before .before .before .before .before .before .before .before .walk .result) (c .before .before .before .before .before .before .before .before .before .before .walk .ensures .0) out _ (c .before .before .before .before .before .before .r .given .0 .0) (c .before .before .before .before .before .before .r .given .1) (c .before .before .before .walk-place .result) (c .before .before .before .walk-place .ensures) (c .before .before .refused .ensures),
-      c .before .before .before .before .before .before .before .before .before .before .walk .ensures .1,
+    let s : List ℕ = c .before .before .before .before .before .before .before .before .before .before .before .before .before .before .before .before .before .args .s .now in
+    let t : List ℕ = c .before .before .before .before .before .before .before .before .before .before .before .before .before .before .before .before .before .args .tape .now in
+    let n : ℕ = c .before .before .before .before .before .before .before .before .before .before .before .before .before .before .before .before .before .args .count in
+    let answer : Told Unit = walkOf t n 128 (length (c .before .before .before .before .before .before .before .before .before .before .before .before .before .before .before .before .before .args .links .now)) in
+    let out : List ℕ × ℕ = (c .before .before .before .before .before .before .before .before .before .before .before .before .before .before .before .before .before .args .o .now, 0) in (
+      walked-refused s t n answer (c .before .before .before .before .before .before .before .before .before .before .before .walk .result) (c .before .before .before .before .before .before .before .before .before .before .before .walk .ensures .0) out _ (c .before .before .before .before .before .before .before .r .given .0 .0) (c .before .before .before .before .before .before .before .r .given .1) (c .before .before .before .before .before .walk-place .result) (c .before .before .before .before .walk-begun .result) (c .before .before .before .before .before .walk-place .ensures) (c .before .before .before .before .walk-begun .ensures) (c .before .before .refused .ensures),
+      c .before .before .before .before .before .before .before .before .before .before .before .walk .ensures .1,
     )
 
 pub walked-spec : {M : Type 1} → statement M
@@ -73,6 +76,7 @@ walked-spec =
     accepted-requires
     enum-known-r
     walk-place-requires
+    walk-begun-requires
     refused-requires
     same-length
     same-length-2

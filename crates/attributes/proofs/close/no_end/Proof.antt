@@ -3,7 +3,8 @@ use borrow.Author.Needs.{needs}
 use Rattle.attributes.proofs.StepLaws.{no-end-by}
 use Rattle.attributes.proofs.close.no_end.Statement.{statement}
 use Rattle.attributes.specs.declared.AttributeAnswer.the-variants.{Refused}
-use Rattle.attributes.specs.declared.steps.Step.the-variants.{Bad, On}
+use Rattle.attributes.specs.declared.steps.Step.the-variants.{On}
+use Rattle.attributes.specs.declared.steps.Step.the-variants as step
 use Rattle.attributes.proofs.close.no_end.Tie as tie
 
 skip-ws-requires : tie.Need-skip-ws-requires
@@ -22,7 +23,7 @@ returns : tie.Need-returns
 returns c = ap Refused (c .expected-attribute-end .ensures) ∙ no-end-by (c .before .before .before .before .before .args .s .now) (c .before .before .before .before .before .args .at) (On _) (sym (c .before .enum-told .given .1) ∙ c .before .before .before .skip-ws .ensures)
 
 returns-2 : tie.Need-returns-2
-returns-2 c = no-end-by (c .before .before .before .before .before .args .s .now) (c .before .before .before .before .before .args .at) (Bad _) (sym (c .before .behind .given .1) ∙ c .before .before .before .skip-ws .ensures)
+returns-2 c = no-end-by (c .before .before .before .before .before .args .s .now) (c .before .before .before .before .before .args .at) (step.Refused _) (sym (c .before .behind .given .1) ∙ c .before .before .before .skip-ws .ensures)
 
 pub no-end-spec : {M : Type 1} → statement M
 no-end-spec =

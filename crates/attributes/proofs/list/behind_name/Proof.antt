@@ -4,7 +4,7 @@ use borrow.Author.Needs.{needs}
 use Rattle.attributes.proofs.ListLaws.{comma-by}
 use Rattle.attributes.proofs.list.behind_name.Statement.{statement}
 use Rattle.attributes.specs.Steps.{allAt, consumeOf}
-use Rattle.attributes.specs.declared.steps.All.the-variants.{At, Failed}
+use Rattle.attributes.specs.declared.steps.All.the-variants.{At, Refused}
 use Rattle.attributes.proofs.list.behind_name.Tie as tie
 
 skip-ws-requires : tie.Need-skip-ws-requires
@@ -29,7 +29,7 @@ returns : tie.Need-returns
 returns c = c .item-end .ensures ∙ comma-by (c .before .before .before .before .before .before .before .before .args .t .now) (c .before .before .before .before .before .before .before .before .args .e) (c .before .before .before .before .before .before .before .before .args .n) (At _ _) (sym (c .before .before .comma .given .1) ∙ c .before .before .before .before .consume .ensures ∙ ap (consumeOf 0x2c (c .before .before .before .before .before .before .before .before .args .t .now)) (c .before .before .before .before .before .all-at .ensures ∙ ap (allAt true) (c .before .before .before .before .before .before .skip-ws .ensures)))
 
 returns-2 : tie.Need-returns-2
-returns-2 c = comma-by (c .before .before .before .before .before .before .before .args .t .now) (c .before .before .before .before .before .before .before .args .e) (c .before .before .before .before .before .before .before .args .n) (Failed _) (sym (c .before .comma2 .given .1) ∙ c .before .before .before .consume .ensures ∙ ap (consumeOf 0x2c (c .before .before .before .before .before .before .before .args .t .now)) (c .before .before .before .before .all-at .ensures ∙ ap (allAt true) (c .before .before .before .before .before .skip-ws .ensures)))
+returns-2 c = comma-by (c .before .before .before .before .before .before .before .args .t .now) (c .before .before .before .before .before .before .before .args .e) (c .before .before .before .before .before .before .before .args .n) (Refused _) (sym (c .before .comma2 .given .1) ∙ c .before .before .before .consume .ensures ∙ ap (consumeOf 0x2c (c .before .before .before .before .before .before .before .args .t .now)) (c .before .before .before .before .all-at .ensures ∙ ap (allAt true) (c .before .before .before .before .before .skip-ws .ensures)))
 
 pub behind-name-spec : {M : Type 1} → statement M
 behind-name-spec =

@@ -11,8 +11,10 @@ use Rattle.attributes.proofs.list.extension_list.Statement.{statement}
 use Rattle.attributes.specs.Extensions.{addedTo, extensions}
 use Rattle.attributes.specs.List.{byItem, itemOf, listFrom, listOf}
 use Rattle.attributes.specs.declared.list.Item.{Item}
-use Rattle.attributes.specs.declared.list.Item.the-variants.{Last, More, NoComma, NoName, Spoilt}
-use Rattle.attributes.specs.declared.list.Listed.the-variants.{Ended, Unlisted}
+use Rattle.attributes.specs.declared.list.Item.the-variants.{Last, More, NoComma, NoName}
+use Rattle.attributes.specs.declared.list.Item.the-variants as items
+use Rattle.attributes.specs.declared.list.Listed.the-variants.{Ended}
+use Rattle.attributes.specs.declared.list.Listed.the-variants as listing
 use Rattle.text.proofs.Lists.{tail-part}
 use Rattle.attributes.proofs.list.extension_list.Tie as tie
 
@@ -94,7 +96,7 @@ no-such-extension-requires : tie.Need-no-such-extension-requires Inv-loop μ-loo
 no-such-extension-requires c κs = search needs
 
 returns-2 : tie.Need-returns-2 Inv-loop μ-loop
-returns-2 c = ap Unlisted (c .no-such-extension .ensures) ∙ ends (c .before .before .before) NoName (c .before .enum-told .given .1)
+returns-2 c = ap listing.Refused (c .no-such-extension .ensures) ∙ ends (c .before .before .before) NoName (c .before .enum-told .given .1)
 
 enum-told-2 : tie.Need-enum-told-2 Inv-loop μ-loop
 enum-told-2 c = search needs
@@ -103,22 +105,22 @@ expected-attribute-end-requires : tie.Need-expected-attribute-end-requires Inv-l
 expected-attribute-end-requires c κs = search needs
 
 returns-3 : tie.Need-returns-3 Inv-loop μ-loop
-returns-3 c = ap Unlisted (c .expected-attribute-end .ensures) ∙ ends (c .before .before .before) NoComma (c .before .enum-told2 .given .1)
+returns-3 c = ap listing.Refused (c .expected-attribute-end .ensures) ∙ ends (c .before .before .before) NoComma (c .before .enum-told2 .given .1)
 
 enum-known-found-3 : tie.Need-enum-known-found-3 Inv-loop μ-loop
 enum-known-found-3 c = search needs
 
 placed-behind-requires : tie.Need-placed-behind-requires Inv-loop μ-loop
-placed-behind-requires c κs = omega (arith, item-le (c .before .before .before) (Spoilt _) (c .before .found3 .given .1), length-drop (place (c .before .before .before)) (text (c .before .before .before)), c .before .before .before .before .before .loop-test .taken)
+placed-behind-requires c κs = omega (arith, item-le (c .before .before .before) (items.Refused _) (c .before .found3 .given .1), length-drop (place (c .before .before .before)) (text (c .before .before .before)), c .before .before .before .before .before .loop-test .taken)
 
 returns-4 : tie.Need-returns-4 Inv-loop μ-loop
-returns-4 c = ap Unlisted (c .placed-behind .ensures) ∙ ends (c .before .before .before .before) (Spoilt _) (c .before .before .found3 .given .1)
+returns-4 c = ap listing.Refused (c .placed-behind .ensures) ∙ ends (c .before .before .before .before) (items.Refused _) (c .before .before .found3 .given .1)
 
 eof-requires : tie.Need-eof-requires Inv-loop μ-loop
 eof-requires c κs = search needs
 
 returns-5 : tie.Need-returns-5 Inv-loop μ-loop
-returns-5 c = ap Unlisted (c .eof .ensures) ∙ sym (list-out (c .before .before .before .before .args .s .now) (c .before .before .loop .at) (c .before .before .loop .extensions) (c .before .loop-test .left)) ∙ c .before .before .loop .inv .1
+returns-5 c = ap listing.Refused (c .eof .ensures) ∙ sym (list-out (c .before .before .before .before .args .s .now) (c .before .before .loop .at) (c .before .before .loop .extensions) (c .before .loop-test .left)) ∙ c .before .before .loop .inv .1
 
 pub extension-list-spec : {M : Type 1} → statement M
 extension-list-spec =

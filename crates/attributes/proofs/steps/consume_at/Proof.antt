@@ -3,7 +3,7 @@ use mathlib.Core.Path.{_∙_, sym}
 use borrow.Author.Needs.{needs}
 use Rattle.attributes.proofs.StepLaws.{consume-in, consume-out, stands-fits}
 use Rattle.attributes.proofs.steps.consume_at.Statement.{statement}
-use Rattle.attributes.specs.declared.steps.Step.the-variants.{Bad, On}
+use Rattle.attributes.specs.declared.steps.Step.the-variants.{Refused, On}
 use Rattle.attributes.proofs.steps.consume_at.Tie as tie
 
 peek-requires : tie.Need-peek-requires
@@ -28,7 +28,7 @@ returns-2 : tie.Need-returns-2
 returns-2 c = consume-in (c .before .before .before .before .before .before .before .args .s .now) (c .before .before .before .before .before .before .before .args .at) (c .before .before .before .before .before .before .before .args .b) _ (c .before .before .before .before .before .peek .ensures) (c .before .before .before .before .before .before .before .args .all) (On _) (c .before .before .before .before .if1 .left) (sym (c .before .behind .given .1) ∙ c .before .before .before .skip-ws .ensures)
 
 returns-3 : tie.Need-returns-3
-returns-3 c = consume-in (c .before .before .before .before .before .before .before .args .s .now) (c .before .before .before .before .before .before .before .args .at) (c .before .before .before .before .before .before .before .args .b) _ (c .before .before .before .before .before .peek .ensures) (c .before .before .before .before .before .before .before .args .all) (Bad _) (c .before .before .before .before .if1 .left) (sym (c .before .behind2 .given .1) ∙ c .before .before .before .skip-ws .ensures)
+returns-3 c = consume-in (c .before .before .before .before .before .before .before .args .s .now) (c .before .before .before .before .before .before .before .args .at) (c .before .before .before .before .before .before .before .args .b) _ (c .before .before .before .before .before .peek .ensures) (c .before .before .before .before .before .before .before .args .all) (Refused _) (c .before .before .before .before .if1 .left) (sym (c .before .behind2 .given .1) ∙ c .before .before .before .skip-ws .ensures)
 
 pub consume-at-spec : {M : Type 1} → statement M
 consume-at-spec =

@@ -3,7 +3,7 @@ use mathlib.Core.Path.{_∙_, ap}
 use borrow.Author.Needs.{needs}
 use Rattle.attributes.proofs.StepLaws.{sign-in, sign-out, stands-fits}
 use Rattle.attributes.proofs.steps.sign_at.Statement.{statement}
-use Rattle.attributes.specs.declared.steps.Step.the-variants.{Bad}
+use Rattle.attributes.specs.declared.steps.Step.the-variants.{Refused}
 use Rattle.attributes.proofs.steps.sign_at.Tie as tie
 
 peek-requires : tie.Need-peek-requires
@@ -13,7 +13,7 @@ expected-attribute-requires : tie.Need-expected-attribute-requires
 expected-attribute-requires c κs = search needs
 
 returns : tie.Need-returns
-returns c = ap Bad (c .expected-attribute .ensures) ∙ sign-out (c .before .before .before .before .args .s .now) (c .before .before .before .before .args .at) (c .before .before .before .before .args .b) _ (c .before .before .peek .ensures) (c .before .if1 .taken)
+returns c = ap Refused (c .expected-attribute .ensures) ∙ sign-out (c .before .before .before .before .args .s .now) (c .before .before .before .before .args .at) (c .before .before .before .before .args .b) _ (c .before .before .peek .ensures) (c .before .if1 .taken)
 
 add-next : tie.Need-add-next
 add-next c = omega (arith, stands-fits (c .before .before .before .args .s .now) (c .before .before .before .args .at) (c .before .before .before .args .b) _ (c .before .peek .ensures) (c .before .before .before .pre) (c .if1 .left))

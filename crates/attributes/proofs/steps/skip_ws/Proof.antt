@@ -3,7 +3,7 @@ use mathlib.Core.Path.{_∙_, ap, sym}
 use borrow.Author.Needs.{needs}
 use Rattle.attributes.proofs.StepLaws.{gap-fits, skip-by, skip-out}
 use Rattle.attributes.proofs.steps.skip_ws.Statement.{statement}
-use Rattle.attributes.specs.declared.steps.Step.the-variants.{Bad}
+use Rattle.attributes.specs.declared.steps.Step.the-variants.{Refused}
 use Rattle.comments.specs.declared.gap.Gap.the-variants.{Clear, InLine, Refused as NoGap}
 use Rattle.attributes.proofs.steps.skip_ws.Tie as tie
 
@@ -47,7 +47,7 @@ returns-3 : tie.Need-returns-3
 returns-3 c = skip-by (c .before .before .before .before .before .before .before .args .s .now) (c .before .before .before .before .before .before .before .args .at) (InLine _) (sym (c .before .gap2 .given .1) ∙ c .before .before .before .skip-gap .ensures)
 
 returns-4 : tie.Need-returns-4
-returns-4 c = ap Bad (c .placed-behind .ensures) ∙ skip-by (c .before .before .before .before .before .before .before .before .args .s .now) (c .before .before .before .before .before .before .before .before .args .at) (NoGap _) (sym (c .before .before .gap3 .given .1) ∙ c .before .before .before .before .skip-gap .ensures)
+returns-4 c = ap Refused (c .placed-behind .ensures) ∙ skip-by (c .before .before .before .before .before .before .before .before .args .s .now) (c .before .before .before .before .before .before .before .before .args .at) (NoGap _) (sym (c .before .before .gap3 .given .1) ∙ c .before .before .before .before .skip-gap .ensures)
 
 pub skip-ws-spec : {M : Type 1} → statement M
 skip-ws-spec =

@@ -1,14 +1,9 @@
-use Prim.Native.Nat.{ℕ}
-use native.Mathlib.Omega.{arith}
-use mathlib.Core.Path.{_∙_, ap, sym, ap₂}
+use mathlib.Core.Path.{_∙_, ap, sym}
+use lib.ListN.{getD}
 use borrow.Author.Needs.{needs}
-use Rattle.cursor.proofs.CharLaws.{next-end, next-here}
+use Rattle.cursor.proofs.CharLaws.{next-ascii, next-end}
 use Rattle.cursor.proofs.ParserCursor.next_char.Statement.{statement}
-use Rattle.cursor.specs.Cursor.{movedBy}
 use Rattle.cursor.specs.declared.chars.Next.the-variants.{Char, Refused}
-use Rattle.text.proofs.Lists.{tail-part}
-use Rattle.text.proofs.Utf8Agree.{part-char}
-use Rattle.text.specs.Utf8.{codeOf}
 use Rattle.cursor.proofs.ParserCursor.next_char.Tie as tie
 
 eof-requires : tie.Need-eof-requires
@@ -17,31 +12,23 @@ eof-requires c κs = search needs
 returns : tie.Need-returns
 returns c = ap Refused (c .eof .ensures) ∙ sym (next-end (c .before .before .before .args .text .now) (c .before .before .before .args .self) (c .before .if1 .taken))
 
-sub-part : tie.Need-sub-part
-sub-part c = search needs
+shared-slice-read-first : tie.Need-shared-slice-read-first
+shared-slice-read-first c = search needs
 
-part-part-start : tie.Need-part-part-start
-part-part-start c = search needs
-
-part-part-end : tie.Need-part-part-end
-part-part-end c = search needs
-
-char-len-requires : tie.Need-char-len-requires
-char-len-requires c κs = search needs
-
-code-point-requires : tie.Need-code-point-requires
-code-point-requires c κs = search needs
+cast-code : tie.Need-cast-code
+cast-code c = search needs
 
 advance-bytes-requires : tie.Need-advance-bytes-requires
-advance-bytes-requires c κs = omega (arith, part-char (c .before .before .before .before .before .args .text .now) (c .before .before .before .before .before .args .self .cursor) _ (c .before .char-len .ensures) .1)
+advance-bytes-requires c κs = search needs
 
 returns-2 : tie.Need-returns-2
-returns-2 c =
-    let text = c .before .before .before .before .before .before .args .text .now in
-    let own = c .before .before .before .before .before .before .args .self in
-    ap₂ Char (c .before .code-point .ensures ∙ ap codeOf (tail-part text (own .cursor)))
-    (c .advance-bytes .ensures ∙ ap (λ (n : ℕ). movedBy n own) (sym (part-char text (own .cursor) _ (c .before .before .char-len .ensures) .0)))
-    ∙ sym (next-here text own (search needs))
+returns-2 c = ap (Char (getD (c .before .before .before .before .before .args .text .now) (c .before .before .before .before .before .args .self .cursor) 0)) (c .advance-bytes .ensures) ∙ sym (next-ascii (c .before .before .before .before .before .args .text .now) (c .before .before .before .before .before .args .self) (search needs) (c .before .if2 .taken))
+
+wide-char-requires : tie.Need-wide-char-requires
+wide-char-requires c κs = search needs
+
+returns-3 : tie.Need-returns-3
+returns-3 c = search needs
 
 pub next-char-spec : {M : Type 1} → statement M
 next-char-spec =
@@ -49,10 +36,9 @@ next-char-spec =
     (tie.spec
     eof-requires
     returns
-    sub-part
-    part-part-start
-    part-part-end
-    char-len-requires
-    code-point-requires
+    shared-slice-read-first
+    cast-code
     advance-bytes-requires
-    returns-2)
+    returns-2
+    wide-char-requires
+    returns-3)

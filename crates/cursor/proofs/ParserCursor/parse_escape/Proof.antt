@@ -8,7 +8,7 @@ use Rattle.cursor.proofs.EscapePlaces.{escape-end, escape-within, reach
 use Rattle.cursor.proofs.ParserCursor.parse_escape.Statement.{statement}
 use Rattle.cursor.specs.inner.Escape.{behindEscape, escapedOf}
 use Rattle.cursor.specs.declared.ParserCursor.{ParserCursor}
-use Rattle.cursor.specs.declared.escape.Escaped.the-variants.{Byte, Point, Refused}
+use Rattle.cursor.specs.declared.escape.Escaped.the-variants as escaped
 use Rattle.escapes.specs.Escapes.{escapeOf}
 use Rattle.escapes.specs.declared.answers.EscapeAnswer.{EscapeAnswer}
 use Rattle.escapes.specs.declared.answers.EscapeAnswer.the-variants.{Ascii, Utf8, Refused as EscapeRefused}
@@ -38,7 +38,7 @@ eof-requires : tie.Need-eof-requires
 eof-requires c κs = search needs
 
 returns : tie.Need-returns
-returns c = ap Refused (c .eof .ensures) ∙ sym (escape-end (c .before .before .before .args .text .now) (c .before .before .before .args .self) (c .before .before .before .args .mode) (c .before .if1 .taken))
+returns c = ap escaped.Refused (c .eof .ensures) ∙ sym (escape-end (c .before .before .before .args .text .now) (c .before .before .before .args .self) (c .before .before .before .args .mode) (c .before .if1 .taken))
 
 sub-parse-escape : tie.Need-sub-parse-escape
 sub-parse-escape c = search needs
@@ -71,13 +71,13 @@ placed-behind-requires : tie.Need-placed-behind-requires
 placed-behind-requires c κs = omega (arith, short (c .before .before .before) (EscapeRefused _) (c .before .answer3 .given .1))
 
 returns-2 : tie.Need-returns-2
-returns-2 c = ap (Byte (c .before .before .answer .given .0 .0)) (c .advance-bytes .ensures) ∙ read (c .before .before .before .before) (Ascii _ _) (c .before .before .answer .given .1)
+returns-2 c = ap (escaped.Ascii (c .before .before .answer .given .0 .0)) (c .advance-bytes .ensures) ∙ read (c .before .before .before .before) (Ascii _ _) (c .before .before .answer .given .1)
 
 returns-3 : tie.Need-returns-3
-returns-3 c = ap (Point (c .before .before .answer2 .given .0 .0)) (c .advance-bytes2 .ensures) ∙ read (c .before .before .before .before) (Utf8 _ _) (c .before .before .answer2 .given .1)
+returns-3 c = ap (escaped.Utf8 (c .before .before .answer2 .given .0 .0)) (c .advance-bytes2 .ensures) ∙ read (c .before .before .before .before) (Utf8 _ _) (c .before .before .answer2 .given .1)
 
 returns-4 : tie.Need-returns-4
-returns-4 c = ap Refused (c .placed-behind .ensures) ∙ read (c .before .before .before .before) (EscapeRefused _) (c .before .before .answer3 .given .1)
+returns-4 c = ap escaped.Refused (c .placed-behind .ensures) ∙ read (c .before .before .before .before) (EscapeRefused _) (c .before .before .answer3 .given .1)
 
 pub parse-escape-spec : {M : Type 1} → statement M
 parse-escape-spec =

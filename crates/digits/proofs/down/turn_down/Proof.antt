@@ -8,6 +8,7 @@ use borrow.Author.Needs.{needs}
 use borrow.Author.Tests.{eq-eqb, le-leb, le-ltb, lt-leb, lt-ltb, ltb-false, ltb-true, ne-eqb}
 use Rattle.digits.proofs.down.turn_down.Statement.{statement}
 use Rattle.digits.specs.Digits.{hexOf, turnOf}
+use Rattle.hexes.proofs.HexLaws.{digit-value, no-digit}
 use Rattle.digits.specs.declared.down.Down.the-variants.{Next}
 use Rattle.digits.proofs.Neg as neg
 use Rattle.digits.proofs.down.turn_down.Tie as tie
@@ -47,38 +48,54 @@ mul-product c = neg.product-fits (negative (c .before .before)) (product c)
 decode-hex-requires : tie.Need-decode-hex-requires
 decode-hex-requires c κs = search needs
 
-cast-d : tie.Need-cast-d
-cast-d c = search needs
+enum-known-digit : tie.Need-enum-known-digit
+enum-known-digit c = search needs
+
+enum-told : tie.Need-enum-told
+enum-told c = search needs
 
 returns-3 : tie.Need-returns-3
 unfolding turnOf
 returns-3 c =
-    let a = c .before .before .before .before .args in
-    simp (ne-eqb _ _ (c .before .before .before .if1 .left), le-ltb _ _ (product (c .before .before)), le-leb (a .base) (hexOf (a .c)) (omega arith))
+    let a = c .before .before .before .before .before .args in
+    let z = no-digit (a .c) (sym (c .before .before .decode-hex .ensures) ∙ c .enum-told .given .1) in
+    simp (ne-eqb _ _ (c .before .before .before .before .if1 .left), le-ltb _ _ (product (c .before .before .before)), le-leb (a .base) (hexOf (a .c)) (omega (arith, z, c .before .before .before .before .before .pre .1)))
+
+cast-d : tie.Need-cast-d
+cast-d c = search needs
+
+returns-4 : tie.Need-returns-4
+unfolding turnOf
+returns-4 c =
+    let a = c .before .before .before .before .before .before .before .args in
+    let v = digit-value (a .c) _ (sym (c .before .before .before .before .decode-hex .ensures) ∙ c .before .before .digit .given .1) in
+    simp (ne-eqb _ _ (c .before .before .before .before .before .before .if1 .left), le-ltb _ _ (product (c .before .before .before .before .before)), le-leb (a .base) (hexOf (a .c)) (omega (arith, v)))
 
 cast-e : tie.Need-cast-e
 cast-e c = search needs
 
 add-if4 : tie.Need-add-if4
-add-if4 c = neg.sum-fits (negative (c .before .before .before .before)) (product (c .before .before)) (c .before .decode-hex .result) (omega arith)
-
-returns-4 : tie.Need-returns-4
-unfolding turnOf
-returns-4 c =
-    let a = c .before .before .before .before .before .args in
-    let q : natAbs (a .low) < natAbs (a .acc) * a .base + c .before .before .decode-hex .result = ltb-true _ _ (sym (neg.over-is (negative (c .before .before .before .before .before)) (product (c .before .before .before)) (c .before .before .decode-hex .result) (omega arith)) ∙ c .if4 .taken) in
-    simp (ne-eqb _ _ (c .before .before .before .before .if1 .left), le-ltb _ _ (product (c .before .before .before)), lt-leb (a .base) (hexOf (a .c)) (omega arith), lt-ltb (natAbs (a .low)) (natAbs (a .acc) * a .base + hexOf (a .c)) (omega arith))
-
-sub-next : tie.Need-sub-next
-sub-next c = neg.next-fits (negative (c .before .before .before .before .before)) (product (c .before .before .before)) (c .before .before .decode-hex .result) (omega arith) (ltb-false _ _ (sym (neg.over-is (negative (c .before .before .before .before .before)) (product (c .before .before .before)) (c .before .before .decode-hex .result) (omega arith)) ∙ c .if4 .left))
+add-if4 c = neg.sum-fits (negative (c .before .before .before .before .before .before .before)) (product (c .before .before .before .before .before)) (c .before .before .digit .given .0 .0) (omega arith)
 
 returns-5 : tie.Need-returns-5
 unfolding turnOf
 returns-5 c =
-    let a = c .before .before .before .before .before .args in
-    let q : natAbs (a .acc) * a .base + c .before .before .decode-hex .result ≤ natAbs (a .low) = ltb-false _ _ (sym (neg.over-is (negative (c .before .before .before .before .before)) (product (c .before .before .before)) (c .before .before .decode-hex .result) (omega arith)) ∙ c .if4 .left) in
-    simp (ne-eqb _ _ (c .before .before .before .before .if1 .left), le-ltb _ _ (product (c .before .before .before)), lt-leb (a .base) (hexOf (a .c)) (omega arith), le-ltb (natAbs (a .low)) (natAbs (a .acc) * a .base + hexOf (a .c)) (omega arith))
-    (ap Next (neg.next-held (negative (c .before .before .before .before .before)) (product (c .before .before .before)) (c .before .before .decode-hex .result) (omega arith) q ∙ ap (λ (d : ℕ). negℤ (pos (natAbs (a .acc) * a .base + d))) (c .before .before .decode-hex .ensures)))
+    let a = c .before .before .before .before .before .before .before .before .args in
+    let v = digit-value (a .c) _ (sym (c .before .before .before .before .before .decode-hex .ensures) ∙ c .before .before .before .digit .given .1) in
+    let q : natAbs (a .low) < natAbs (a .acc) * a .base + c .before .before .before .digit .given .0 .0 = ltb-true _ _ (sym (neg.over-is (negative (c .before .before .before .before .before .before .before .before)) (product (c .before .before .before .before .before .before)) (c .before .before .before .digit .given .0 .0) (omega arith)) ∙ c .if4 .taken) in
+    simp (ne-eqb _ _ (c .before .before .before .before .before .before .before .if1 .left), le-ltb _ _ (product (c .before .before .before .before .before .before)), lt-leb (a .base) (hexOf (a .c)) (omega (arith, v)), lt-ltb (natAbs (a .low)) (natAbs (a .acc) * a .base + hexOf (a .c)) (omega (arith, v, q)))
+
+sub-next : tie.Need-sub-next
+sub-next c = neg.next-fits (negative (c .before .before .before .before .before .before .before .before)) (product (c .before .before .before .before .before .before)) (c .before .before .before .digit .given .0 .0) (omega arith) (ltb-false _ _ (sym (neg.over-is (negative (c .before .before .before .before .before .before .before .before)) (product (c .before .before .before .before .before .before)) (c .before .before .before .digit .given .0 .0) (omega arith)) ∙ c .if4 .left))
+
+returns-6 : tie.Need-returns-6
+unfolding turnOf
+returns-6 c =
+    let a = c .before .before .before .before .before .before .before .before .args in
+    let v = digit-value (a .c) _ (sym (c .before .before .before .before .before .decode-hex .ensures) ∙ c .before .before .before .digit .given .1) in
+    let q : natAbs (a .acc) * a .base + c .before .before .before .digit .given .0 .0 ≤ natAbs (a .low) = ltb-false _ _ (sym (neg.over-is (negative (c .before .before .before .before .before .before .before .before)) (product (c .before .before .before .before .before .before)) (c .before .before .before .digit .given .0 .0) (omega arith)) ∙ c .if4 .left) in
+    simp (ne-eqb _ _ (c .before .before .before .before .before .before .before .if1 .left), le-ltb _ _ (product (c .before .before .before .before .before .before)), lt-leb (a .base) (hexOf (a .c)) (omega (arith, v)), le-ltb (natAbs (a .low)) (natAbs (a .acc) * a .base + hexOf (a .c)) (omega (arith, v, q)))
+    (ap Next (neg.next-held (negative (c .before .before .before .before .before .before .before .before)) (product (c .before .before .before .before .before .before)) (c .before .before .before .digit .given .0 .0) (omega arith) q ∙ ap (λ (d : ℕ). negℤ (pos (natAbs (a .acc) * a .base + d))) v))
 
 pub turn-down-spec : {M : Type 1} → statement M
 turn-down-spec =
@@ -89,10 +106,13 @@ turn-down-spec =
     returns-2
     mul-product
     decode-hex-requires
-    cast-d
+    enum-known-digit
+    enum-told
     returns-3
+    cast-d
+    returns-4
     cast-e
     add-if4
-    returns-4
+    returns-5
     sub-next
-    returns-5)
+    returns-6)

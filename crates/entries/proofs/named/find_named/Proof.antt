@@ -3,7 +3,7 @@ use borrow.Author.Needs.{needs}
 use borrow.Author.Tests.{le-leb, le-ltb, lt-leb, lt-ltb}
 use Rattle.entries.proofs.named.find_named.Statement.{statement}
 use Rattle.entries.specs.Named.{namedOf}
-use Rattle.entries.specs.declared.named.Named.the-variants.{Unnamed}
+use Rattle.entries.specs.declared.named.Named.the-variants.{Refused}
 use Rattle.entries.proofs.named.find_named.Tie as tie
 
 unfit-requires : tie.Need-unfit-requires
@@ -11,7 +11,7 @@ unfit-requires c κs = search needs
 
 returns : tie.Need-returns
 unfolding namedOf
-returns c = simp (le-leb _ _ (c .before .if1 .taken)) (ap Unnamed (c .unfit .ensures))
+returns c = simp (le-leb _ _ (c .before .if1 .taken)) (ap Refused (c .unfit .ensures))
 
 room-requires : tie.Need-room-requires
 room-requires c κs = search needs
@@ -28,7 +28,7 @@ not-in-order-requires c κs = search needs
 
 returns-3 : tie.Need-returns-3
 unfolding namedOf
-returns-3 c = rw (lt-leb _ _ (c .before .before .before .if1 .left), sym (c .before .before .room .ensures), le-ltb _ _ (c .before .if2 .left)) (ap Unnamed (c .not-in-order .ensures))
+returns-3 c = rw (lt-leb _ _ (c .before .before .before .if1 .left), sym (c .before .before .room .ensures), le-ltb _ _ (c .before .if2 .left)) (ap Refused (c .not-in-order .ensures))
 
 pub find-named-spec : {M : Type 1} → statement M
 find-named-spec =

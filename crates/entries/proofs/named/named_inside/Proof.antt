@@ -3,7 +3,7 @@ use borrow.Author.Needs.{needs}
 use borrow.Author.Tests.{le-ltb, lt-ltb, not-false, not-true}
 use Rattle.entries.proofs.named.named_inside.Statement.{statement}
 use Rattle.entries.specs.Named.{insideOf}
-use Rattle.entries.specs.declared.named.Named.the-variants.{Unnamed}
+use Rattle.entries.specs.declared.named.Named.the-variants.{Refused}
 use Rattle.entries.proofs.named.named_inside.Tie as tie
 
 entry-requires : tie.Need-entry-requires
@@ -20,7 +20,7 @@ unfit-requires c κs = search needs
 
 returns : tie.Need-returns
 unfolding insideOf
-returns c = rw (sym (c .before .before .before .before .entry .ensures), sym (c .before .before .before .start-of .ensures), sym (c .before .before .place-fits .ensures) ∙ not-true _ (c .before .if1 .taken)) (ap Unnamed (c .unfit .ensures))
+returns c = rw (sym (c .before .before .before .before .entry .ensures), sym (c .before .before .before .start-of .ensures), sym (c .before .before .place-fits .ensures) ∙ not-true _ (c .before .if1 .taken)) (ap Refused (c .unfit .ensures))
 
 room-requires : tie.Need-room-requires
 room-requires c κs = search needs
@@ -30,7 +30,7 @@ not-in-order-requires c κs = search needs
 
 returns-2 : tie.Need-returns-2
 unfolding insideOf
-returns-2 c = rw (sym (c .before .before .before .before .before .before .entry .ensures), sym (c .before .before .before .before .before .start-of .ensures), sym (c .before .before .before .before .place-fits .ensures) ∙ not-false _ (c .before .before .before .if1 .left), sym (c .before .before .room .ensures), lt-ltb _ _ (c .before .if2 .taken)) (ap Unnamed (c .not-in-order .ensures))
+returns-2 c = rw (sym (c .before .before .before .before .before .before .entry .ensures), sym (c .before .before .before .before .before .start-of .ensures), sym (c .before .before .before .before .place-fits .ensures) ∙ not-false _ (c .before .before .before .if1 .left), sym (c .before .before .room .ensures), lt-ltb _ _ (c .before .if2 .taken)) (ap Refused (c .not-in-order .ensures))
 
 by-kind-requires : tie.Need-by-kind-requires
 by-kind-requires c κs = search needs

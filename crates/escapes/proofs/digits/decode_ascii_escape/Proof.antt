@@ -5,7 +5,7 @@ use lib.ListN.{drop, getD, length-drop}
 use borrow.Author.Needs.{needs}
 use borrow.Author.Tests.{eq-eqb, ne-eqb}
 use Rattle.escapes.proofs.EscapeLaws.{two-at, two-end}
-use Rattle.hexes.proofs.HexLaws.{hex-le}
+use Rattle.hexes.proofs.HexLaws.{digit-lt, digit-some, digit-value, no-digit}
 use Rattle.escapes.proofs.digits.decode_ascii_escape.Statement.{statement}
 use Rattle.escapes.specs.Escapes.{hexOf, secondDigit}
 use Rattle.escapes.specs.declared.answers.EscapeAnswer.the-variants.{Refused}
@@ -26,17 +26,23 @@ shared-slice-read-decode-hex c = search needs
 decode-hex-requires : tie.Need-decode-hex-requires
 decode-hex-requires c κs = search needs
 
+enum-known-digit : tie.Need-enum-known-digit
+enum-known-digit c = search needs
+
+enum-told : tie.Need-enum-told
+enum-told c = search needs
+
 char-len-requires : tie.Need-char-len-requires
 char-len-requires c κs = search needs
 
 add-invalid : tie.Need-add-invalid
-add-invalid c = omega (arith, c .char-len .ensures, charLen-le (c .before .before .before .before .before .before .args .t .now))
+add-invalid c = omega (arith, c .char-len .ensures, charLen-le (c .before .before .before .before .before .before .before .args .t .now))
 
 invalid-requires : tie.Need-invalid-requires
 invalid-requires c κs = search needs
 
 returns-2 : tie.Need-returns-2
-returns-2 c = c .invalid .ensures ∙ ap (λ (k : ℕ). Refused (invalidEscape (c .before .before .before .before .before .before .before .args .at + k))) (c .before .char-len .ensures) ∙ sym (two-at (c .before .before .before .before .before .before .before .args .at) (c .before .before .before .before .before .before .before .args .t .now) (omega arith) ∙ simp (eq-eqb (hexOf (getD (c .before .before .before .before .before .before .before .args .t .now) 0 0)) 16 (sym (c .before .before .before .decode-hex .ensures) ∙ c .before .before .if2 .taken)))
+returns-2 c = c .invalid .ensures ∙ ap (λ (k : ℕ). Refused (invalidEscape (c .before .before .before .before .before .before .before .before .args .at + k))) (c .before .char-len .ensures) ∙ sym (two-at (c .before .before .before .before .before .before .before .before .args .at) (c .before .before .before .before .before .before .before .before .args .t .now) (omega arith) ∙ simp (eq-eqb (hexOf (getD (c .before .before .before .before .before .before .before .before .args .t .now) 0 0)) 16 (no-digit (getD (c .before .before .before .before .before .before .before .before .args .t .now) 0 0) (sym (c .before .before .before .before .decode-hex .ensures) ∙ c .before .before .enum-told .given .1))))
 
 sub-second-digit : tie.Need-sub-second-digit
 sub-second-digit c = search needs
@@ -51,10 +57,10 @@ add-second-digit : tie.Need-add-second-digit
 add-second-digit c = search needs
 
 second-digit-requires : tie.Need-second-digit-requires
-second-digit-requires c κs = (simp tail-part (omega (arith, length-drop 1 (c .before .before .before .before .before .before .args .t .now))), omega (arith, c .before .before .decode-hex .ensures, hex-le (getD (c .before .before .before .before .before .before .args .t .now) 0 0), c .before .if2 .left))
+second-digit-requires c κs = (simp tail-part (omega (arith, length-drop 1 (c .before .before .before .before .before .before .before .before .args .t .now))), digit-lt (getD (c .before .before .before .before .before .before .before .before .args .t .now) 0 0) _ (sym (c .before .before .before .before .decode-hex .ensures) ∙ c .before .before .digit .given .1))
 
 returns-3 : tie.Need-returns-3
-returns-3 c = (simp tail-part at (c .second-digit .ensures)) ∙ sym (two-at (c .before .before .before .before .before .before .before .args .at) (c .before .before .before .before .before .before .before .args .t .now) (omega arith) ∙ simp (ne-eqb (hexOf (getD (c .before .before .before .before .before .before .before .args .t .now) 0 0)) 16 (λ e. c .before .before .if2 .left (c .before .before .before .decode-hex .ensures ∙ e))) (ap (λ (k : ℕ). secondDigit k (c .before .before .before .before .before .before .before .args .at + 1) (drop 1 (c .before .before .before .before .before .before .before .args .t .now))) (sym (c .before .before .before .decode-hex .ensures))))
+returns-3 c = (simp tail-part at (c .second-digit .ensures)) ∙ sym (two-at (c .before .before .before .before .before .before .before .before .before .args .at) (c .before .before .before .before .before .before .before .before .before .args .t .now) (omega arith) ∙ simp (ne-eqb (hexOf (getD (c .before .before .before .before .before .before .before .before .before .args .t .now) 0 0)) 16 (digit-some (getD (c .before .before .before .before .before .before .before .before .before .args .t .now) 0 0) _ (sym (c .before .before .before .before .before .decode-hex .ensures) ∙ c .before .before .before .digit .given .1))) (ap (λ (k : ℕ). secondDigit k (c .before .before .before .before .before .before .before .before .before .args .at + 1) (drop 1 (c .before .before .before .before .before .before .before .before .before .args .t .now))) (sym (digit-value (getD (c .before .before .before .before .before .before .before .before .before .args .t .now) 0 0) _ (sym (c .before .before .before .before .before .decode-hex .ensures) ∙ c .before .before .before .digit .given .1)))))
 
 pub decode-ascii-escape-spec : {M : Type 1} → statement M
 decode-ascii-escape-spec =
@@ -64,6 +70,8 @@ decode-ascii-escape-spec =
     returns
     shared-slice-read-decode-hex
     decode-hex-requires
+    enum-known-digit
+    enum-told
     char-len-requires
     add-invalid
     invalid-requires

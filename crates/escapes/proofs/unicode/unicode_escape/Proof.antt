@@ -4,7 +4,7 @@ use mathlib.Core.Path.{_∙_, _≡_, ap, sym}
 use lib.ListN.{drop, getD, length, length-drop}
 use borrow.Author.Needs.{needs}
 use Rattle.escapes.proofs.EscapeLaws.{digits-bad, digits-brace, digits-done, digits-end, digits-more, room, room-fits, room-more, room-start, unicode-end, unicode-open, unicode-other}
-use Rattle.hexes.proofs.HexLaws.{hex-le}
+use Rattle.hexes.proofs.HexLaws.{digit-lt, digit-some, digit-value, no-digit}
 use Rattle.escapes.proofs.unicode.unicode_escape.Statement.{statement}
 use Rattle.escapes.specs.Escapes.{digitsOf, unicodeEscape}
 use Rattle.escapes.specs.declared.answers.EscapeAnswer.the-variants.{Refused}
@@ -70,6 +70,12 @@ returns-4 c = (simp tail-part at (c .close .ensures)) ∙ sym (c .before .before
 decode-hex-requires : tie.Need-decode-hex-requires Inv-loop μ-loop
 decode-hex-requires c κs = search needs
 
+enum-known-digit : tie.Need-enum-known-digit Inv-loop μ-loop
+enum-known-digit c = search needs
+
+enum-told : tie.Need-enum-told Inv-loop μ-loop
+enum-told c = search needs
+
 add-invalid : tie.Need-add-invalid Inv-loop μ-loop
 add-invalid c = search needs
 
@@ -86,24 +92,24 @@ char-len-requires : tie.Need-char-len-requires Inv-loop μ-loop
 char-len-requires c κs = search needs
 
 add-invalid-2 : tie.Need-add-invalid-2 Inv-loop μ-loop
-add-invalid-2 c = omega (arith, simp tail-part at (c .char-len .ensures), charLen-le (drop (c .before .before .before .before .before .before .before .before .loop .i) (c .before .before .before .before .before .before .before .before .before .before .before .before .before .args .s .now)), length-drop (c .before .before .before .before .before .before .before .before .loop .i) (c .before .before .before .before .before .before .before .before .before .before .before .before .before .args .s .now))
+add-invalid-2 c = omega (arith, simp tail-part at (c .char-len .ensures), charLen-le (drop (c .before .before .before .before .before .before .before .before .before .loop .i) (c .before .before .before .before .before .before .before .before .before .before .before .before .before .before .args .s .now)), length-drop (c .before .before .before .before .before .before .before .before .before .loop .i) (c .before .before .before .before .before .before .before .before .before .before .before .before .before .before .args .s .now))
 
 invalid-requires-3 : tie.Need-invalid-requires-3 Inv-loop μ-loop
 invalid-requires-3 c κs = search needs
 
 returns-5 : tie.Need-returns-5 Inv-loop μ-loop
 returns-5 c = c .invalid3 .ensures
-    ∙ ap (λ (k : ℕ). Refused (invalidEscape (c .before .before .before .before .before .before .before .before .before .before .before .before .before .before .args .at + c .before .before .before .before .before .before .before .before .before .loop .i + k))) (simp tail-part at (c .before .char-len .ensures))
-    ∙ sym (c .before .before .before .before .before .before .before .before .before .loop .inv .3 ∙ digits-bad (c .before .before .before .before .before .before .before .before .before .loop .left) (c .before .before .before .before .before .before .before .before .before .loop .v) (c .before .before .before .before .before .before .before .before .before .before .before .before .before .before .args .at + c .before .before .before .before .before .before .before .before .before .loop .i) (c .before .before .before .before .before .before .before .before .before .loop .i) (c .before .before .before .before .before .before .before .before .before .before .before .before .before .before .args .s .now) (c .before .before .before .before .before .before .before .before .loop-test .taken) (c .before .before .before .before .before .before .before .if3 .left) (c .before .before .before .before .before .if4 .left) (sym (c .before .before .before .before .decode-hex .ensures) ∙ c .before .before .before .if5 .taken))
+    ∙ ap (λ (k : ℕ). Refused (invalidEscape (c .before .before .before .before .before .before .before .before .before .before .before .before .before .before .before .args .at + c .before .before .before .before .before .before .before .before .before .before .loop .i + k))) (simp tail-part at (c .before .char-len .ensures))
+    ∙ sym (c .before .before .before .before .before .before .before .before .before .before .loop .inv .3 ∙ digits-bad (c .before .before .before .before .before .before .before .before .before .before .loop .left) (c .before .before .before .before .before .before .before .before .before .before .loop .v) (c .before .before .before .before .before .before .before .before .before .before .before .before .before .before .before .args .at + c .before .before .before .before .before .before .before .before .before .before .loop .i) (c .before .before .before .before .before .before .before .before .before .before .loop .i) (c .before .before .before .before .before .before .before .before .before .before .before .before .before .before .before .args .s .now) (c .before .before .before .before .before .before .before .before .before .loop-test .taken) (c .before .before .before .before .before .before .before .before .if3 .left) (c .before .before .before .before .before .before .if4 .left) (no-digit (getD (c .before .before .before .before .before .before .before .before .before .before .before .before .before .before .before .args .s .now) (c .before .before .before .before .before .before .before .before .before .before .loop .i) 0) (sym (c .before .before .before .before .before .decode-hex .ensures) ∙ c .before .before .before .enum-told .given .1)))
 
 mul-v : tie.Need-mul-v Inv-loop μ-loop
-mul-v c = omega (arith, room-fits (c .before .before .before .before .before .before .loop .left) (omega arith))
+mul-v c = omega (arith, room-fits (c .before .before .before .before .before .before .before .before .loop .left) (omega arith))
 
 cast-v : tie.Need-cast-v Inv-loop μ-loop
-cast-v c = omega (arith, c .before .decode-hex .ensures, hex-le (getD (c .before .before .before .before .before .before .before .before .before .before .before .args .s .now) (c .before .before .before .before .before .before .loop .i) 0))
+cast-v c = omega (arith, digit-lt (getD (c .before .before .before .before .before .before .before .before .before .before .before .before .before .args .s .now) (c .before .before .before .before .before .before .before .before .loop .i) 0) _ (sym (c .before .before .before .decode-hex .ensures) ∙ c .before .digit .given .1))
 
 add-v : tie.Need-add-v Inv-loop μ-loop
-add-v c = omega (arith, room-fits (c .before .before .before .before .before .before .loop .left) (omega arith), c .before .decode-hex .ensures, hex-le (getD (c .before .before .before .before .before .before .before .before .before .before .before .args .s .now) (c .before .before .before .before .before .before .loop .i) 0))
+add-v c = omega (arith, room-fits (c .before .before .before .before .before .before .before .before .loop .left) (omega arith), digit-lt (getD (c .before .before .before .before .before .before .before .before .before .before .before .before .before .args .s .now) (c .before .before .before .before .before .before .before .before .loop .i) 0) _ (sym (c .before .before .before .decode-hex .ensures) ∙ c .before .digit .given .1))
 
 add-i : tie.Need-add-i Inv-loop μ-loop
 add-i c = search needs
@@ -118,11 +124,11 @@ loop-again : tie.Need-loop-again Inv-loop μ-loop
 loop-again c = (
   omega arith,
   omega arith,
-  room-more (c .before .before .before .before .before .before .loop .left) (c .before .before .before .before .before .before .loop .v) (c .before .decode-hex .result) (c .before .before .before .before .before .loop-test .taken) (omega arith) (c .before .before .before .before .before .before .loop .inv .2) (omega (arith, c .before .decode-hex .ensures, hex-le (getD (c .before .before .before .before .before .before .before .before .before .before .before .args .s .now) (c .before .before .before .before .before .before .loop .i) 0), c .if5 .left)),
-  c .before .before .before .before .before .before .loop .inv .3
-      ∙ digits-more (c .before .before .before .before .before .before .loop .left) (c .before .before .before .before .before .before .loop .v) (c .before .before .before .before .before .before .before .before .before .before .before .args .at + c .before .before .before .before .before .before .loop .i) (c .before .before .before .before .before .before .loop .i) (c .before .before .before .before .before .before .before .before .before .before .before .args .s .now) (c .before .before .before .before .before .loop-test .taken) (c .before .before .before .before .if3 .left) (c .before .before .if4 .left) (λ e. c .if5 .left (c .before .decode-hex .ensures ∙ e))
-      ∙ ap (λ (h : ℕ). digitsOf (c .before .before .before .before .before .before .loop .left - 1) (c .before .before .before .before .before .before .loop .v * 16 + h) (c .before .before .before .before .before .before .before .before .before .before .before .args .at + c .before .before .before .before .before .before .loop .i + 1) (drop (c .before .before .before .before .before .before .loop .i + 1) (c .before .before .before .before .before .before .before .before .before .before .before .args .s .now))) (sym (c .before .decode-hex .ensures))
-      ∙ ap (λ (k : ℕ). digitsOf (c .before .before .before .before .before .before .loop .left - 1) (c .before .before .before .before .before .before .loop .v * 16 + c .before .decode-hex .result) k (drop (c .before .before .before .before .before .before .loop .i + 1) (c .before .before .before .before .before .before .before .before .before .before .before .args .s .now))) (omega arith),
+  room-more (c .before .before .before .before .before .before .before .before .loop .left) (c .before .before .before .before .before .before .before .before .loop .v) _ (c .before .before .before .before .before .before .before .loop-test .taken) (omega arith) (c .before .before .before .before .before .before .before .before .loop .inv .2) (digit-lt (getD (c .before .before .before .before .before .before .before .before .before .before .before .before .before .args .s .now) (c .before .before .before .before .before .before .before .before .loop .i) 0) _ (sym (c .before .before .before .decode-hex .ensures) ∙ c .before .digit .given .1)),
+  c .before .before .before .before .before .before .before .before .loop .inv .3
+      ∙ digits-more (c .before .before .before .before .before .before .before .before .loop .left) (c .before .before .before .before .before .before .before .before .loop .v) (c .before .before .before .before .before .before .before .before .before .before .before .before .before .args .at + c .before .before .before .before .before .before .before .before .loop .i) (c .before .before .before .before .before .before .before .before .loop .i) (c .before .before .before .before .before .before .before .before .before .before .before .before .before .args .s .now) (c .before .before .before .before .before .before .before .loop-test .taken) (c .before .before .before .before .before .before .if3 .left) (c .before .before .before .before .if4 .left) (digit-some (getD (c .before .before .before .before .before .before .before .before .before .before .before .before .before .args .s .now) (c .before .before .before .before .before .before .before .before .loop .i) 0) _ (sym (c .before .before .before .decode-hex .ensures) ∙ c .before .digit .given .1))
+      ∙ ap (λ (h : ℕ). digitsOf (c .before .before .before .before .before .before .before .before .loop .left - 1) (c .before .before .before .before .before .before .before .before .loop .v * 16 + h) (c .before .before .before .before .before .before .before .before .before .before .before .before .before .args .at + c .before .before .before .before .before .before .before .before .loop .i + 1) (drop (c .before .before .before .before .before .before .before .before .loop .i + 1) (c .before .before .before .before .before .before .before .before .before .before .before .before .before .args .s .now))) (sym (digit-value (getD (c .before .before .before .before .before .before .before .before .before .before .before .before .before .args .s .now) (c .before .before .before .before .before .before .before .before .loop .i) 0) _ (sym (c .before .before .before .decode-hex .ensures) ∙ c .before .digit .given .1)))
+      ∙ ap (λ (k : ℕ). digitsOf (c .before .before .before .before .before .before .before .before .loop .left - 1) (c .before .before .before .before .before .before .before .before .loop .v * 16 + c .before .digit .given .0 .0) k (drop (c .before .before .before .before .before .before .before .before .loop .i + 1) (c .before .before .before .before .before .before .before .before .before .before .before .before .before .args .s .now))) (omega arith),
   omega arith,
 )
 
@@ -171,6 +177,8 @@ unicode-escape-spec =
     close-requires
     returns-4
     decode-hex-requires
+    enum-known-digit
+    enum-told
     add-invalid
     sub-char-len
     part-char-len-start

@@ -1,7 +1,7 @@
 use mathlib.Core.Path.{_∙_, sym}
 use borrow.Author.Needs.{needs}
-use borrow.Author.Tests.{eq-eqb, ne-eqb}
 use Rattle.floats.proofs.float.float_suffix.Statement.{statement}
+use Rattle.integers.proofs.Words.{ident-here, ident-none}
 use Rattle.integers.specs.Words.{firstOf}
 use Rattle.floats.proofs.float.float_suffix.Tie as tie
 
@@ -13,7 +13,7 @@ check-ident-requires c κs = search needs
 
 returns : tie.Need-returns
 unfolding firstOf
-returns c = rw (c .before .check-ident .ensures) (simp (ne-eqb _ _ (λ z. c .if1 .taken (c .before .check-ident .ensures ∙ z))))
+returns c = simp (ident-here _ _ (sym (c .before .check-ident .ensures) ∙ c .if1 .taken))
 
 slice-aggregate-check-ident-2 : tie.Need-slice-aggregate-check-ident-2
 slice-aggregate-check-ident-2 c = search needs
@@ -23,14 +23,14 @@ check-ident-requires-2 c κs = search needs
 
 returns-2 : tie.Need-returns-2
 unfolding firstOf
-returns-2 c = rw (c .before .check-ident2 .ensures) (simp (eq-eqb _ _ (sym (c .before .before .before .before .check-ident .ensures) ∙ c .before .before .before .if1 .left), ne-eqb _ _ (λ z. c .if2 .taken (c .before .check-ident2 .ensures ∙ z))))
+returns-2 c = simp (ident-none _ _ (sym (c .before .before .before .before .check-ident .ensures) ∙ c .before .before .before .if1 .left), ident-here _ _ (sym (c .before .check-ident2 .ensures) ∙ c .if2 .taken))
 
 nothing-requires : tie.Need-nothing-requires
 nothing-requires c κs = search needs
 
 returns-3 : tie.Need-returns-3
 unfolding firstOf
-returns-3 c = rw (c .nothing .ensures) (simp (eq-eqb _ _ (sym (c .before .before .before .before .before .check-ident .ensures) ∙ c .before .before .before .before .if1 .left), eq-eqb _ _ (sym (c .before .before .check-ident2 .ensures) ∙ c .before .if2 .left)))
+returns-3 c = c .nothing .ensures ∙ simp (ident-none _ _ (sym (c .before .before .before .before .before .check-ident .ensures) ∙ c .before .before .before .before .if1 .left), ident-none _ _ (sym (c .before .before .check-ident2 .ensures) ∙ c .before .if2 .left))
 
 pub float-suffix-spec : {M : Type 1} → statement M
 float-suffix-spec =

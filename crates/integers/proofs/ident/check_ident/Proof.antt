@@ -1,7 +1,7 @@
 use native.Mathlib.Omega.{arith}
 use mathlib.Core.Path.{_∙_, sym}
 use lib.ListN.{length}
-use Rattle.integers.specs.Words.{identOf}
+use Rattle.integers.specs.Words.{identAt}
 use Rattle.text.proofs.Lists.{on-part}
 use Rattle.text.proofs.WordLaws.{starts-le}
 use Rattle.text.specs.Ahead.{nextAhead}
@@ -25,15 +25,15 @@ is-next-ahead-requires : tie.Need-is-next-ahead-requires
 is-next-ahead-requires c κs = search needs
 
 returns : tie.Need-returns
-unfolding identOf
+unfolding identAt
 returns c = simp (sym (c .before .before .before .before .check-str .ensures) ∙ c .before .before .before .if1 .taken, on-part nextAhead (c .before .before .before .before .before .before .before .args .t .now) (length (c .before .before .before .before .before .before .before .args .word .now)) _ _ (c .before .is-next-ahead .ensures) (c .if2 .taken))
 
 returns-2 : tie.Need-returns-2
-unfolding identOf
+unfolding identAt
 returns-2 c = simp (sym (c .before .before .before .before .check-str .ensures) ∙ c .before .before .before .if1 .taken, on-part nextAhead (c .before .before .before .before .before .before .before .args .t .now) (length (c .before .before .before .before .before .before .before .args .word .now)) _ _ (c .before .is-next-ahead .ensures) (c .if2 .left))
 
 returns-3 : tie.Need-returns-3
-unfolding identOf
+unfolding identAt
 returns-3 c = simp (sym (c .before .check-str .ensures) ∙ c .if1 .left)
 
 pub check-ident-spec : {M : Type 1} → statement M

@@ -1,7 +1,7 @@
 use Prim.Native.Nat.{ℕ}
 use mathlib.Core.List.{List}
 use mathlib.Core.Path.{_≡_, subst, sym}
-use Rattle.integers.specs.Words.{identOf}
+use Rattle.integers.specs.Words.{identAt}
 use borrow.Author.Needs.{needs}
 use Rattle.integers.proofs.WidthRows.{last-word}
 use Rattle.integers.proofs.suffix.suffix_at.Statement.{statement}
@@ -86,7 +86,7 @@ check-ident-requires-8 c κs = search needs
 
 returns-8 : tie.Need-returns-8
 returns-8 c =
-    subst (λ (w : List ℕ). c .check-ident8 .result ≡ identOf w (c .before .before .before .before .before .before .before .before .before .before .args .t .now))
+    subst (λ (w : List ℕ). c .check-ident8 .result ≡ identAt w (c .before .before .before .before .before .before .before .before .before .before .args .t .now))
     (sym (last-word _ (c .before .before .before .before .before .before .before .before .if1 .left) (c .before .before .before .before .before .before .before .if2 .left) (c .before .before .before .before .before .before .if3 .left) (c .before .before .before .before .before .if4 .left) (c .before .before .before .before .if5 .left) (c .before .before .before .if6 .left) (c .before .before .if7 .left)))
     (c .check-ident8 .ensures)
 

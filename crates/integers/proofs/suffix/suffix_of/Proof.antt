@@ -33,6 +33,9 @@ loop-holds c = (search needs, from-all (c .before .before .before .before .args 
 suffix-at-requires : tie.Need-suffix-at-requires Inv-loop μ-loop
 suffix-at-requires c κs = search needs
 
+suffix-len-requires : tie.Need-suffix-len-requires Inv-loop μ-loop
+suffix-len-requires c κs = search needs
+
 add-k : tie.Need-add-k Inv-loop μ-loop
 add-k c = search needs
 
@@ -47,8 +50,8 @@ returns-2 c = sym (c .before .loop .inv .1 ∙ from-none (c .before .loop .k) (c
 
 returns-3 : tie.Need-returns-3 Inv-loop μ-loop
 returns-3 c =
-    let e = c .before .suffix-at .ensures in
-    rw e (sym (c .before .before .before .loop .inv .1 ∙ from-here (c .before .before .before .loop .k) (c .before .before .before .before .before .before .before .before .args .t .now) (omega arith) (λ z. c .if3 .taken (e ∙ z))))
+    let e = sym (c .before .before .suffix-at .ensures) ∙ c .before .if3 .taken in
+    rw (c .suffix-len .ensures) (sym (c .before .before .before .before .loop .inv .1 ∙ from-here (c .before .before .before .before .loop .k) (c .before .before .before .before .before .before .before .before .before .args .t .now) (omega arith) e))
 
 pub suffix-of-spec : {M : Type 1} → statement M
 suffix-of-spec =
@@ -62,6 +65,7 @@ suffix-of-spec =
     returns
     loop-holds
     suffix-at-requires
+    suffix-len-requires
     add-k
     loop-less
     loop-again

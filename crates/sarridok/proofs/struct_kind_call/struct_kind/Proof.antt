@@ -6,7 +6,8 @@ use borrow.Author.Needs.{needs}
 use borrow.Author.Tests.{not-false, not-true}
 use Rattle.sarridok.proofs.StructPlaces.{kind-fits}
 use Rattle.sarridok.proofs.struct_kind_call.struct_kind.Statement.{statement}
-use Rattle.sarridok.specs.StructKind.{kindPlaced, structKindOf, toldStruct}
+use Rattle.sarridok.specs.StructKind.{structKindOf, toldStruct}
+use Rattle.structs.specs.Kinds.{placedKind}
 use Rattle.structs.specs.Structs.{structTypeOf}
 use Rattle.text.proofs.JudgeLaws.{front-fit, front-refused, front-unfit, place-within}
 use Rattle.text.proofs.Lists.{tail-part}
@@ -48,12 +49,12 @@ part-check-struct-type-end c = search needs
 check-struct-type-requires : tie.Need-check-struct-type-requires
 check-struct-type-requires c κs = search needs
 
-placed-kind-requires : tie.Need-placed-kind-requires
-placed-kind-requires c κs = rw (c .check-struct-type .ensures ∙ ap (λ (s : List ℕ). structTypeOf s (c .before .before .before .before .before .before .before .before .args .newtype) (c .before .before .before .before .before .before .before .before .args .tuple)) (tail-part (c .before .before .before .before .before .before .before .before .args .text .now) (c .before .before .before .before .before .before .before .before .args .place))) (kind-fits (c .before .before .before .before .before .before .before .before .args .text .now) (c .before .before .before .before .before .before .before .before .args .place) (c .before .before .before .before .before .before .before .before .args .newtype) (c .before .before .before .before .before .before .before .before .args .tuple) (place-within (c .before .before .before .before .before .before .before .before .args .text .now) (c .before .before .before .before .before .before .before .before .args .place) (sym (c .before .before .before .place-fits .ensures) ∙ not-false _ (c .before .before .if1 .left))) (omega arith))
+placed-requires : tie.Need-placed-requires
+placed-requires c κs = rw (c .check-struct-type .ensures ∙ ap (λ (s : List ℕ). structTypeOf s (c .before .before .before .before .before .before .before .before .args .newtype) (c .before .before .before .before .before .before .before .before .args .tuple)) (tail-part (c .before .before .before .before .before .before .before .before .args .text .now) (c .before .before .before .before .before .before .before .before .args .place))) (kind-fits (c .before .before .before .before .before .before .before .before .args .text .now) (c .before .before .before .before .before .before .before .before .args .place) (c .before .before .before .before .before .before .before .before .args .newtype) (c .before .before .before .before .before .before .before .before .args .tuple) (place-within (c .before .before .before .before .before .before .before .before .args .text .now) (c .before .before .before .before .before .before .before .before .args .place) (sym (c .before .before .before .place-fits .ensures) ∙ not-false _ (c .before .before .if1 .left))) (omega arith))
 
 returns-3 : tie.Need-returns-3
 unfolding structKindOf
-returns-3 c = ap toldStruct (c .placed-kind .ensures ∙ ap (kindPlaced (c .before .before .before .before .before .before .before .before .before .args .place)) (c .before .check-struct-type .ensures ∙ ap (λ (s : List ℕ). structTypeOf s (c .before .before .before .before .before .before .before .before .before .args .newtype) (c .before .before .before .before .before .before .before .before .before .args .tuple)) (tail-part (c .before .before .before .before .before .before .before .before .before .args .text .now) (c .before .before .before .before .before .before .before .before .before .args .place)))) ∙ sym (front-fit _ _ _ (sym (c .before .before .before .before .before .before .before .judge .ensures) ∙ c .before .before .before .before .before .enum-told .given .1) (sym (c .before .before .before .before .place-fits .ensures) ∙ not-false _ (c .before .before .before .if1 .left)))
+returns-3 c = ap toldStruct (c .placed .ensures ∙ ap (placedKind (c .before .before .before .before .before .before .before .before .before .args .place)) (c .before .check-struct-type .ensures ∙ ap (λ (s : List ℕ). structTypeOf s (c .before .before .before .before .before .before .before .before .before .args .newtype) (c .before .before .before .before .before .before .before .before .before .args .tuple)) (tail-part (c .before .before .before .before .before .before .before .before .before .args .text .now) (c .before .before .before .before .before .before .before .before .before .args .place)))) ∙ sym (front-fit _ _ _ (sym (c .before .before .before .before .before .before .before .judge .ensures) ∙ c .before .before .before .before .before .enum-told .given .1) (sym (c .before .before .before .before .place-fits .ensures) ∙ not-false _ (c .before .before .before .if1 .left)))
 
 pub struct-kind-spec : {M : Type 1} → statement M
 struct-kind-spec =
@@ -70,5 +71,5 @@ struct-kind-spec =
     part-check-struct-type-start
     part-check-struct-type-end
     check-struct-type-requires
-    placed-kind-requires
+    placed-requires
     returns-3)

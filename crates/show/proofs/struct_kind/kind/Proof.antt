@@ -1,5 +1,5 @@
 use mathlib.Core.Path.{sym, ap, _∙_}
-use Rattle.sarridok.specs.declared.struct_kind_call.StructKindAnswer.{StructKindAnswer}
+use Rattle.structs.specs.declared.kinds.StructAnswer.{StructAnswer}
 use Rattle.lines.specs.Ascii.{ascii}
 use Rattle.lines.specs.Out.{put}
 use Rattle.lines.proofs.OutLaws.{then}
@@ -41,7 +41,7 @@ same-length c = search needs
 -- src/struct_kind.rt:24:1
 returns : tie.Need-returns
 unfolding kindText
-returns c = then (c .before .before .before .before .before .before .before .before .before .before .before .before .before .args .o .now, c .before .before .before .before .before .before .before .before .before .before .before .before .before .args .at) _ _ (ascii "ok ") (kindName (c .before .before .before .before .before .before .before .before .before .before .r .given .0 .0)) (c .before .before .before .before .before .before .bytes .ensures) (c .before .before .name .ensures) ∙ sym (ap (λ (x : StructKindAnswer). put (c .before .before .before .before .before .before .before .before .before .before .before .before .before .args .o .now, c .before .before .before .before .before .before .before .before .before .before .before .before .before .args .at) (answerText kindText (toldStruct x))) (c .before .before .before .before .before .before .before .before .before .before .r .given .1))
+returns c = then (c .before .before .before .before .before .before .before .before .before .before .before .before .before .args .o .now, c .before .before .before .before .before .before .before .before .before .before .before .before .before .args .at) _ _ (ascii "ok ") (kindName (c .before .before .before .before .before .before .before .before .before .before .r .given .0 .0)) (c .before .before .before .before .before .before .bytes .ensures) (c .before .before .name .ensures) ∙ sym (ap (λ (x : StructAnswer). put (c .before .before .before .before .before .before .before .before .before .before .before .before .before .args .o .now, c .before .before .before .before .before .before .before .before .before .before .before .before .before .args .at) (answerText kindText (toldStruct x))) (c .before .before .before .before .before .before .before .before .before .before .r .given .1))
 
 -- src/struct_kind.rt:24:1
 same-length-2 : tie.Need-same-length-2
@@ -49,7 +49,7 @@ same-length-2 c = search needs
 
 -- src/struct_kind.rt:24:1
 returns-2 : tie.Need-returns-2
-returns-2 c = c .before .before .refused .ensures ∙ sym (ap (λ (x : StructKindAnswer). put (c .before .before .before .before .before .before .before .before .args .o .now, c .before .before .before .before .before .before .before .before .args .at) (answerText kindText (toldStruct x))) (c .before .before .before .before .before .r2 .given .1))
+returns-2 c = c .before .before .refused .ensures ∙ sym (ap (λ (x : StructAnswer). put (c .before .before .before .before .before .before .before .before .args .o .now, c .before .before .before .before .before .before .before .before .args .at) (answerText kindText (toldStruct x))) (c .before .before .before .before .before .r2 .given .1))
 
 pub kind-spec : {M : Type 1} → statement M
 kind-spec =

@@ -1,43 +1,44 @@
-use mathlib.Core.Path.{_∙_}
-use lib.ListN.{List·getD-eq-default}
 use borrow.Author.Needs.{needs}
-use borrow.Author.Tests.{eq-eqb, ne-eqb}
+use mathlib.Core.Path.{_∙_, _≡_, ap, sym}
+use Rattle.cursor.specs.declared.skip.Step.the-variants.{Moved, Refused}
+use Rattle.cursor.specs.declared.skip.Step.{Step}
+use Rattle.cursor.specs.inner.Chars.{expectedOf}
+use Rattle.strings.proofs.CursorLaws.{byteClosing, byte-closed}
 use Rattle.strings.proofs.chars.byte_ends.Statement.{statement}
 use Rattle.strings.specs.Chars.{byteEnds}
 use Rattle.strings.proofs.chars.byte_ends.Tie as tie
 
-no-byte-requires : tie.Need-no-byte-requires
-no-byte-requires c κs = search needs
+-- where the quote is asked for
+ends : (c : tie.After-expect-char) (x : Step) → c .expect-char .result ≡ x → byteClosing (c .before .before .before .args .byte) x ≡ byteEnds (c .before .before .before .args .s .now) (c .before .before .before .args .cursor .cursor) (c .before .before .before .args .byte)
+ends c x e =
+    ap (byteClosing (c .before .before .before .args .byte)) (sym e ∙ c .expect-char .ensures ∙ ap (expectedOf (c .before .before .before .args .s .now) (c .before .before .before .args .cursor) 0x27) (c .before .expected-byte-literal .ensures))
+    ∙ byte-closed (c .before .before .before .args .s .now) (c .before .before .before .args .cursor) (c .before .before .before .args .byte)
+
+expected-byte-literal-requires : tie.Need-expected-byte-literal-requires
+expected-byte-literal-requires c κs = search needs
+
+expect-char-requires : tie.Need-expect-char-requires
+expect-char-requires c κs = search needs
+
+enum-known-closed : tie.Need-enum-known-closed
+enum-known-closed c = search needs
+
+enum-known-closed-2 : tie.Need-enum-known-closed-2
+enum-known-closed-2 c = search needs
 
 returns : tie.Need-returns
-unfolding byteEnds
-returns c = c .no-byte .ensures ∙ simp (List·getD-eq-default (c .before .before .before .args .s .now) 0 (c .before .if1 .taken))
-
-shared-slice-read-if2 : tie.Need-shared-slice-read-if2
-shared-slice-read-if2 c = search needs
-
-add-t8 : tie.Need-add-t8
-add-t8 c = search needs
+returns c = ends (c .before .before .before) (Moved _) (c .before .closed .given .1)
 
 returns-2 : tie.Need-returns-2
-unfolding byteEnds
-returns-2 c = simp (eq-eqb _ _ (c .if2 .taken))
-
-no-byte-requires-2 : tie.Need-no-byte-requires-2
-no-byte-requires-2 c κs = search needs
-
-returns-3 : tie.Need-returns-3
-unfolding byteEnds
-returns-3 c = c .no-byte2 .ensures ∙ simp (ne-eqb _ _ (c .before .if2 .left))
+returns-2 c = ends (c .before .before .before) (Refused _) (c .before .closed2 .given .1)
 
 pub byte-ends-spec : {M : Type 1} → statement M
 byte-ends-spec =
     tie.close
     (tie.spec
-    no-byte-requires
+    expected-byte-literal-requires
+    expect-char-requires
+    enum-known-closed
+    enum-known-closed-2
     returns
-    shared-slice-read-if2
-    add-t8
-    returns-2
-    no-byte-requires-2
-    returns-3)
+    returns-2)

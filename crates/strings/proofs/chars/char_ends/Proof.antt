@@ -1,43 +1,44 @@
-use mathlib.Core.Path.{_∙_}
-use lib.ListN.{List·getD-eq-default}
 use borrow.Author.Needs.{needs}
-use borrow.Author.Tests.{eq-eqb, ne-eqb}
+use mathlib.Core.Path.{_∙_, _≡_, ap, sym}
+use Rattle.cursor.specs.declared.skip.Step.the-variants.{Moved, Refused}
+use Rattle.cursor.specs.declared.skip.Step.{Step}
+use Rattle.cursor.specs.inner.Chars.{expectedOf}
+use Rattle.strings.proofs.CursorLaws.{charClosing, char-closed}
 use Rattle.strings.proofs.chars.char_ends.Statement.{statement}
 use Rattle.strings.specs.Chars.{charEnds}
 use Rattle.strings.proofs.chars.char_ends.Tie as tie
 
-no-char-requires : tie.Need-no-char-requires
-no-char-requires c κs = search needs
+-- where the quote is asked for
+ends : (c : tie.After-expect-char) (x : Step) → c .expect-char .result ≡ x → charClosing (c .before .before .before .args .code) x ≡ charEnds (c .before .before .before .args .s .now) (c .before .before .before .args .cursor .cursor) (c .before .before .before .args .code)
+ends c x e =
+    ap (charClosing (c .before .before .before .args .code)) (sym e ∙ c .expect-char .ensures ∙ ap (expectedOf (c .before .before .before .args .s .now) (c .before .before .before .args .cursor) 0x27) (c .before .expected-char .ensures))
+    ∙ char-closed (c .before .before .before .args .s .now) (c .before .before .before .args .cursor) (c .before .before .before .args .code)
+
+expected-char-requires : tie.Need-expected-char-requires
+expected-char-requires c κs = search needs
+
+expect-char-requires : tie.Need-expect-char-requires
+expect-char-requires c κs = search needs
+
+enum-known-closed : tie.Need-enum-known-closed
+enum-known-closed c = search needs
+
+enum-known-closed-2 : tie.Need-enum-known-closed-2
+enum-known-closed-2 c = search needs
 
 returns : tie.Need-returns
-unfolding charEnds
-returns c = c .no-char .ensures ∙ simp (List·getD-eq-default (c .before .before .before .args .s .now) 0 (c .before .if1 .taken))
-
-shared-slice-read-if2 : tie.Need-shared-slice-read-if2
-shared-slice-read-if2 c = search needs
-
-add-t8 : tie.Need-add-t8
-add-t8 c = search needs
+returns c = ends (c .before .before .before) (Moved _) (c .before .closed .given .1)
 
 returns-2 : tie.Need-returns-2
-unfolding charEnds
-returns-2 c = simp (eq-eqb _ _ (c .if2 .taken))
-
-no-char-requires-2 : tie.Need-no-char-requires-2
-no-char-requires-2 c κs = search needs
-
-returns-3 : tie.Need-returns-3
-unfolding charEnds
-returns-3 c = c .no-char2 .ensures ∙ simp (ne-eqb _ _ (c .before .if2 .left))
+returns-2 c = ends (c .before .before .before) (Refused _) (c .before .closed2 .given .1)
 
 pub char-ends-spec : {M : Type 1} → statement M
 char-ends-spec =
     tie.close
     (tie.spec
-    no-char-requires
+    expected-char-requires
+    expect-char-requires
+    enum-known-closed
+    enum-known-closed-2
     returns
-    shared-slice-read-if2
-    add-t8
-    returns-2
-    no-char-requires-2
-    returns-3)
+    returns-2)

@@ -7,7 +7,8 @@ use Rattle.strings.proofs.PieceLaws.{fits}
 use Rattle.strings.proofs.pieces.behind_backslash.Statement.{statement}
 use Rattle.strings.specs.Pieces.{behindBackslash, byEscape}
 use Rattle.strings.specs.declared.pieces.Decoded.the-variants.{Nothing}
-use Rattle.strings.specs.declared.pieces.Piece.the-variants.{Backslash, Spoilt}
+use Rattle.strings.specs.declared.pieces.Piece.the-variants.{Backslash}
+use Rattle.strings.specs.declared.pieces.Piece.the-variants as pieces
 use Rattle.text.proofs.RunLaws.{run-le}
 use Rattle.text.specs.Classes.{continuationBlank}
 use Rattle.strings.proofs.pieces.behind_backslash.Tie as tie
@@ -56,7 +57,7 @@ returns-3 c = rw (sym (c .before .before .before .before .before .is-line-end .e
 
 returns-4 : tie.Need-returns-4
 unfolding behindBackslash
-returns-4 c = rw (sym (c .before .before .before .before .before .before .is-line-end .ensures) ∙ c .before .before .before .before .before .if1 .left) (ap Spoilt (c .placed-behind .ensures) ∙ ap byEscape (sym (c .before .before .r .given .1) ∙ c .before .before .before .before .parse-escape .ensures))
+returns-4 c = rw (sym (c .before .before .before .before .before .before .is-line-end .ensures) ∙ c .before .before .before .before .before .if1 .left) (ap pieces.Refused (c .placed-behind .ensures) ∙ ap byEscape (sym (c .before .before .r .given .1) ∙ c .before .before .before .before .parse-escape .ensures))
 
 pub behind-backslash-spec : {M : Type 1} → statement M
 behind-backslash-spec =

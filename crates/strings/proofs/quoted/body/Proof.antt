@@ -15,7 +15,7 @@ use Rattle.strings.proofs.quoted.body.Tie as tie
 use lib.ListN.{getD}
 use Rattle.escapes.specs.Escapes.{simpleOf}
 use Rattle.strings.specs.Pieces.{decodedLen}
-use Rattle.strings.specs.declared.pieces.Decoded.the-variants.{Byte}
+use Rattle.strings.specs.declared.pieces.Decoded.the-variants.{Ascii}
 use Rattle.strings.proofs.SimpleLaws.{simple-piece}
 
 abbrev Inv-loop : tie.InvT-loop
@@ -32,17 +32,17 @@ simple-escape-requires : tie.Need-simple-escape-requires Inv-loop μ-loop
 simple-escape-requires c κs = search needs
 
 add-at : tie.Need-add-at Inv-loop μ-loop
-add-at c = omega (arith, backslash-size (c .before .before .before .before .before .args .m) (c .before .before .before .before .before .args .s .now) (c .before .before .before .before .before .args .start) (c .before .before .before .loop .from) (c .before .before .before .loop .at) (c .before .before .before .loop .decoded) (c .before .before .before .loop .escaped) (c .before .before .loop-test .taken) 2 (Byte (simpleOf (getD (drop (c .before .before .before .loop .at) (c .before .before .before .before .before .args .s .now)) 1 0))) (simple-piece (c .before .before .before .before .before .args .m) (drop (c .before .before .before .loop .at) (c .before .before .before .before .before .args .s .now)) (sym (c .before .simple-escape .ensures) ∙ c .if1 .taken)) .1)
+add-at c = omega (arith, backslash-size (c .before .before .before .before .before .args .m) (c .before .before .before .before .before .args .s .now) (c .before .before .before .before .before .args .start) (c .before .before .before .loop .from) (c .before .before .before .loop .at) (c .before .before .before .loop .decoded) (c .before .before .before .loop .escaped) (c .before .before .loop-test .taken) 2 (Ascii (simpleOf (getD (drop (c .before .before .before .loop .at) (c .before .before .before .before .before .args .s .now)) 1 0))) (simple-piece (c .before .before .before .before .before .args .m) (drop (c .before .before .before .loop .at) (c .before .before .before .before .before .args .s .now)) (sym (c .before .simple-escape .ensures) ∙ c .if1 .taken)) .1)
 
 add-decoded : tie.Need-add-decoded Inv-loop μ-loop
-add-decoded c = omega (arith, backslash-size (c .before .before .before .before .before .args .m) (c .before .before .before .before .before .args .s .now) (c .before .before .before .before .before .args .start) (c .before .before .before .loop .from) (c .before .before .before .loop .at) (c .before .before .before .loop .decoded) (c .before .before .before .loop .escaped) (c .before .before .loop-test .taken) 2 (Byte (simpleOf (getD (drop (c .before .before .before .loop .at) (c .before .before .before .before .before .args .s .now)) 1 0))) (simple-piece (c .before .before .before .before .before .args .m) (drop (c .before .before .before .loop .at) (c .before .before .before .before .before .args .s .now)) (sym (c .before .simple-escape .ensures) ∙ c .if1 .taken)) .1)
+add-decoded c = omega (arith, backslash-size (c .before .before .before .before .before .args .m) (c .before .before .before .before .before .args .s .now) (c .before .before .before .before .before .args .start) (c .before .before .before .loop .from) (c .before .before .before .loop .at) (c .before .before .before .loop .decoded) (c .before .before .before .loop .escaped) (c .before .before .loop-test .taken) 2 (Ascii (simpleOf (getD (drop (c .before .before .before .loop .at) (c .before .before .before .before .before .args .s .now)) 1 0))) (simple-piece (c .before .before .before .before .before .args .m) (drop (c .before .before .before .loop .at) (c .before .before .before .before .before .args .s .now)) (sym (c .before .simple-escape .ensures) ∙ c .if1 .taken)) .1)
 
 loop-less : tie.Need-loop-less Inv-loop μ-loop
-loop-less c = omega (arith, backslash-size (c .before .before .before .before .before .args .m) (c .before .before .before .before .before .args .s .now) (c .before .before .before .before .before .args .start) (c .before .before .before .loop .from) (c .before .before .before .loop .at) (c .before .before .before .loop .decoded) (c .before .before .before .loop .escaped) (c .before .before .loop-test .taken) 2 (Byte (simpleOf (getD (drop (c .before .before .before .loop .at) (c .before .before .before .before .before .args .s .now)) 1 0))) (simple-piece (c .before .before .before .before .before .args .m) (drop (c .before .before .before .loop .at) (c .before .before .before .before .before .args .s .now)) (sym (c .before .simple-escape .ensures) ∙ c .if1 .taken)) .1)
+loop-less c = omega (arith, backslash-size (c .before .before .before .before .before .args .m) (c .before .before .before .before .before .args .s .now) (c .before .before .before .before .before .args .start) (c .before .before .before .loop .from) (c .before .before .before .loop .at) (c .before .before .before .loop .decoded) (c .before .before .before .loop .escaped) (c .before .before .loop-test .taken) 2 (Ascii (simpleOf (getD (drop (c .before .before .before .loop .at) (c .before .before .before .before .before .args .s .now)) 1 0))) (simple-piece (c .before .before .before .before .before .args .m) (drop (c .before .before .before .loop .at) (c .before .before .before .before .before .args .s .now)) (sym (c .before .simple-escape .ensures) ∙ c .if1 .taken)) .1)
 
 loop-again : tie.Need-loop-again Inv-loop μ-loop
 unfolding decodedLen
-loop-again c = let z = backslash-size (c .before .before .before .before .before .args .m) (c .before .before .before .before .before .args .s .now) (c .before .before .before .before .before .args .start) (c .before .before .before .loop .from) (c .before .before .before .loop .at) (c .before .before .before .loop .decoded) (c .before .before .before .loop .escaped) (c .before .before .loop-test .taken) 2 (Byte (simpleOf (getD (drop (c .before .before .before .loop .at) (c .before .before .before .before .before .args .s .now)) 1 0))) (simple-piece (c .before .before .before .before .before .args .m) (drop (c .before .before .before .loop .at) (c .before .before .before .before .before .args .s .now)) (sym (c .before .simple-escape .ensures) ∙ c .if1 .taken)) in (omega (arith, z .1), omega (arith, z .1), c .before .before .before .loop .inv .2 ∙ backslash-step (c .before .before .before .before .before .args .m) (c .before .before .before .before .before .args .s .now) (c .before .before .before .before .before .args .start) (c .before .before .before .loop .from) (c .before .before .before .loop .at) (c .before .before .before .loop .decoded) (c .before .before .before .loop .escaped) (c .before .before .loop-test .taken) 2 (Byte (simpleOf (getD (drop (c .before .before .before .loop .at) (c .before .before .before .before .before .args .s .now)) 1 0))) (simple-piece (c .before .before .before .before .before .args .m) (drop (c .before .before .before .loop .at) (c .before .before .before .before .before .args .s .now)) (sym (c .before .simple-escape .ensures) ∙ c .if1 .taken)))
+loop-again c = let z = backslash-size (c .before .before .before .before .before .args .m) (c .before .before .before .before .before .args .s .now) (c .before .before .before .before .before .args .start) (c .before .before .before .loop .from) (c .before .before .before .loop .at) (c .before .before .before .loop .decoded) (c .before .before .before .loop .escaped) (c .before .before .loop-test .taken) 2 (Ascii (simpleOf (getD (drop (c .before .before .before .loop .at) (c .before .before .before .before .before .args .s .now)) 1 0))) (simple-piece (c .before .before .before .before .before .args .m) (drop (c .before .before .before .loop .at) (c .before .before .before .before .before .args .s .now)) (sym (c .before .simple-escape .ensures) ∙ c .if1 .taken)) in (omega (arith, z .1), omega (arith, z .1), c .before .before .before .loop .inv .2 ∙ backslash-step (c .before .before .before .before .before .args .m) (c .before .before .before .before .before .args .s .now) (c .before .before .before .before .before .args .start) (c .before .before .before .loop .from) (c .before .before .before .loop .at) (c .before .before .before .loop .decoded) (c .before .before .before .loop .escaped) (c .before .before .loop-test .taken) 2 (Ascii (simpleOf (getD (drop (c .before .before .before .loop .at) (c .before .before .before .before .before .args .s .now)) 1 0))) (simple-piece (c .before .before .before .before .before .args .m) (drop (c .before .before .before .loop .at) (c .before .before .before .before .before .args .s .now)) (sym (c .before .simple-escape .ensures) ∙ c .if1 .taken)))
 
 sub-next-piece : tie.Need-sub-next-piece Inv-loop μ-loop
 sub-next-piece c = search needs

@@ -1,0 +1,162 @@
+/* Calls every function of the header, on a text and on nothing at all: NULL wherever a length is 0. Prints what does not hold; status 0 if all does. C11 and C++. */
+#include "sarridok.h"
+
+#include <stdio.h>
+#include <string.h>
+
+static int wrong = 0;
+
+#define HOLDS(what)                                                   \
+    do {                                                              \
+        if (!(what)) {                                                \
+            fprintf(stderr, "test.c:%d: not so: %s\n", __LINE__, #what); \
+            wrong = 1;                                                \
+        }                                                             \
+    } while (0)
+
+/* Whether an answer is this refusal. */
+static int refused(uint64_t answer, uint32_t number, uint32_t place) {
+    return sarridok_is_refused(answer) && sarridok_refusal_number(answer) == number && sarridok_refusal_place(answer) == place;
+}
+
+#define TEXT "Lock(id: -7, name: \"Foxton\")"
+#define EDIT "Lock(id: 512, name: \"Foxton\")"
+
+static const uint8_t *bytes(const char *s) { return (const uint8_t *)s; }
+
+static const uint8_t *const text = (const uint8_t *)TEXT;
+static const size_t text_len = sizeof TEXT - 1;
+static uint32_t tape[SARRIDOK_TAPE_FOR(sizeof EDIT)];
+static const size_t tape_len = sizeof tape / sizeof *tape;
+
+static void entry_is(size_t i, uint32_t kind, uint32_t start, uint32_t end, uint32_t detail) {
+    struct sarridok_entry entry = sarridok_entry(tape, i);
+    HOLDS(entry.kind == kind);
+    HOLDS(entry.start == start);
+    HOLDS(entry.end == end);
+    HOLDS(entry.detail == detail);
+}
+
+static void test_read(void) {
+    uint64_t answer = sarridok_read(text, text_len, tape, tape_len);
+    HOLDS(!sarridok_is_refused(answer));
+    HOLDS(sarridok_refusal_number(answer) == 0);
+    HOLDS(sarridok_count(answer) == 10);
+    entry_is(0, SARRIDOK_KIND_NAME, 0, 4, 0);
+    entry_is(1, SARRIDOK_KIND_OPEN_PAREN, 4, 5, 0);
+    entry_is(4, SARRIDOK_KIND_INTEGER, 9, 11, SARRIDOK_WIDTH_I8);
+    entry_is(8, SARRIDOK_KIND_STRING, 19, 27, 6);
+    entry_is(9, SARRIDOK_KIND_CLOSE_PAREN, 27, 28, 0);
+    HOLDS(refused(sarridok_read(bytes("[1 /x]"), 6, tape, tape_len), SARRIDOK_REFUSED_UNEXPECTED_CHAR, 5));
+    HOLDS(refused(sarridok_read(text, text_len, tape, 39), SARRIDOK_REFUSED_NO_ROOM, 0));
+    HOLDS(refused(sarridok_read(text, text_len, NULL, 0), SARRIDOK_REFUSED_NO_ROOM, 0));
+    HOLDS(sarridok_read(NULL, 0, NULL, 0) == 0);
+    HOLDS(sarridok_read(NULL, 0, tape, tape_len) == 0);
+    HOLDS(sarridok_read(bytes(" \n"), 2, NULL, 0) == 0);
+    HOLDS(sarridok_count(sarridok_read(text, text_len, tape, 40)) == 10);
+}
+
+static void test_walk(void) {
+    uint32_t links[10];
+    HOLDS(sarridok_walk(tape, 40, 10, 1, links, 10) == 0);
+    HOLDS(links[0] == 0 && links[1] == 9 && links[8] == 8 && links[9] == 1);
+    HOLDS(refused(sarridok_walk(tape, 40, 10, 0, links, 10), SARRIDOK_REFUSED_DEPTH_LIMIT_PASSED, 1));
+    HOLDS(refused(sarridok_walk(tape, 40, 10, SARRIDOK_MAX_DEPTH + 1, links, 10), SARRIDOK_REFUSED_UNFIT, 0));
+    HOLDS(refused(sarridok_walk(tape, 40, 10, 1, NULL, 0), SARRIDOK_REFUSED_NO_ROOM, 0));
+    HOLDS(refused(sarridok_walk(NULL, 0, 10, 1, links, 10), SARRIDOK_REFUSED_NOT_IN_ORDER, 0));
+    HOLDS(refused(sarridok_walk(NULL, 0, 0, 1, NULL, 0), SARRIDOK_REFUSED_TAPE_ENDS_EARLY, 0));
+}
+
+static void test_integer(void) {
+    uint64_t magnitude = 1;
+    uint64_t answer = sarridok_integer(text, text_len, 9, SARRIDOK_WIDTH_I64, &magnitude);
+    HOLDS(!sarridok_is_refused(answer));
+    HOLDS(sarridok_integer_minus(answer));
+    HOLDS(sarridok_integer_end(answer) == 11);
+    HOLDS(magnitude == 7);
+    HOLDS(refused(sarridok_integer(text, text_len, 9, 9, &magnitude), SARRIDOK_REFUSED_UNFIT, 0));
+    HOLDS(refused(sarridok_integer(NULL, 0, 0, SARRIDOK_WIDTH_U8, &magnitude), SARRIDOK_REFUSED_EOF, 0));
+    HOLDS(magnitude == 7);
+    HOLDS(!sarridok_integer_minus(sarridok_integer(bytes("5u8"), 3, 0, SARRIDOK_WIDTH_U8, &magnitude)));
+    HOLDS(magnitude == 5);
+}
+
+static void test_strings(void) {
+    uint8_t out[7] = "------";
+    uint64_t answer = sarridok_contents(text, text_len, tape, 40, 10, 8);
+    HOLDS(sarridok_contents_start(answer) == 20);
+    HOLDS(sarridok_contents_end(answer) == 26);
+    HOLDS(sarridok_count(sarridok_decoded(text, text_len, tape, 40, 10, 8, out, 7)) == 6);
+    HOLDS(memcmp(out, "Foxton", 7) == 0);
+    HOLDS(refused(sarridok_contents(text, text_len, tape, 40, 10, 0), SARRIDOK_REFUSED_OTHER_KIND, 0));
+    HOLDS(refused(sarridok_decoded(text, text_len, tape, 40, 10, 8, out, 5), SARRIDOK_REFUSED_NO_ROOM, 0));
+    HOLDS(refused(sarridok_decoded(text, text_len, tape, 40, 10, 8, NULL, 0), SARRIDOK_REFUSED_NO_ROOM, 0));
+    HOLDS(refused(sarridok_contents(NULL, 0, NULL, 0, 0, 0), SARRIDOK_REFUSED_UNFIT, 0));
+    HOLDS(refused(sarridok_decoded(NULL, 0, NULL, 0, 0, 0, NULL, 0), SARRIDOK_REFUSED_UNFIT, 0));
+    uint32_t empty[4];
+    HOLDS(sarridok_read(bytes("\"\""), 2, empty, 4) == 1);
+    HOLDS(sarridok_decoded(bytes("\"\""), 2, empty, 4, 1, 0, NULL, 0) == 0);
+}
+
+static void test_struct_kind(void) {
+    uint64_t answer = sarridok_struct_kind(text, text_len, 4, SARRIDOK_NEWTYPE_NO_PARENS_MEAN_UNIT, SARRIDOK_TUPLE_DIFFERENTIATE_NEWTYPE);
+    HOLDS(!sarridok_is_refused(answer));
+    HOLDS(sarridok_struct_type(answer) == SARRIDOK_STRUCT_NAMED);
+    HOLDS(sarridok_struct_type(sarridok_struct_kind(NULL, 0, 0, 0, 0)) == SARRIDOK_STRUCT_UNIT);
+    HOLDS(refused(sarridok_struct_kind(text, text_len, 4, 2, 0), SARRIDOK_REFUSED_UNFIT, 0));
+}
+
+static void test_skip(void) {
+    uint64_t pre = 1, len = 1;
+    HOLDS(sarridok_skip_cursor(sarridok_skip(bytes("  //"), 4, 0, 0, 0, &pre, &len)) == 4);
+    HOLDS(pre == 0 && len == SARRIDOK_UNCLOSED_LINE);
+    HOLDS(refused(sarridok_skip(bytes("/*"), 2, 0, 0, 0, &pre, &len), SARRIDOK_REFUSED_UNCLOSED_BLOCK_COMMENT, 2));
+    HOLDS(pre == 0 && len == SARRIDOK_UNCLOSED_LINE);
+    HOLDS(sarridok_skip_cursor(sarridok_skip(NULL, 0, 0, 0, 0, &pre, &len)) == 0);
+    HOLDS(pre == 0 && len == 0);
+}
+
+/* A repair answers what a fresh reading does. */
+static void test_repair(void) {
+    uint32_t fresh[SARRIDOK_TAPE_FOR(sizeof EDIT)];
+    uint64_t before = 0, behind = 0;
+    memset(fresh, 0, sizeof fresh);
+    memset(tape, 0, sizeof tape);
+    HOLDS(sarridok_count(sarridok_read(text, text_len, tape, tape_len)) == 10);
+    HOLDS(sarridok_count(sarridok_read(bytes(EDIT), sizeof EDIT - 1, fresh, tape_len)) == 10);
+    uint64_t answer = sarridok_repair(tape, tape_len, 10, text_len, 9, 11, bytes(EDIT), sizeof EDIT - 1, &before, &behind);
+    HOLDS(sarridok_count(answer) == 10);
+    HOLDS(before == 4 && behind == 5);
+    HOLDS(memcmp(tape, fresh, sizeof tape) == 0);
+    entry_is(4, SARRIDOK_KIND_INTEGER, 9, 12, SARRIDOK_WIDTH_U16);
+    HOLDS(refused(sarridok_repair(tape, tape_len, 10, 5, 9, 11, text, text_len, &before, &behind), SARRIDOK_REFUSED_NOT_IN_ORDER, 0));
+    HOLDS(before == 4 && behind == 5);
+    HOLDS(sarridok_repair(NULL, 0, 0, 0, 0, 0, NULL, 0, &before, &behind) == 0);
+    HOLDS(before == 0 && behind == 0);
+    HOLDS(sarridok_repair(tape, tape_len, 10, sizeof EDIT - 1, 0, sizeof EDIT - 1, NULL, 0, &before, &behind) == 0);
+    entry_is(9, 0, 0, 0, 0);
+}
+
+/* 0, 3 and the numbers behind the last have no sentence of their own. */
+static void test_refusals(void) {
+    const char *none = sarridok_refusal_text(0);
+    HOLDS(strcmp(none, "no refusal of the table") == 0);
+    for (uint32_t number = 1; number < 40; number++) {
+        int known = number != 3 && number <= SARRIDOK_REFUSED_HOLDS_ESCAPE;
+        HOLDS((strcmp(sarridok_refusal_text(number), none) != 0) == known);
+    }
+    HOLDS(strcmp(sarridok_refusal_text(SARRIDOK_REFUSED_EXPECTED_STRING_END), "the string is not closed") == 0);
+}
+
+int main(void) {
+    HOLDS(sarridok_version() == SARRIDOK_VERSION);
+    test_read();
+    test_walk();
+    test_integer();
+    test_strings();
+    test_struct_kind();
+    test_skip();
+    test_repair();
+    test_refusals();
+    return wrong;
+}

@@ -1,0 +1,1 @@
+//! The properties stand in `tests`.

@@ -1,0 +1,145 @@
+//! What the properties are given: texts that are nearly good, tapes that are nearly in order, numbers that nearly fit.
+
+use crate::checks::GOOD;
+use quickcheck::{Arbitrary, Gen};
+use std::ops::Range;
+
+/// What means much in a text.
+const PIECES: &[&str] = &[
+    "", " ", ",", "/*", "*/", "//", "\n", "\"", "'", "\\", "7", "x", "(", ")", "[1]", "{", "}", ":", "r#", "b'", "br#\"", "#![", "enable(",
+    "]", "é", " lock ", "0x", "_", ".", "e", "-", "+", "u8", "inf", "\\u{", "\\x4", "\u{85}", "\u{301}",
+];
+
+fn below(g: &mut Gen, n: usize) -> usize {
+    usize::arbitrary(g) % n
+}
+
+/// One of good texts.
+#[derive(Clone, Debug)]
+pub struct Good(pub &'static [u8]);
+
+impl Arbitrary for Good {
+    fn arbitrary(g: &mut Gen) -> Good {
+        Good(g.choose(GOOD).expect("there are some").as_bytes())
+    }
+}
+
+/// Something to put into a text: a piece, half a character, or any bytes.
+#[derive(Clone, Debug)]
+pub struct Piece(pub Vec<u8>);
+
+impl Arbitrary for Piece {
+    fn arbitrary(g: &mut Gen) -> Piece {
+        Piece(match below(g, 10) {
+            0 => Vec::arbitrary(g),
+            1 => b"\xC3".to_vec(),
+            _ => g.choose(PIECES).expect("there are some").as_bytes().to_vec(),
+        })
+    }
+
+    fn shrink(&self) -> Box<dyn Iterator<Item = Piece>> {
+        Box::new(self.0.shrink().map(Piece))
+    }
+}
+
+/// Bytes of any kind: any at all, pieces in a row, or a good text with some damage.
+#[derive(Clone, Debug)]
+pub struct Text(pub Vec<u8>);
+
+impl Arbitrary for Text {
+    fn arbitrary(g: &mut Gen) -> Text {
+        Text(match below(g, 4) {
+            0 => Vec::arbitrary(g),
+            1 => Vec::<Piece>::arbitrary(g).into_iter().take(30).flat_map(|piece| piece.0).collect(),
+            _ => {
+                let mut text = Good::arbitrary(g).0.to_vec();
+                for _ in 0..=below(g, 3) {
+                    let Cut { from, to } = Cut::arbitrary(g);
+                    text.splice(between(from, to, text.len()), Piece::arbitrary(g).0);
+                }
+                text
+            }
+        })
+    }
+
+    fn shrink(&self) -> Box<dyn Iterator<Item = Text>> {
+        Box::new(self.0.shrink().map(Text))
+    }
+}
+
+/// Where a text is cut, mostly a few bytes of it; which ones its length decides.
+#[derive(Clone, Debug)]
+pub struct Cut {
+    from: usize,
+    to: usize,
+}
+
+fn between(from: usize, to: usize, len: usize) -> Range<usize> {
+    let start = from % (len + 1);
+    start..start + to % (len + 1 - start)
+}
+
+impl Cut {
+    /// The cut of a text of so many bytes.
+    pub fn of(&self, len: usize) -> Range<usize> {
+        between(self.from, self.to, len)
+    }
+}
+
+impl Arbitrary for Cut {
+    fn arbitrary(g: &mut Gen) -> Cut {
+        let from = usize::arbitrary(g);
+        let to = if bool::arbitrary(g) { below(g, 4) } else { usize::arbitrary(g) };
+        Cut { from, to }
+    }
+}
+
+/// A number that mostly fits a bound, is often next to it, and sometimes of any size.
+#[derive(Clone, Debug)]
+pub enum Near {
+    Within(usize),
+    Behind(usize),
+    Any(usize),
+}
+
+impl Near {
+    /// The number near a bound.
+    pub fn of(&self, bound: usize) -> usize {
+        match *self {
+            Near::Within(n) => n % (bound + 1),
+            Near::Behind(n) => bound + n,
+            Near::Any(n) => n,
+        }
+    }
+}
+
+impl Arbitrary for Near {
+    fn arbitrary(g: &mut Gen) -> Near {
+        match below(g, 8) {
+            0 => Near::Behind(below(g, 3)),
+            1 => Near::Any(usize::MAX - below(g, 2)),
+            2 => Near::Any(usize::arbitrary(g)),
+            _ => Near::Within(usize::arbitrary(g)),
+        }
+    }
+}
+
+/// Numbers of a tape, mostly small, mostly a whole number of entries.
+#[derive(Clone, Debug)]
+pub struct Tape(pub Vec<u32>);
+
+impl Arbitrary for Tape {
+    fn arbitrary(g: &mut Gen) -> Tape {
+        let len = 4 * below(g, 8) + below(g, 8).saturating_sub(4);
+        let number = |g: &mut Gen| match below(g, 16) {
+            0 => u32::arbitrary(g),
+            1 => u32::MAX,
+            _ => below(g, 18) as u32,
+        };
+        Tape((0..len).map(|_| number(g)).collect())
+    }
+
+    fn shrink(&self) -> Box<dyn Iterator<Item = Tape>> {
+        Box::new(self.0.shrink().map(Tape))
+    }
+}

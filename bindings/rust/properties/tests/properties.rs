@@ -1,0 +1,170 @@
+//! What holds of every text, tape and number.
+
+#[path = "../../tests/checks/mod.rs"]
+mod checks;
+mod given;
+
+use checks::*;
+use given::*;
+use quickcheck::{QuickCheck, TestResult, Testable};
+use sarridok::*;
+use std::fmt::{Debug, Display};
+use std::sync::atomic::{AtomicU64, Ordering};
+
+/// A property of so many cases.
+fn holds<P: Testable>(cases: u64, property: P) {
+    QuickCheck::new().tests(cases).quickcheck(property);
+}
+
+#[test]
+fn every_call_on_any_text() {
+    fn property(text: Text) {
+        all_calls(&text.0);
+    }
+    holds(1500, property as fn(Text));
+}
+
+#[test]
+fn any_place_and_cursor() {
+    fn property(text: Text, place: Near, pre: Near, len: Near) {
+        let text = &text.0;
+        checked_place(text, place.of(text.len()));
+        let cursor = ParserCursor {
+            cursor: place.of(text.len()),
+            pre_ws_cursor: pre.of(text.len()),
+            last_ws_len: len.of(text.len()),
+        };
+        if let Err(refused) = skip(text, cursor) {
+            is_refusal(refused, text);
+        }
+    }
+    holds(2000, property as fn(Text, Near, Near, Near));
+}
+
+#[test]
+fn any_tape() {
+    fn property(tape: Tape, text: Good, count: Near, limit: Near, entry: Near) {
+        let (tape, text, rows) = (&tape.0, text.0, tape.0.len() / ENTRY);
+        let (count, entry) = (count.of(rows), entry.of(rows));
+        let _ = checked_walk(tape, count, limit.of(MAX_DEPTH), rows);
+        let mut out = [0xEE; 8];
+        if decoded(text, tape, count, entry, &mut out).is_err() {
+            assert_eq!(out, [0xEE; 8]);
+        }
+        let _ = contents(text, tape, count, entry);
+        let mut lent = tape.clone();
+        let document = Document::from_parts(text, &mut lent, count);
+        assert!(document.entries().count() <= count);
+        for (number, entry) in document.entries().enumerate() {
+            assert_eq!(document.entry(number), Some(entry));
+        }
+        let _ = document.integer(entry);
+    }
+    holds(4000, property as fn(Tape, Good, Near, Near, Near));
+}
+
+#[test]
+fn any_tape_and_cut_in_a_repair() {
+    fn property(tape: Tape, text: Good, count: Near, len: Near, start: Near, end: Near) {
+        let (rows, most) = (tape.0.len() / ENTRY, text.0.len());
+        let mut repaired = tape.0.clone();
+        let cut = start.of(most)..end.of(most);
+        if repair(&mut repaired, count.of(rows), len.of(most), cut, text.0).is_err() {
+            assert_eq!(repaired, tape.0);
+        }
+    }
+    holds(4000, property as fn(Tape, Good, Near, Near, Near, Near));
+}
+
+#[test]
+fn repairs_are_fresh_readings() {
+    static ACCEPTED: AtomicU64 = AtomicU64::new(0);
+    fn property(old: Good, cut: Cut, piece: Piece) {
+        let accepted = checked_repair(old.0, cut.of(old.0.len()), &piece.0);
+        ACCEPTED.fetch_add(accepted.into(), Ordering::Relaxed);
+    }
+    holds(4000, property as fn(Good, Cut, Piece));
+    assert!(400 < ACCEPTED.load(Ordering::Relaxed), "hardly a repair was accepted");
+}
+
+/// An integer written by Rust is read in a width exactly where it fits the type of that width, else refused at its end.
+fn read_back<T>(number: i128, width: Width) -> bool
+where
+    T: TryFrom<i128> + TryFrom<Value, Error = ValueOutOfRange> + PartialEq + Debug + Display + Copy,
+    Value: From<T>,
+{
+    let text = number.to_string();
+    match (T::try_from(number), integer(text.as_bytes(), 0, width)) {
+        (Ok(fits), Ok((value, end))) => T::try_from(value) == Ok(fits) && value == Value::from(fits) && end == text.len(),
+        (Err(_), Err(refused)) => refused == Refused::new(Refusal::IntegerOutOfBounds, text.len()),
+        _ => false,
+    }
+}
+
+#[test]
+fn integers_are_read_back() {
+    fn property(number: i128, bits: u8) -> bool {
+        let number = number >> (bits % 128);
+        read_back::<i8>(number, Width::I8)
+            && read_back::<i16>(number, Width::I16)
+            && read_back::<i32>(number, Width::I32)
+            && read_back::<i64>(number, Width::I64)
+            && read_back::<u8>(number, Width::U8)
+            && read_back::<u16>(number, Width::U16)
+            && read_back::<u32>(number, Width::U32)
+            && read_back::<u64>(number, Width::U64)
+    }
+    holds(4000, property as fn(i128, u8) -> bool);
+}
+
+#[test]
+fn values_fit_as_their_numbers_do() {
+    fn property(magnitude: u64, minus: i64, bits: u8) -> bool {
+        let values = [Value::from(magnitude >> (bits % 64)), Value::from(minus >> (bits % 64))];
+        values.iter().all(|value| {
+            let number = i128::from(*value);
+            i8::try_from(*value).ok() == i8::try_from(number).ok()
+                && i16::try_from(*value).ok() == i16::try_from(number).ok()
+                && i32::try_from(*value).ok() == i32::try_from(number).ok()
+                && i64::try_from(*value).ok() == i64::try_from(number).ok()
+                && u8::try_from(*value).ok() == u8::try_from(number).ok()
+                && u16::try_from(*value).ok() == u16::try_from(number).ok()
+                && u32::try_from(*value).ok() == u32::try_from(number).ok()
+                && u64::try_from(*value).ok() == u64::try_from(number).ok()
+        })
+    }
+    holds(2000, property as fn(u64, i64, u8) -> bool);
+}
+
+/// What Rust writes as a string with escapes decodes to the string.
+#[test]
+fn strings_are_read_back() {
+    fn property(string: String) -> TestResult {
+        let text = format!("{string:?}");
+        if MAX_TEXT < text.len() {
+            return TestResult::discard();
+        }
+        let mut tape = [0; ENTRY];
+        let document = Document::read(text.as_bytes(), &mut tape).expect("a string is read");
+        assert_eq!(
+            document.entry(0),
+            Some(Entry::new(Kind::String, 0..text.len(), string.len() as u32))
+        );
+        let mut out = vec![0; string.len()];
+        assert_eq!(document.decoded(0, &mut out), Ok(string.as_bytes()));
+        TestResult::from_bool(document.contents(0).is_ok() != text.contains('\\'))
+    }
+    holds(2000, property as fn(String) -> TestResult);
+}
+
+/// And a character is the detail of its entry.
+#[test]
+fn characters_are_read_back() {
+    fn property(character: char) {
+        let text = format!("{character:?}");
+        let mut tape = [0; ENTRY];
+        let document = Document::read(text.as_bytes(), &mut tape).expect("a char is read");
+        assert_eq!(document.entry(0).and_then(|entry| entry.character()), Some(character));
+    }
+    holds(2000, property as fn(char));
+}

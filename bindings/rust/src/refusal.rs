@@ -1,0 +1,143 @@
+//! Refusals: each with its number and its sentence, from the one table in `docs/refusals.txt`.
+
+use crate::numbered::UnknownNumber;
+use core::fmt;
+
+/// The enum, and what is read off the table: a line is number, name and sentence.
+macro_rules! refusals {
+    ($($number:literal $name:ident $text:literal,)*) => {
+        /// Why a call is refused. Later versions add refusals.
+        ///
+        /// ```
+        /// use sarridok::Refusal;
+        /// assert_eq!(Refusal::NoRoom.number(), 22);
+        /// assert_eq!(Refusal::try_from(4), Ok(Refusal::UnclosedBlockComment));
+        /// assert_eq!(Refusal::UnclosedBlockComment.to_string(), "a block comment is not closed");
+        /// assert_eq!(Refusal::try_from(3).unwrap_err().to_string(), "3 is the number of no refusal");
+        /// ```
+        #[derive(Clone, Copy, Debug, PartialEq, Eq, Hash)]
+        #[non_exhaustive]
+        pub enum Refusal {
+            $(#[doc = $text] $name,)*
+            /// A number that this version does not know: the archive that was linked is a later one's.
+            #[non_exhaustive]
+            Unknown(u8),
+        }
+
+        impl Refusal {
+            /// Every refusal of the table, in the order of their numbers.
+            pub const ALL: &'static [Refusal] = &[$(Refusal::$name,)*];
+
+            /// Its number. No refusal has 0, and 3 is reserved.
+            pub const fn number(self) -> u8 {
+                match self {
+                    $(Refusal::$name => $number,)*
+                    Refusal::Unknown(number) => number,
+                }
+            }
+
+            /// Its sentence.
+            pub const fn text(self) -> &'static str {
+                match self {
+                    $(Refusal::$name => $text,)*
+                    Refusal::Unknown(_) => "no refusal that this version knows",
+                }
+            }
+        }
+
+        impl TryFrom<u8> for Refusal {
+            type Error = UnknownNumber;
+
+            fn try_from(number: u8) -> Result<Refusal, UnknownNumber> {
+                match number {
+                    $($number => Ok(Refusal::$name),)*
+                    _ => Err(UnknownNumber::new("refusal", number.into())),
+                }
+            }
+        }
+    };
+}
+
+// refusals: written by docs/refusals
+refusals! {
+    1 TooLong "the text is longer than 65,536 bytes",
+    2 NotUtf8 "the text is not UTF-8 here",
+    4 UnclosedBlockComment "a block comment is not closed",
+    5 UnexpectedChar "an unexpected character stands here or just before",
+    6 Eof "the text ends where a character is needed",
+    7 ExpectedInteger "an integer is expected",
+    8 UnderscoreAtBeginning "an integer cannot begin with an underscore",
+    9 InvalidIntegerDigit "this digit is not below the integer's base",
+    10 IntegerOutOfBounds "the integer is out of bounds",
+    11 ExpectedFloat "a float is expected",
+    12 FloatUnderscore "an underscore is misplaced in the float",
+    13 InvalidEscape "the escape is not valid",
+    14 ExpectedChar "a char is expected",
+    15 ExpectedByteLiteral "a byte literal is expected",
+    16 ExpectedString "a string is expected",
+    17 ExpectedStringEnd "the string is not closed",
+    18 ExpectedByteString "a byte string is expected",
+    19 ExpectedAttribute "an attribute is expected",
+    20 ExpectedAttributeEnd "the end of the attribute is expected",
+    21 NoSuchExtension "the extension is not known",
+    22 NoRoom "there is no room: the tape, the links or the buffer is too short",
+    23 NotInOrder "the cut, the lengths or the tape are not in order",
+    24 DepthLimitPassed "more brackets are open than the limit allows",
+    25 NotAllowedHere "this cannot stand here",
+    26 TapeEndsEarly "the text ends before its value does",
+    27 OtherKind "the entry or the suffix is of another kind",
+    28 Unfit "a place, entry number, cursor, limit, width or mode is unfit",
+    29 HoldsEscape "the contents hold an escape or a line continuation",
+}
+// refusals: end
+
+impl From<Refusal> for u8 {
+    fn from(refusal: Refusal) -> u8 {
+        refusal.number()
+    }
+}
+
+impl fmt::Display for Refusal {
+    fn fmt(&self, f: &mut fmt::Formatter<'_>) -> fmt::Result {
+        f.write_str(self.text())
+    }
+}
+
+/// What a call was refused with. It has written nothing.
+///
+/// ```
+/// use sarridok::{Refusal, Refused};
+/// let refused = sarridok::read(b"/*/*/", &mut []).unwrap_err();
+/// assert_eq!(refused, Refused::new(Refusal::UnclosedBlockComment, 5));
+/// assert_eq!(refused.to_string(), "refused 4 at 5: a block comment is not closed");
+/// ```
+#[derive(Clone, Copy, Debug, PartialEq, Eq, Hash)]
+#[non_exhaustive]
+pub struct Refused {
+    /// Why.
+    pub refusal: Refusal,
+    /// A byte of the text; for [`Refusal::DepthLimitPassed`] and [`Refusal::NotAllowedHere`] an entry's number, for [`Refusal::TapeEndsEarly`] the number of
+    /// entries.
+    pub place: usize,
+}
+
+impl Refused {
+    /// A refusal at a place.
+    pub const fn new(refusal: Refusal, place: usize) -> Refused {
+        Refused { refusal, place }
+    }
+
+    /// The refusal's number.
+    pub const fn number(&self) -> u8 {
+        self.refusal.number()
+    }
+}
+
+impl fmt::Display for Refused {
+    fn fmt(&self, f: &mut fmt::Formatter<'_>) -> fmt::Result {
+        write!(f, "refused {} at {}: {}", self.number(), self.place, self.refusal)
+    }
+}
+
+#[cfg(feature = "std")]
+impl std::error::Error for Refused {}

@@ -1,0 +1,195 @@
+//! What holds of all answers, asked of each: a refused call writes nothing, an accepted one nothing behind what it tells.
+#![allow(dead_code)]
+
+use sarridok::*;
+
+pub const MARK: u32 = 0xA5A5_A5A5;
+
+/// Texts that are read.
+pub const GOOD: &[&str] = &[
+    "Lock(id: 7)",
+    "#![enable(implicit_some)]\nNetwork(name: \"Midland\", at: (52.07, -1.63), nodes: [1, 2u8, 0xFF, b'a',])",
+    "{\"a\\u{e9}\": r#\"raw \"quoted\"\"#, 'c': b\"bytes\\x00\", r#type: inf, x: NaN,}",
+    "// a line\n/* a /* nested */ block */ [-1i8, +2.5e3f32, 1_000, 0b1010_1010u16]",
+    "((((((((()))))))))",
+    "\u{2028}Weir\u{85}(  )\t\r\n// to the end",
+    "\"\\xC3\\xA9\\\n   more\"",
+    "Dŵr(λίμνη: 水路, r#река: 'é')",
+    "",
+];
+
+/// A tape full of marks, with room for every entry of a text.
+pub fn marked(text: &[u8]) -> Vec<u32> {
+    vec![MARK; ENTRY * (text.len() + 2)]
+}
+
+pub fn is_refusal(refused: Refused, text: &[u8]) {
+    assert!(Refusal::ALL.contains(&refused.refusal), "{refused}");
+    assert!(refused.place <= text.len(), "{refused}");
+}
+
+/// Reads, and asks what holds of every read.
+pub fn checked_read(text: &[u8]) -> Result<(Vec<u32>, usize), Refused> {
+    let mut tape = marked(text);
+    match read(text, &mut tape) {
+        Ok(count) => {
+            let mut last = 0;
+            assert_eq!(entries(&tape, count).count(), count);
+            for entry in entries(&tape, count) {
+                assert!(last <= entry.start && entry.start < entry.end && entry.end <= text.len());
+                last = entry.end;
+            }
+            assert!(tape[ENTRY * count..].iter().all(|n| *n == MARK));
+            if 0 < count {
+                let mut short = vec![MARK; ENTRY * count - 1];
+                assert_eq!(read(text, &mut short), Err(Refused::new(Refusal::NoRoom, 0)));
+                assert!(short.iter().all(|n| *n == MARK));
+            }
+            Ok((tape, count))
+        }
+        Err(refused) => {
+            is_refusal(refused, text);
+            assert!(tape.iter().all(|n| *n == MARK));
+            Err(refused)
+        }
+    }
+}
+
+/// Walks at a limit, and asks what holds of every walk.
+pub fn checked_walk(tape: &[u32], count: usize, limit: usize, room: usize) -> Result<Vec<u32>, Refused> {
+    let mut links = vec![MARK; room];
+    match walk(tape, count, limit, &mut links) {
+        Ok(()) => {
+            assert!(limit <= MAX_DEPTH && count <= room);
+            assert!(links[count..].iter().all(|n| *n == MARK));
+            for (i, link) in links[..count].iter().enumerate() {
+                assert_eq!(links[*link as usize] as usize, i);
+            }
+            Ok(links)
+        }
+        Err(refused) => {
+            assert!((22..=28).contains(&refused.number()), "{refused}");
+            assert!(links.iter().all(|n| *n == MARK));
+            Err(refused)
+        }
+    }
+}
+
+/// Contents and decoding of every entry of a tape, and of one behind the last.
+pub fn checked_strings(text: &[u8], tape: &[u32], count: usize) {
+    let mut room = vec![0xEE; text.len() + 1];
+    for entry in 0..=count {
+        room.fill(0xEE);
+        match decoded(text, tape, count, entry, &mut room) {
+            Ok(n) => {
+                assert!(room[n..].iter().all(|b| *b == 0xEE));
+                if let Ok(part) = contents(text, tape, count, entry) {
+                    assert_eq!(part, &room[..n]);
+                }
+                if 0 < n {
+                    let mut short = vec![0xEE; n - 1];
+                    let refused = decoded(text, tape, count, entry, &mut short).unwrap_err();
+                    assert_eq!(refused, Refused::new(Refusal::NoRoom, 0));
+                    assert!(short.iter().all(|b| *b == 0xEE));
+                }
+            }
+            Err(refused) => {
+                is_refusal(refused, text);
+                assert!(room.iter().all(|b| *b == 0xEE));
+                assert_eq!(contents(text, tape, count, entry), Err(refused));
+            }
+        }
+    }
+}
+
+/// The calls at a place.
+pub fn checked_place(text: &[u8], place: usize) {
+    for width in Width::ALL {
+        match integer(text, place, *width) {
+            Ok((value, end)) => {
+                assert!(place < end && end <= text.len());
+                assert!(!(value.minus && value.magnitude == 0));
+            }
+            Err(refused) => is_refusal(refused, text),
+        }
+    }
+    for newtype in NewtypeMode::ALL {
+        for tuple in TupleMode::ALL {
+            if let Err(refused) = struct_kind(text, place, *newtype, *tuple) {
+                is_refusal(refused, text);
+            }
+        }
+    }
+    match skip(text, ParserCursor::at(place)) {
+        Ok(moved) => {
+            assert!(place <= moved.cursor && moved.cursor <= text.len() && moved.pre_ws_cursor <= moved.cursor);
+            let again = skip(text, moved).expect("a cursor that was handed out fits");
+            assert_eq!(again.cursor, moved.cursor);
+        }
+        Err(refused) => is_refusal(refused, text),
+    }
+}
+
+/// A document says of a text what the calls say.
+pub fn checked_document(text: &[u8], tape: &[u32], count: usize) {
+    let mut room = vec![MARK; tape.len()];
+    let document = Document::read(text, &mut room).expect("the text was read");
+    assert_eq!((document.text(), document.tape(), document.count()), (text, tape, count));
+    assert!(document.entries().eq(entries(tape, count)));
+    let mut out = vec![0; text.len()];
+    let mut same = vec![0; text.len()];
+    for (number, entry) in document.entries().enumerate() {
+        assert_eq!(document.entry(number), Some(entry));
+        assert_eq!(document.text_of(number), Some(&text[entry.span()]));
+        assert_eq!(document.contents(number), contents(text, tape, count, number));
+        let len = decoded(text, tape, count, number, &mut same);
+        assert_eq!(document.decoded(number, &mut out), len.map(|len| &same[..len]));
+        assert_eq!(entry.decoded_len(), len.ok());
+        match entry.width() {
+            Some(width) => assert_eq!(document.integer(number), integer(text, entry.start, width).map(|(value, _)| value)),
+            None => assert_eq!(document.integer(number), Err(Refused::new(Refusal::OtherKind, 0))),
+        }
+    }
+    assert_eq!((document.entry(count), document.text_of(count)), (None, None));
+    assert_eq!(document.integer(count), Err(Refused::new(Refusal::Unfit, 0)));
+}
+
+/// Every call on a text.
+pub fn all_calls(text: &[u8]) {
+    for place in 0..=text.len() + 1 {
+        checked_place(text, place);
+    }
+    if let Ok((tape, count)) = checked_read(text) {
+        checked_strings(text, &tape, count);
+        checked_document(text, &tape, count);
+        for limit in [0, 1, 2, MAX_DEPTH, MAX_DEPTH + 1, usize::MAX] {
+            let _ = checked_walk(&tape, count, limit, count);
+        }
+    }
+}
+
+/// A repair answers and leaves what a fresh reading of the new text does. The answer is whether it was accepted.
+pub fn checked_repair(old: &[u8], cut: std::ops::Range<usize>, piece: &[u8]) -> bool {
+    let new = [&old[..cut.start], piece, &old[cut.end..]].concat();
+    let mut tape = vec![MARK; ENTRY * (old.len() + new.len() + 1)];
+    let mut fresh = tape.clone();
+    let mut document = Document::read(old, &mut tape).expect("the old text is good");
+    let (before, count) = (document.tape().to_vec(), document.count());
+    match (document.repair(cut, &new), read(&new, &mut fresh)) {
+        (Ok(repaired), Ok(n)) => {
+            let most = ENTRY * count.max(n);
+            assert_eq!((repaired.count, document.count(), document.text()), (n, n, &new[..]));
+            assert!(repaired.before + repaired.behind <= n);
+            assert_eq!(document.tape()[..ENTRY * n], fresh[..ENTRY * n]);
+            assert!(document.tape()[ENTRY * n..most].iter().all(|x| *x == 0));
+            assert!(document.tape()[most..].iter().all(|x| *x == MARK));
+            true
+        }
+        (Err(refused), Err(other)) => {
+            assert_eq!(refused, other);
+            assert_eq!((document.tape(), document.count(), document.text()), (&before[..], count, old));
+            false
+        }
+        (repaired, read) => panic!("{repaired:?}, {read:?}"),
+    }
+}

@@ -1,0 +1,4 @@
+pub mod Fronts
+pub mod Begun
+pub mod Brackets
+pub mod Opens
