@@ -82,5 +82,9 @@ pub fn skip_byte_string(s: &[u8], from: Passed) -> Passed
     let Passed::To(at) = from else {
         return from;
     };
-    behind_literal(strings::byte_string_no_base64(&s[at..]), Refusal::EXPECTED_BYTE_STRING, at)
+    behind_literal(
+        strings::byte_string_no_base64(&s[at..]),
+        Refusal::EXPECTED_BYTE_STRING,
+        at,
+    )
 }
