@@ -5,6 +5,7 @@ use mathlib.Core.Bool.{false, true, cond, not, _&&_}
 use mathlib.Core.List.{List, [], _∷_}
 use mathlib.Core.Path.{_≡_, ap, sym, _∙_}
 use lib.Dec.{eqb}
+use borrow.Author.Tests.{ne-eqb}
 use lib.ListN.{List·getD-eq-default, drop, getD, length, take}
 use Rattle.names.specs.Classify.{beginsFloat}
 use Rattle.reading.specs.Owed.{quietByte}
@@ -12,11 +13,17 @@ use Rattle.text.proofs.Choices.{or-false}
 use Rattle.text.proofs.Lists.{tail-part}
 use Rattle.text.proofs.RunLaws.{run-more}
 use Rattle.text.proofs.WordLaws.{starts-other}
-use Rattle.text.specs.Classes.{asciiFirst, asciiNext}
+use Rattle.text.proofs.ClassLaws.{below}
+use Rattle.text.specs.Classes.{asciiFirst, asciiNext, letter}
 use Rattle.text.specs.Runs.{run}
 use Rattle.text.specs.Words.{startsWith}
 use Rattle.plain_names.specs.inner.PlainNames.{plainName}
 use Rattle.plain_names.proofs.NameRuns.{first-next}
+
+-- below the letters no name begins
+pub below-letters : (c : ℕ) → c < 0x41 → asciiFirst c ≡ false
+unfolding asciiFirst letter
+below-letters c h = rw (below 0x41 0x5a c h, below 0x61 0x7a c (omega arith), ne-eqb c 0x5f (λ e. omega arith))
 
 -- where no first character of a name stands
 pub not-first : (s : List ℕ) → asciiFirst (getD s 0 0) ≡ false → plainName s ≡ 0

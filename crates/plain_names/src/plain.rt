@@ -8,7 +8,7 @@ ghost use Prim.Native.Nat.{_<_};
 ghost use lib.ListN.{length};
 ghost use Rattle.names.specs.Classify.{beginsFloat};
 ghost use Rattle.plain_names.specs.inner.PlainNames.{plainName};
-ghost use Rattle.text.specs.Classes.{asciiNext};
+ghost use Rattle.text.specs.Classes.{asciiFirst, asciiNext};
 ghost use Rattle.text.specs.Runs.{run};
 
 // How many letters, digits and `_` the part begins with.
@@ -39,12 +39,22 @@ fn begins_float(s: &[u8]) -> bool
     false
 }
 
+// Whether a name may begin with the byte: most marks, digits and quotes stand below the letters, and take one test.
+fn begins_name(a: u8) -> bool
+    ensures { λ r. ⌜ r ≡ asciiFirst a ⌝ }
+{
+    if a < b'A' {
+        return false;
+    }
+    is_ascii_first(a as u32)
+}
+
 // The length of the plain name at the front, 0 where there is none.
 pub fn plain_name(s: &[u8]) -> usize
     requires { ⌜ 0 < length (now s) ⌝ }
     ensures { λ r. ⌜ r ≡ plainName (now (s .entry)) ⌝ }
 {
-    if !is_ascii_first(s[0] as u32) {
+    if !begins_name(s[0]) {
         return 0;
     }
     let len = 1 + name_len(&s[1..]);

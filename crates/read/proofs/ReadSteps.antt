@@ -76,12 +76,9 @@ module _ (text : List ℕ) (at : ℕ) (l : Lexeme) (e : l ≡ plainOf (take (len
 
 -- ---- blanks there
 
-module _ (text : List ℕ) (at n : ℕ) (e : n ≡ run blank1 (take (length text - at) (drop at text))) where
-  blanks-are : n ≡ run blank1 (drop at text)
-  blanks-are = e ∙ ap (run blank1) (tail-part text at)
+module _ (text : List ℕ) (at front : ℕ) (e : front ≡ at + run blank1 (drop at text)) where
+  pub step-blanks : readFrom ronToken text at ≡ readFrom ronToken text front
+  step-blanks = from-blanks text at ∙ ap (readFrom ronToken text) (sym e)
 
-  pub step-blanks : readFrom ronToken text at ≡ readFrom ronToken text (at + n)
-  step-blanks = from-blanks text at ∙ ap (λ (k : ℕ). readFrom ronToken text (at + k)) (sym blanks-are)
-
-  pub blanks-within : at ≤ length text → at + n ≤ length text
-  blanks-within h = omega (arith, blanks-are, run-le blank1 (drop at text), length-drop at text)
+  pub blanks-within : at ≤ length text → front ≤ length text
+  blanks-within h = omega (arith, run-le blank1 (drop at text), length-drop at text)

@@ -1,5 +1,6 @@
 // One pass over a text: it counts or refuses, and where it is on it lays the entries on the tape.
 use crate::measure::ReadAnswer;
+use comments::is_blank;
 use plain::blanks::count_blanks;
 use plain::forms::plain;
 use rows::Entry;
@@ -10,10 +11,12 @@ use tokens::following::next_token;
 use tokens::lexeme::Lexeme;
 ghost use mathlib.Core.Bool.{true, cond};
 ghost use mathlib.Core.Path.{_≡_};
-ghost use Prim.Native.Nat.{_≤_, _<_, _^_};
-ghost use lib.ListN.{length};
+ghost use Prim.Native.Nat.{_+_, _≤_, _<_, _^_};
+ghost use lib.ListN.{length, drop};
 ghost use Rattle.reading.specs.Readings.{readFrom, counted};
 ghost use Rattle.rows.specs.Rows.{roomOf, written};
+ghost use Rattle.text.specs.Classes.{blank1};
+ghost use Rattle.text.specs.Runs.{run};
 ghost use Rattle.tokens.specs.Ron.{ronToken};
 ghost use Rattle.read.specs.Read.{toldRead};
 ghost use Rattle.read.specs.inner.Pass.{upTo, passedTape};
@@ -42,6 +45,21 @@ fn put(tape: &mut [u32], i: usize, e: Entry, on: bool)
     row::write(tape, i, e);
 }
 
+// Where the loop goes on: behind the blanks at a place, of which there are often none.
+fn behind_blanks(text: &[u8], at: usize) -> usize
+    requires { ⌜ at ≤ length (now text) ⌝ }
+    ensures { λ r. ⌜ r ≡ at + run blank1 (drop at (now (text .entry))) ⌝ }
+{
+    if text.len() <= at {
+        return at;
+    }
+    if !is_blank(text[at]) {
+        return at;
+    }
+    let next = at + 1;
+    next + count_blanks(&text[next..])
+}
+
 // The first n entries of a text from a place on; blanks and plain tokens are taken here, and the general reader is asked for the rest.
 pub fn pass(text: &[u8], from: usize, tape: &mut [u32], n: usize, on: bool) -> ReadAnswer
     requires { ⌜ (length (now text) ≤ 65536) × (from ≤ length (now text)) × (on ≡ true → n ≤ roomOf (length (now tape))) ⌝ }
@@ -51,13 +69,11 @@ pub fn pass(text: &[u8], from: usize, tape: &mut [u32], n: usize, on: bool) -> R
     let mut at = from;
     let mut i = 0;
     while i < n {
-        let blanks = count_blanks(&text[at..]);
-        let front = at + blanks;
+        let front = behind_blanks(text, at);
         if text.len() <= front {
             return ReadAnswer::Accepted(i);
         }
-        let part = &text[front..];
-        let p = plain(part);
+        let p = plain(&text[front..]);
         if 0 < p.len {
             let end = front + p.len;
             put(tape, i, entry_of(p, front, end), on);
@@ -65,7 +81,7 @@ pub fn pass(text: &[u8], from: usize, tape: &mut [u32], n: usize, on: bool) -> R
             i += 1;
             continue;
         }
-        let found = next_token(part);
+        let found = next_token(&text[front..]);
         match found {
             Following::Token(g, l) => {
                 let start = front + g;

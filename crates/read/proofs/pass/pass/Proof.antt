@@ -1,4 +1,4 @@
-use Prim.Native.Nat.{_+_, _-_, _≤_}
+use Prim.Native.Nat.{_-_, _≤_}
 use native.Mathlib.Omega.{arith}
 use mathlib.Core.Bool.{cond}
 use mathlib.Core.Path.{_∙_, _≡_, ap, refl}
@@ -28,56 +28,53 @@ abbrev μ-loop : tie.MeasureT-loop
 loop-holds : tie.Need-loop-holds Inv-loop μ-loop
 loop-holds c = (c .before .before .pre .1, omega arith, refl, left-starts (c .before .before .args .on) (c .before .before .args .n) (readFrom ronToken (c .before .before .args .text .now) (c .before .before .args .from)) (c .before .before .args .tape .now))
 
-sub-count-blanks : tie.Need-sub-count-blanks Inv-loop μ-loop
-sub-count-blanks c = search needs
-
-part-count-blanks-start : tie.Need-part-count-blanks-start Inv-loop μ-loop
-part-count-blanks-start c = search needs
-
-part-count-blanks-end : tie.Need-part-count-blanks-end Inv-loop μ-loop
-part-count-blanks-end c = search needs
-
-count-blanks-requires : tie.Need-count-blanks-requires Inv-loop μ-loop
-count-blanks-requires c κs = search needs
-
-add-front : tie.Need-add-front Inv-loop μ-loop
-add-front c = omega (arith, blanks-within (c .before .before .before .before .before .before .args .text .now) (c .before .before .before .loop .at) (c .count-blanks .result) (c .count-blanks .ensures) (c .before .before .before .loop .inv .0), c .before .before .before .before .before .before .pre .0)
+behind-blanks-requires : tie.Need-behind-blanks-requires Inv-loop μ-loop
+behind-blanks-requires c κs = search needs
 
 same-length : tie.Need-same-length Inv-loop μ-loop
-same-length c = c .before .before .before .before .loop .inv .2
+same-length c = c .before .before .before .loop .inv .2
 
 returns : tie.Need-returns Inv-loop μ-loop
-returns c = let w = left-complete (c .before .before .before .before .before .before .before .args .on) (c .before .before .before .before .before .before .before .args .n) (readFrom ronToken (c .before .before .before .before .before .before .before .args .text .now) (c .before .before .before .before .before .before .before .args .from)) (c .before .before .before .before .before .before .before .args .tape .now) (c .before .before .before .before .loop .i) (readFrom ronToken (c .before .before .before .before .before .before .before .args .text .now) (c .before .before .before .before .loop .at)) (c .before .before .before .before .loop .tape) (c .before .before .before .before .loop .inv .3) (c .before .before .before .before .before .before .before .pre .2) (c .before .before .before .loop-test .taken) (step-blanks (c .before .before .before .before .before .before .before .args .text .now) (c .before .before .before .before .loop .at) (c .before .count-blanks .result) (c .before .count-blanks .ensures) ∙ from-end ronToken quietByte laws (c .before .before .before .before .before .before .before .args .text .now) (c .before .before .before .before .loop .at + c .before .count-blanks .result) (c .if1 .taken)) in (w .answer, w .rows)
+returns c = let w = left-complete (c .before .before .before .before .before .before .args .on) (c .before .before .before .before .before .before .args .n) (readFrom ronToken (c .before .before .before .before .before .before .args .text .now) (c .before .before .before .before .before .before .args .from)) (c .before .before .before .before .before .before .args .tape .now) (c .before .before .before .loop .i) (readFrom ronToken (c .before .before .before .before .before .before .args .text .now) (c .before .before .before .loop .at)) (c .before .before .before .loop .tape) (c .before .before .before .loop .inv .3) (c .before .before .before .before .before .before .pre .2) (c .before .before .loop-test .taken) (step-blanks (c .before .before .before .before .before .before .args .text .now) (c .before .before .before .loop .at) (c .before .behind-blanks .result) (c .before .behind-blanks .ensures) ∙ from-end ronToken quietByte laws (c .before .before .before .before .before .before .args .text .now) (c .before .behind-blanks .result) (c .if1 .taken)) in (w .answer, w .rows)
 
-sub-part : tie.Need-sub-part Inv-loop μ-loop
-sub-part c = search needs
+sub-plain : tie.Need-sub-plain Inv-loop μ-loop
+sub-plain c = search needs
 
-part-part-start : tie.Need-part-part-start Inv-loop μ-loop
-part-part-start c = search needs
+part-plain-start : tie.Need-part-plain-start Inv-loop μ-loop
+part-plain-start c = search needs
 
-part-part-end : tie.Need-part-part-end Inv-loop μ-loop
-part-part-end c = search needs
+part-plain-end : tie.Need-part-plain-end Inv-loop μ-loop
+part-plain-end c = search needs
 
 plain-requires : tie.Need-plain-requires Inv-loop μ-loop
-plain-requires c κs = simp tail-part (omega (arith, length-drop (c .before .before .before .before .before .loop .at + c .before .before .count-blanks .result) (c .before .before .before .before .before .before .before .before .args .text .now)))
+plain-requires c κs = simp tail-part (omega (arith, length-drop (c .before .before .behind-blanks .result) (c .before .before .before .before .before .before .before .args .text .now)))
 
 add-end : tie.Need-add-end Inv-loop μ-loop
-add-end c = let w = plain-within (c .before .before .before .before .before .before .before .before .before .before .before .before .args .text .now) (c .before .before .before .before .before .before .before .before .before .loop .at + c .before .before .before .before .before .before .count-blanks .result) _ (c .before .before .before .plain .ensures) (c .before .if2 .taken) in omega (arith, w .0, c .before .before .before .before .before .before .before .before .before .before .before .before .pre .0)
+add-end c = let w = plain-within (c .before .before .before .before .before .before .before .before .before .before .before .args .text .now) (c .before .before .before .before .before .before .behind-blanks .result) _ (c .before .before .before .plain .ensures) (c .before .if2 .taken) in omega (arith, w .0, c .before .before .before .before .before .before .before .before .before .before .before .pre .0)
 
 entry-of-requires : tie.Need-entry-of-requires Inv-loop μ-loop
-entry-of-requires c κs = let w = plain-within (c .before .before .before .before .before .before .before .before .before .before .before .before .before .args .text .now) (c .before .before .before .before .before .before .before .before .before .before .loop .at + c .before .before .before .before .before .before .before .count-blanks .result) _ (c .before .before .before .before .plain .ensures) (c .before .before .if2 .taken) in (omega (arith, w .0, c .before .before .before .before .before .before .before .before .before .before .before .before .before .pre .0), omega (arith, w .0, c .before .before .before .before .before .before .before .before .before .before .before .before .before .pre .0), omega (arith, w .1, c .before .before .before .before .before .before .before .before .before .before .before .before .before .pre .0))
+entry-of-requires c κs = let w = plain-within (c .before .before .before .before .before .before .before .before .before .before .before .before .args .text .now) (c .before .before .before .before .before .before .before .behind-blanks .result) _ (c .before .before .before .before .plain .ensures) (c .before .before .if2 .taken) in (omega (arith, w .0, c .before .before .before .before .before .before .before .before .before .before .before .before .pre .0), omega (arith, w .0, c .before .before .before .before .before .before .before .before .before .before .before .before .pre .0), omega (arith, w .1, c .before .before .before .before .before .before .before .before .before .before .before .before .pre .0))
 
 put-requires : tie.Need-put-requires Inv-loop μ-loop
-put-requires c κs = λ e. omega (arith, c .before .before .before .before .before .before .before .before .before .before .before .before .before .before .pre .2 e, c .before .before .before .before .before .before .before .before .before .before .before .loop .inv .2, c .before .before .before .before .before .before .before .before .before .before .loop-test .taken)
+put-requires c κs = λ e. omega (arith, c .before .before .before .before .before .before .before .before .before .before .before .before .before .pre .2 e, c .before .before .before .before .before .before .before .before .before .before .loop .inv .2, c .before .before .before .before .before .before .before .before .before .loop-test .taken)
 
 add-i : tie.Need-add-i Inv-loop μ-loop
-add-i c = omega (arith, c .before .before .before .before .before .before .before .before .before .before .before .before .before .loop-test .taken)
+add-i c = omega (arith, c .before .before .before .before .before .before .before .before .before .before .before .before .loop-test .taken)
 
 loop-less : tie.Need-loop-less Inv-loop μ-loop
-loop-less c = omega (arith, c .before .before .before .before .before .before .before .before .before .before .before .before .before .loop-test .taken)
+loop-less c = omega (arith, c .before .before .before .before .before .before .before .before .before .before .before .before .loop-test .taken)
 
 loop-again : tie.Need-loop-again Inv-loop μ-loop
-loop-again c = let w = plain-within (c .before .before .before .before .before .before .before .before .before .before .before .before .before .before .before .before .before .args .text .now) (c .before .before .before .before .before .before .before .before .before .before .before .before .before .before .loop .at + c .before .before .before .before .before .before .before .before .before .before .before .count-blanks .result) _ (c .before .before .before .before .before .before .before .before .plain .ensures) (c .before .before .before .before .before .before .if2 .taken) in (w .0, omega (arith, c .before .before .before .before .before .before .before .before .before .before .before .before .before .loop-test .taken), c .before .before .put .kept .0 ∙ c .before .before .before .before .before .before .before .before .before .before .before .before .before .before .loop .inv .2, left-entry (c .before .before .before .before .before .before .before .before .before .before .before .before .before .before .before .before .before .args .on) (c .before .before .before .before .before .before .before .before .before .before .before .before .before .before .before .before .before .args .n) (readFrom ronToken (c .before .before .before .before .before .before .before .before .before .before .before .before .before .before .before .before .before .args .text .now) (c .before .before .before .before .before .before .before .before .before .before .before .before .before .before .before .before .before .args .from)) (c .before .before .before .before .before .before .before .before .before .before .before .before .before .before .before .before .before .args .tape .now) (c .before .before .before .before .before .before .before .before .before .before .before .before .before .before .loop .i) (readFrom ronToken (c .before .before .before .before .before .before .before .before .before .before .before .before .before .before .before .before .before .args .text .now) (c .before .before .before .before .before .before .before .before .before .before .before .before .before .before .loop .at)) (c .before .before .before .before .before .before .before .before .before .before .before .before .before .before .loop .tape) (c .before .before .before .before .before .before .before .before .before .before .before .before .before .before .loop .inv .3) _ _ _ (c .before .before .before .before .before .before .before .before .before .before .before .before .before .loop-test .taken) (step-blanks (c .before .before .before .before .before .before .before .before .before .before .before .before .before .before .before .before .before .args .text .now) (c .before .before .before .before .before .before .before .before .before .before .before .before .before .before .loop .at) (c .before .before .before .before .before .before .before .before .before .before .before .count-blanks .result) (c .before .before .before .before .before .before .before .before .before .before .before .count-blanks .ensures) ∙ step-plain (c .before .before .before .before .before .before .before .before .before .before .before .before .before .before .before .before .before .args .text .now) (c .before .before .before .before .before .before .before .before .before .before .before .before .before .before .loop .at + c .before .before .before .before .before .before .before .before .before .before .before .count-blanks .result) _ (c .before .before .before .before .before .before .before .before .plain .ensures) (c .before .before .before .before .before .before .if2 .taken)) (c .before .before .put .ensures ∙ ap (λ (e : Entry). cond (c .before .before .before .before .before .before .before .before .before .before .before .before .before .before .before .before .before .args .on) (written (c .before .before .before .before .before .before .before .before .before .before .before .before .before .before .loop .tape) (c .before .before .before .before .before .before .before .before .before .before .before .before .before .before .loop .i) e) (c .before .before .before .before .before .before .before .before .before .before .before .before .before .before .loop .tape)) (c .before .before .before .entry-of .ensures)))
+loop-again c = let w = plain-within (c .before .before .before .before .before .before .before .before .before .before .before .before .before .before .before .before .args .text .now) (c .before .before .before .before .before .before .before .before .before .before .before .behind-blanks .result) _ (c .before .before .before .before .before .before .before .before .plain .ensures) (c .before .before .before .before .before .before .if2 .taken) in (w .0, omega (arith, c .before .before .before .before .before .before .before .before .before .before .before .before .loop-test .taken), c .before .before .put .kept .0 ∙ c .before .before .before .before .before .before .before .before .before .before .before .before .before .loop .inv .2, left-entry (c .before .before .before .before .before .before .before .before .before .before .before .before .before .before .before .before .args .on) (c .before .before .before .before .before .before .before .before .before .before .before .before .before .before .before .before .args .n) (readFrom ronToken (c .before .before .before .before .before .before .before .before .before .before .before .before .before .before .before .before .args .text .now) (c .before .before .before .before .before .before .before .before .before .before .before .before .before .before .before .before .args .from)) (c .before .before .before .before .before .before .before .before .before .before .before .before .before .before .before .before .args .tape .now) (c .before .before .before .before .before .before .before .before .before .before .before .before .before .loop .i) (readFrom ronToken (c .before .before .before .before .before .before .before .before .before .before .before .before .before .before .before .before .args .text .now) (c .before .before .before .before .before .before .before .before .before .before .before .before .before .loop .at)) (c .before .before .before .before .before .before .before .before .before .before .before .before .before .loop .tape) (c .before .before .before .before .before .before .before .before .before .before .before .before .before .loop .inv .3) _ _ _ (c .before .before .before .before .before .before .before .before .before .before .before .before .loop-test .taken) (step-blanks (c .before .before .before .before .before .before .before .before .before .before .before .before .before .before .before .before .args .text .now) (c .before .before .before .before .before .before .before .before .before .before .before .before .before .loop .at) (c .before .before .before .before .before .before .before .before .before .before .before .behind-blanks .result) (c .before .before .before .before .before .before .before .before .before .before .before .behind-blanks .ensures) ∙ step-plain (c .before .before .before .before .before .before .before .before .before .before .before .before .before .before .before .before .args .text .now) (c .before .before .before .before .before .before .before .before .before .before .before .behind-blanks .result) _ (c .before .before .before .before .before .before .before .before .plain .ensures) (c .before .before .before .before .before .before .if2 .taken)) (c .before .before .put .ensures ∙ ap (λ (e : Entry). cond (c .before .before .before .before .before .before .before .before .before .before .before .before .before .before .before .before .args .on) (written (c .before .before .before .before .before .before .before .before .before .before .before .before .before .loop .tape) (c .before .before .before .before .before .before .before .before .before .before .before .before .before .loop .i) e) (c .before .before .before .before .before .before .before .before .before .before .before .before .before .loop .tape)) (c .before .before .before .entry-of .ensures)))
+
+sub-next-token : tie.Need-sub-next-token Inv-loop μ-loop
+sub-next-token c = let f = blanks-within (c .before .before .before .before .before .before .before .before .before .before .args .text .now) (c .before .before .before .before .before .before .before .loop .at) (c .before .before .before .before .before .behind-blanks .result) (c .before .before .before .before .before .behind-blanks .ensures) (c .before .before .before .before .before .before .before .loop .inv .0) in omega (arith, f)
+
+part-next-token-start : tie.Need-part-next-token-start Inv-loop μ-loop
+part-next-token-start c = let f = blanks-within (c .before .before .before .before .before .before .before .before .before .before .args .text .now) (c .before .before .before .before .before .before .before .loop .at) (c .before .before .before .before .before .behind-blanks .result) (c .before .before .before .before .before .behind-blanks .ensures) (c .before .before .before .before .before .before .before .loop .inv .0) in omega (arith, f)
+
+part-next-token-end : tie.Need-part-next-token-end Inv-loop μ-loop
+part-next-token-end c = search needs
 
 next-token-requires : tie.Need-next-token-requires Inv-loop μ-loop
 next-token-requires c κs = search needs
@@ -86,13 +83,13 @@ enum-known-found : tie.Need-enum-known-found Inv-loop μ-loop
 enum-known-found c = search needs
 
 add-start : tie.Need-add-start Inv-loop μ-loop
-add-start c = let w = step-within (c .before .before .before .before .before .before .before .before .before .before .before .before .before .before .before .args .text .now) (c .before .before .before .before .before .before .before .before .before .before .before .before .loop .at + c .before .before .before .before .before .before .before .before .before .count-blanks .result) _ (c .before .before .before .next-token .ensures) _ _ (c .before .found .given .1) in omega (arith, w .0, w .1, c .before .before .before .before .before .before .before .before .before .before .before .before .before .before .before .pre .0)
+add-start c = let w = step-within (c .before .before .before .before .before .before .before .before .before .before .before .before .before .before .before .args .text .now) (c .before .before .before .before .before .before .before .before .before .before .behind-blanks .result) _ (c .before .before .before .next-token .ensures) _ _ (c .before .found .given .1) in omega (arith, w .0, w .1, c .before .before .before .before .before .before .before .before .before .before .before .before .before .before .before .pre .0)
 
 add-end-2 : tie.Need-add-end-2 Inv-loop μ-loop
-add-end-2 c = let w = step-within (c .before .before .before .before .before .before .before .before .before .before .before .before .before .before .before .before .args .text .now) (c .before .before .before .before .before .before .before .before .before .before .before .before .before .loop .at + c .before .before .before .before .before .before .before .before .before .before .count-blanks .result) _ (c .before .before .before .before .next-token .ensures) _ _ (c .before .before .found .given .1) in omega (arith, w .0, w .1, c .before .before .before .before .before .before .before .before .before .before .before .before .before .before .before .before .pre .0)
+add-end-2 c = let w = step-within (c .before .before .before .before .before .before .before .before .before .before .before .before .before .before .before .before .args .text .now) (c .before .before .before .before .before .before .before .before .before .before .before .behind-blanks .result) _ (c .before .before .before .before .next-token .ensures) _ _ (c .before .before .found .given .1) in omega (arith, w .0, w .1, c .before .before .before .before .before .before .before .before .before .before .before .before .before .before .before .before .pre .0)
 
 entry-of-requires-2 : tie.Need-entry-of-requires-2 Inv-loop μ-loop
-entry-of-requires-2 c κs = let w = step-within (c .before .before .before .before .before .before .before .before .before .before .before .before .before .before .before .before .before .args .text .now) (c .before .before .before .before .before .before .before .before .before .before .before .before .before .before .loop .at + c .before .before .before .before .before .before .before .before .before .before .before .count-blanks .result) _ (c .before .before .before .before .before .next-token .ensures) _ _ (c .before .before .before .found .given .1) in (omega (arith, w .0, w .1, c .before .before .before .before .before .before .before .before .before .before .before .before .before .before .before .before .before .pre .0), omega (arith, w .0, w .1, c .before .before .before .before .before .before .before .before .before .before .before .before .before .before .before .before .before .pre .0), omega (arith, w .2, c .before .before .before .before .before .before .before .before .before .before .before .before .before .before .before .before .before .pre .0))
+entry-of-requires-2 c κs = let w = step-within (c .before .before .before .before .before .before .before .before .before .before .before .before .before .before .before .before .before .args .text .now) (c .before .before .before .before .before .before .before .before .before .before .before .before .behind-blanks .result) _ (c .before .before .before .before .before .next-token .ensures) _ _ (c .before .before .before .found .given .1) in (omega (arith, w .0, w .1, c .before .before .before .before .before .before .before .before .before .before .before .before .before .before .before .before .before .pre .0), omega (arith, w .0, w .1, c .before .before .before .before .before .before .before .before .before .before .before .before .before .before .before .before .before .pre .0), omega (arith, w .2, c .before .before .before .before .before .before .before .before .before .before .before .before .before .before .before .before .before .pre .0))
 
 put-requires-2 : tie.Need-put-requires-2 Inv-loop μ-loop
 put-requires-2 c κs = λ e. omega (arith, c .before .before .before .before .before .before .before .before .before .before .before .before .before .before .before .before .before .before .pre .2 e, c .before .before .before .before .before .before .before .before .before .before .before .before .before .before .before .loop .inv .2, c .before .before .before .before .before .before .before .before .before .before .before .before .before .before .loop-test .taken)
@@ -104,7 +101,7 @@ loop-less-2 : tie.Need-loop-less-2 Inv-loop μ-loop
 loop-less-2 c = omega (arith, c .before .before .before .before .before .before .before .before .before .before .before .before .before .before .before .before .before .loop-test .taken)
 
 loop-again-2 : tie.Need-loop-again-2 Inv-loop μ-loop
-loop-again-2 c = let w = step-within (c .before .before .before .before .before .before .before .before .before .before .before .before .before .before .before .before .before .before .before .before .before .args .text .now) (c .before .before .before .before .before .before .before .before .before .before .before .before .before .before .before .before .before .before .loop .at + c .before .before .before .before .before .before .before .before .before .before .before .before .before .before .before .count-blanks .result) _ (c .before .before .before .before .before .before .before .before .before .next-token .ensures) _ _ (c .before .before .before .before .before .before .before .found .given .1) in (w .1, omega (arith, c .before .before .before .before .before .before .before .before .before .before .before .before .before .before .before .before .before .loop-test .taken), c .before .before .put2 .kept .0 ∙ c .before .before .before .before .before .before .before .before .before .before .before .before .before .before .before .before .before .before .loop .inv .2, left-entry (c .before .before .before .before .before .before .before .before .before .before .before .before .before .before .before .before .before .before .before .before .before .args .on) (c .before .before .before .before .before .before .before .before .before .before .before .before .before .before .before .before .before .before .before .before .before .args .n) (readFrom ronToken (c .before .before .before .before .before .before .before .before .before .before .before .before .before .before .before .before .before .before .before .before .before .args .text .now) (c .before .before .before .before .before .before .before .before .before .before .before .before .before .before .before .before .before .before .before .before .before .args .from)) (c .before .before .before .before .before .before .before .before .before .before .before .before .before .before .before .before .before .before .before .before .before .args .tape .now) (c .before .before .before .before .before .before .before .before .before .before .before .before .before .before .before .before .before .before .loop .i) (readFrom ronToken (c .before .before .before .before .before .before .before .before .before .before .before .before .before .before .before .before .before .before .before .before .before .args .text .now) (c .before .before .before .before .before .before .before .before .before .before .before .before .before .before .before .before .before .before .loop .at)) (c .before .before .before .before .before .before .before .before .before .before .before .before .before .before .before .before .before .before .loop .tape) (c .before .before .before .before .before .before .before .before .before .before .before .before .before .before .before .before .before .before .loop .inv .3) _ _ _ (c .before .before .before .before .before .before .before .before .before .before .before .before .before .before .before .before .before .loop-test .taken) (step-blanks (c .before .before .before .before .before .before .before .before .before .before .before .before .before .before .before .before .before .before .before .before .before .args .text .now) (c .before .before .before .before .before .before .before .before .before .before .before .before .before .before .before .before .before .before .loop .at) (c .before .before .before .before .before .before .before .before .before .before .before .before .before .before .before .count-blanks .result) (c .before .before .before .before .before .before .before .before .before .before .before .before .before .before .before .count-blanks .ensures) ∙ step-token (c .before .before .before .before .before .before .before .before .before .before .before .before .before .before .before .before .before .before .before .before .before .args .text .now) (c .before .before .before .before .before .before .before .before .before .before .before .before .before .before .before .before .before .before .loop .at + c .before .before .before .before .before .before .before .before .before .before .before .before .before .before .before .count-blanks .result) _ (c .before .before .before .before .before .before .before .before .before .next-token .ensures) _ _ (c .before .before .before .before .before .before .before .found .given .1)) (c .before .before .put2 .ensures ∙ ap (λ (e : Entry). cond (c .before .before .before .before .before .before .before .before .before .before .before .before .before .before .before .before .before .before .before .before .before .args .on) (written (c .before .before .before .before .before .before .before .before .before .before .before .before .before .before .before .before .before .before .loop .tape) (c .before .before .before .before .before .before .before .before .before .before .before .before .before .before .before .before .before .before .loop .i) e) (c .before .before .before .before .before .before .before .before .before .before .before .before .before .before .before .before .before .before .loop .tape)) (c .before .before .before .entry-of2 .ensures)))
+loop-again-2 c = let w = step-within (c .before .before .before .before .before .before .before .before .before .before .before .before .before .before .before .before .before .before .before .before .before .args .text .now) (c .before .before .before .before .before .before .before .before .before .before .before .before .before .before .before .before .behind-blanks .result) _ (c .before .before .before .before .before .before .before .before .before .next-token .ensures) _ _ (c .before .before .before .before .before .before .before .found .given .1) in (w .1, omega (arith, c .before .before .before .before .before .before .before .before .before .before .before .before .before .before .before .before .before .loop-test .taken), c .before .before .put2 .kept .0 ∙ c .before .before .before .before .before .before .before .before .before .before .before .before .before .before .before .before .before .before .loop .inv .2, left-entry (c .before .before .before .before .before .before .before .before .before .before .before .before .before .before .before .before .before .before .before .before .before .args .on) (c .before .before .before .before .before .before .before .before .before .before .before .before .before .before .before .before .before .before .before .before .before .args .n) (readFrom ronToken (c .before .before .before .before .before .before .before .before .before .before .before .before .before .before .before .before .before .before .before .before .before .args .text .now) (c .before .before .before .before .before .before .before .before .before .before .before .before .before .before .before .before .before .before .before .before .before .args .from)) (c .before .before .before .before .before .before .before .before .before .before .before .before .before .before .before .before .before .before .before .before .before .args .tape .now) (c .before .before .before .before .before .before .before .before .before .before .before .before .before .before .before .before .before .before .loop .i) (readFrom ronToken (c .before .before .before .before .before .before .before .before .before .before .before .before .before .before .before .before .before .before .before .before .before .args .text .now) (c .before .before .before .before .before .before .before .before .before .before .before .before .before .before .before .before .before .before .loop .at)) (c .before .before .before .before .before .before .before .before .before .before .before .before .before .before .before .before .before .before .loop .tape) (c .before .before .before .before .before .before .before .before .before .before .before .before .before .before .before .before .before .before .loop .inv .3) _ _ _ (c .before .before .before .before .before .before .before .before .before .before .before .before .before .before .before .before .before .loop-test .taken) (step-blanks (c .before .before .before .before .before .before .before .before .before .before .before .before .before .before .before .before .before .before .before .before .before .args .text .now) (c .before .before .before .before .before .before .before .before .before .before .before .before .before .before .before .before .before .before .loop .at) (c .before .before .before .before .before .before .before .before .before .before .before .before .before .before .before .before .behind-blanks .result) (c .before .before .before .before .before .before .before .before .before .before .before .before .before .before .before .before .behind-blanks .ensures) ∙ step-token (c .before .before .before .before .before .before .before .before .before .before .before .before .before .before .before .before .before .before .before .before .before .args .text .now) (c .before .before .before .before .before .before .before .before .before .before .before .before .before .before .before .before .behind-blanks .result) _ (c .before .before .before .before .before .before .before .before .before .next-token .ensures) _ _ (c .before .before .before .before .before .before .before .found .given .1)) (c .before .before .put2 .ensures ∙ ap (λ (e : Entry). cond (c .before .before .before .before .before .before .before .before .before .before .before .before .before .before .before .before .before .before .before .before .before .args .on) (written (c .before .before .before .before .before .before .before .before .before .before .before .before .before .before .before .before .before .before .loop .tape) (c .before .before .before .before .before .before .before .before .before .before .before .before .before .before .before .before .before .before .loop .i) e) (c .before .before .before .before .before .before .before .before .before .before .before .before .before .before .before .before .before .before .loop .tape)) (c .before .before .before .entry-of2 .ensures)))
 
 enum-told : tie.Need-enum-told Inv-loop μ-loop
 enum-told c = search needs
@@ -113,19 +110,19 @@ same-length-2 : tie.Need-same-length-2 Inv-loop μ-loop
 same-length-2 c = c .before .before .before .before .before .before .before .before .before .before .before .loop .inv .2
 
 returns-2 : tie.Need-returns-2 Inv-loop μ-loop
-returns-2 c = let w = left-complete (c .before .before .before .before .before .before .before .before .before .before .before .before .before .before .args .on) (c .before .before .before .before .before .before .before .before .before .before .before .before .before .before .args .n) (readFrom ronToken (c .before .before .before .before .before .before .before .before .before .before .before .before .before .before .args .text .now) (c .before .before .before .before .before .before .before .before .before .before .before .before .before .before .args .from)) (c .before .before .before .before .before .before .before .before .before .before .before .before .before .before .args .tape .now) (c .before .before .before .before .before .before .before .before .before .before .before .loop .i) (readFrom ronToken (c .before .before .before .before .before .before .before .before .before .before .before .before .before .before .args .text .now) (c .before .before .before .before .before .before .before .before .before .before .before .loop .at)) (c .before .before .before .before .before .before .before .before .before .before .before .loop .tape) (c .before .before .before .before .before .before .before .before .before .before .before .loop .inv .3) (c .before .before .before .before .before .before .before .before .before .before .before .before .before .before .pre .2) (c .before .before .before .before .before .before .before .before .before .before .loop-test .taken) (step-blanks (c .before .before .before .before .before .before .before .before .before .before .before .before .before .before .args .text .now) (c .before .before .before .before .before .before .before .before .before .before .before .loop .at) (c .before .before .before .before .before .before .before .before .count-blanks .result) (c .before .before .before .before .before .before .before .before .count-blanks .ensures) ∙ step-stop (c .before .before .before .before .before .before .before .before .before .before .before .before .before .before .args .text .now) (c .before .before .before .before .before .before .before .before .before .before .before .loop .at + c .before .before .before .before .before .before .before .before .count-blanks .result) _ (c .before .before .next-token .ensures) (c .enum-told .given .1)) in (w .answer, w .rows)
+returns-2 c = let w = left-complete (c .before .before .before .before .before .before .before .before .before .before .before .before .before .before .args .on) (c .before .before .before .before .before .before .before .before .before .before .before .before .before .before .args .n) (readFrom ronToken (c .before .before .before .before .before .before .before .before .before .before .before .before .before .before .args .text .now) (c .before .before .before .before .before .before .before .before .before .before .before .before .before .before .args .from)) (c .before .before .before .before .before .before .before .before .before .before .before .before .before .before .args .tape .now) (c .before .before .before .before .before .before .before .before .before .before .before .loop .i) (readFrom ronToken (c .before .before .before .before .before .before .before .before .before .before .before .before .before .before .args .text .now) (c .before .before .before .before .before .before .before .before .before .before .before .loop .at)) (c .before .before .before .before .before .before .before .before .before .before .before .loop .tape) (c .before .before .before .before .before .before .before .before .before .before .before .loop .inv .3) (c .before .before .before .before .before .before .before .before .before .before .before .before .before .before .pre .2) (c .before .before .before .before .before .before .before .before .before .before .loop-test .taken) (step-blanks (c .before .before .before .before .before .before .before .before .before .before .before .before .before .before .args .text .now) (c .before .before .before .before .before .before .before .before .before .before .before .loop .at) (c .before .before .before .before .before .before .before .before .before .behind-blanks .result) (c .before .before .before .before .before .before .before .before .before .behind-blanks .ensures) ∙ step-stop (c .before .before .before .before .before .before .before .before .before .before .before .before .before .before .args .text .now) (c .before .before .before .before .before .before .before .before .before .behind-blanks .result) _ (c .before .before .next-token .ensures) (c .enum-told .given .1)) in (w .answer, w .rows)
 
 enum-known-found-2 : tie.Need-enum-known-found-2 Inv-loop μ-loop
 enum-known-found-2 c = search needs
 
 placed-behind-requires : tie.Need-placed-behind-requires Inv-loop μ-loop
-placed-behind-requires c κs = let f = blanks-within (c .before .before .before .before .before .before .before .before .before .before .before .before .before .before .before .args .text .now) (c .before .before .before .before .before .before .before .before .before .before .before .before .loop .at) (c .before .before .before .before .before .before .before .before .before .count-blanks .result) (c .before .before .before .before .before .before .before .before .before .count-blanks .ensures) (c .before .before .before .before .before .before .before .before .before .before .before .before .loop .inv .0) in let w = refuse-within (c .before .before .before .before .before .before .before .before .before .before .before .before .before .before .before .args .text .now) (c .before .before .before .before .before .before .before .before .before .before .before .before .loop .at + c .before .before .before .before .before .before .before .before .before .count-blanks .result) _ (c .before .before .before .next-token .ensures) _ (c .before .found2 .given .1) in omega (arith, w, f, c .before .before .before .before .before .before .before .before .before .before .before .before .before .before .before .pre .0)
+placed-behind-requires c κs = let f = blanks-within (c .before .before .before .before .before .before .before .before .before .before .before .before .before .before .before .args .text .now) (c .before .before .before .before .before .before .before .before .before .before .before .before .loop .at) (c .before .before .before .before .before .before .before .before .before .before .behind-blanks .result) (c .before .before .before .before .before .before .before .before .before .before .behind-blanks .ensures) (c .before .before .before .before .before .before .before .before .before .before .before .before .loop .inv .0) in let w = refuse-within (c .before .before .before .before .before .before .before .before .before .before .before .before .before .before .before .args .text .now) (c .before .before .before .before .before .before .before .before .before .before .behind-blanks .result) _ (c .before .before .before .next-token .ensures) _ (c .before .found2 .given .1) in omega (arith, w, f, c .before .before .before .before .before .before .before .before .before .before .before .before .before .before .before .pre .0)
 
 same-length-3 : tie.Need-same-length-3 Inv-loop μ-loop
 same-length-3 c = c .before .before .before .before .before .before .before .before .before .before .before .before .before .loop .inv .2
 
 returns-3 : tie.Need-returns-3 Inv-loop μ-loop
-returns-3 c = let w = left-broken (c .before .before .before .before .before .before .before .before .before .before .before .before .before .before .before .before .args .on) (c .before .before .before .before .before .before .before .before .before .before .before .before .before .before .before .before .args .n) (readFrom ronToken (c .before .before .before .before .before .before .before .before .before .before .before .before .before .before .before .before .args .text .now) (c .before .before .before .before .before .before .before .before .before .before .before .before .before .before .before .before .args .from)) (c .before .before .before .before .before .before .before .before .before .before .before .before .before .before .before .before .args .tape .now) (c .before .before .before .before .before .before .before .before .before .before .before .before .before .loop .i) (readFrom ronToken (c .before .before .before .before .before .before .before .before .before .before .before .before .before .before .before .before .args .text .now) (c .before .before .before .before .before .before .before .before .before .before .before .before .before .loop .at)) (c .before .before .before .before .before .before .before .before .before .before .before .before .before .loop .tape) (c .before .before .before .before .before .before .before .before .before .before .before .before .before .loop .inv .3) (c .before .before .before .before .before .before .before .before .before .before .before .before .before .before .before .before .pre .2) _ (c .before .before .before .before .before .before .before .before .before .before .before .before .loop-test .taken) (step-blanks (c .before .before .before .before .before .before .before .before .before .before .before .before .before .before .before .before .args .text .now) (c .before .before .before .before .before .before .before .before .before .before .before .before .before .loop .at) (c .before .before .before .before .before .before .before .before .before .before .count-blanks .result) (c .before .before .before .before .before .before .before .before .before .before .count-blanks .ensures) ∙ step-refuse (c .before .before .before .before .before .before .before .before .before .before .before .before .before .before .before .before .args .text .now) (c .before .before .before .before .before .before .before .before .before .before .before .before .before .loop .at + c .before .before .before .before .before .before .before .before .before .before .count-blanks .result) _ (c .before .before .before .before .next-token .ensures) _ (c .before .before .found2 .given .1)) in (ap refused (c .placed-behind .ensures) ∙ w .answer, w .rows)
+returns-3 c = let w = left-broken (c .before .before .before .before .before .before .before .before .before .before .before .before .before .before .before .before .args .on) (c .before .before .before .before .before .before .before .before .before .before .before .before .before .before .before .before .args .n) (readFrom ronToken (c .before .before .before .before .before .before .before .before .before .before .before .before .before .before .before .before .args .text .now) (c .before .before .before .before .before .before .before .before .before .before .before .before .before .before .before .before .args .from)) (c .before .before .before .before .before .before .before .before .before .before .before .before .before .before .before .before .args .tape .now) (c .before .before .before .before .before .before .before .before .before .before .before .before .before .loop .i) (readFrom ronToken (c .before .before .before .before .before .before .before .before .before .before .before .before .before .before .before .before .args .text .now) (c .before .before .before .before .before .before .before .before .before .before .before .before .before .loop .at)) (c .before .before .before .before .before .before .before .before .before .before .before .before .before .loop .tape) (c .before .before .before .before .before .before .before .before .before .before .before .before .before .loop .inv .3) (c .before .before .before .before .before .before .before .before .before .before .before .before .before .before .before .before .pre .2) _ (c .before .before .before .before .before .before .before .before .before .before .before .before .loop-test .taken) (step-blanks (c .before .before .before .before .before .before .before .before .before .before .before .before .before .before .before .before .args .text .now) (c .before .before .before .before .before .before .before .before .before .before .before .before .before .loop .at) (c .before .before .before .before .before .before .before .before .before .before .before .behind-blanks .result) (c .before .before .before .before .before .before .before .before .before .before .before .behind-blanks .ensures) ∙ step-refuse (c .before .before .before .before .before .before .before .before .before .before .before .before .before .before .before .before .args .text .now) (c .before .before .before .before .before .before .before .before .before .before .before .behind-blanks .result) _ (c .before .before .before .before .next-token .ensures) _ (c .before .before .found2 .given .1)) in (ap refused (c .placed-behind .ensures) ∙ w .answer, w .rows)
 
 same-length-4 : tie.Need-same-length-4 Inv-loop μ-loop
 same-length-4 c = c .before .loop .inv .2
@@ -140,16 +137,12 @@ pass-spec =
     Inv-loop
     μ-loop
     loop-holds
-    sub-count-blanks
-    part-count-blanks-start
-    part-count-blanks-end
-    count-blanks-requires
-    add-front
+    behind-blanks-requires
     same-length
     returns
-    sub-part
-    part-part-start
-    part-part-end
+    sub-plain
+    part-plain-start
+    part-plain-end
     plain-requires
     add-end
     entry-of-requires
@@ -157,6 +150,9 @@ pass-spec =
     add-i
     loop-less
     loop-again
+    sub-next-token
+    part-next-token-start
+    part-next-token-end
     next-token-requires
     enum-known-found
     add-start
