@@ -28,7 +28,9 @@ use Rattle.text.specs.Runs.{run}
 use Rattle.text.specs.Utf8.{behindFour, behindThree, charLen, codeOf, codeOf4, secondByte, widthOf}
 use Rattle.text.specs.Words.{startsWith}
 
--- `#![enable(implicit_some)]`, `#![enable(unwrap_newtypes,implicit_some,unwrap_variant_newtypes,explicit_struct_names,)]`, `#![enable(implicit_some,implicit_some)]`, `#![enable(r#implicit_some)]`, `# ! [ enable /*)*/ ( explicit_struct_names , ) ] //`: the extensions add up, each once; raw names, comments and a comma behind are fine
+-- `#![enable(implicit_some)]`, `#![enable(unwrap_newtypes,implicit_some,unwrap_variant_newtypes,explicit_struct_names,)]`,
+-- `#![enable(implicit_some,implicit_some)]`, `#![enable(r#implicit_some)]`, `# ! [ enable /*)*/ ( explicit_struct_names , ) ] //`: the extensions add up,
+-- each once; raw names, comments and a comma behind are fine
 accepted : (attributeOf (0x23 ∷ 0x21 ∷ 0x5b ∷ 0x65 ∷ 0x6e ∷ 0x61 ∷ 0x62 ∷ 0x6c ∷ 0x65 ∷ 0x28 ∷ 0x69 ∷ 0x6d ∷ 0x70 ∷ 0x6c ∷ 0x69 ∷ 0x63 ∷ 0x69 ∷ 0x74 ∷ 0x5f ∷ 0x73 ∷ 0x6f ∷ 0x6d ∷ 0x65 ∷ 0x29 ∷ 0x5d ∷ []) ≡ Read 25 2)
     × (attributeOf (0x23 ∷ 0x21 ∷ 0x5b ∷ 0x65 ∷ 0x6e ∷ 0x61 ∷ 0x62 ∷ 0x6c ∷ 0x65 ∷ 0x28 ∷ 0x75 ∷ 0x6e ∷ 0x77 ∷ 0x72 ∷ 0x61 ∷ 0x70 ∷ 0x5f ∷ 0x6e ∷ 0x65 ∷ 0x77 ∷ 0x74 ∷ 0x79 ∷ 0x70 ∷ 0x65 ∷ 0x73 ∷ 0x2c ∷ 0x69 ∷ 0x6d ∷ 0x70 ∷ 0x6c ∷ 0x69 ∷ 0x63 ∷ 0x69 ∷ 0x74 ∷ 0x5f ∷ 0x73 ∷ 0x6f ∷ 0x6d ∷ 0x65 ∷ 0x2c ∷ 0x75 ∷ 0x6e ∷ 0x77 ∷ 0x72 ∷ 0x61 ∷ 0x70 ∷ 0x5f ∷ 0x76 ∷ 0x61 ∷ 0x72 ∷ 0x69 ∷ 0x61 ∷ 0x6e ∷ 0x74 ∷ 0x5f ∷ 0x6e ∷ 0x65 ∷ 0x77 ∷ 0x74 ∷ 0x79 ∷ 0x70 ∷ 0x65 ∷ 0x73 ∷ 0x2c ∷ 0x65 ∷ 0x78 ∷ 0x70 ∷ 0x6c ∷ 0x69 ∷ 0x63 ∷ 0x69 ∷ 0x74 ∷ 0x5f ∷ 0x73 ∷ 0x74 ∷ 0x72 ∷ 0x75 ∷ 0x63 ∷ 0x74 ∷ 0x5f ∷ 0x6e ∷ 0x61 ∷ 0x6d ∷ 0x65 ∷ 0x73 ∷ 0x2c ∷ 0x29 ∷ 0x5d ∷ []) ≡ Read 88 15)
     × (attributeOf (0x23 ∷ 0x21 ∷ 0x5b ∷ 0x65 ∷ 0x6e ∷ 0x61 ∷ 0x62 ∷ 0x6c ∷ 0x65 ∷ 0x28 ∷ 0x69 ∷ 0x6d ∷ 0x70 ∷ 0x6c ∷ 0x69 ∷ 0x63 ∷ 0x69 ∷ 0x74 ∷ 0x5f ∷ 0x73 ∷ 0x6f ∷ 0x6d ∷ 0x65 ∷ 0x2c ∷ 0x69 ∷ 0x6d ∷ 0x70 ∷ 0x6c ∷ 0x69 ∷ 0x63 ∷ 0x69 ∷ 0x74 ∷ 0x5f ∷ 0x73 ∷ 0x6f ∷ 0x6d ∷ 0x65 ∷ 0x29 ∷ 0x5d ∷ []) ≡ Read 39 2)
@@ -43,7 +45,8 @@ strings : (attributeOf (0x23 ∷ 0x21 ∷ 0x5b ∷ 0x74 ∷ 0x79 ∷ 0x70 ∷ 0x
 unfolding attributeOf openedOf consumeFrom skipFrom signAt signFrom keywordFrom keywordAt keywordOf byWord firstOf identOf startsWith nextAhead enableFrom stringValueFrom listOf listFrom itemOf behindName itemEnd otherChar extensionOf firstNamed isWord addedTo closeList listEnd noEnd stringEnd stringFrom gapOf gapFrom gapItem commentOf behindSlash blockEnd blockFrom markOf lineEnd lineFrom identifierOf beginsString beginsRaw rawName strictOf nameLen charIf chars charsFrom blankWidth blank1 blank2 blank3 codeOf codeOf4 charLen widthOf behindThree behindFour secondByte within identFirst identNext identRaw asciiFirst asciiNext asciiRaw letter digit stringOf quotedOf rawString rawEnd bodyOf bodyFrom measured run plain unquoted pieceOf behindBackslash lineGoesOn continuationBlank
 strings = (refl, refl)
 
--- `#`, `#![`, `#[enable(implicit_some)]`, `#![enabled(implicit_some)]`, `#![enable implicit_some]`, `#![é]`, `#é`, `#![enable é]`, `#![type "a"]`, `1`, `#[/x`, `#/`, `#![/*`: 19 at the `#`, and what a comment is refused for comes first
+-- `#`, `#![`, `#[enable(implicit_some)]`, `#![enabled(implicit_some)]`, `#![enable implicit_some]`, `#![é]`, `#é`, `#![enable é]`, `#![type "a"]`, `1`,
+-- `#[/x`, `#/`, `#![/*`: 19 at the `#`, and what a comment is refused for comes first
 no-attribute : (attributeOf (0x23 ∷ []) ≡ Refused (expectedAttribute 0))
     × (attributeOf (0x23 ∷ 0x21 ∷ 0x5b ∷ []) ≡ Refused (expectedAttribute 0))
     × (attributeOf (0x23 ∷ 0x5b ∷ 0x65 ∷ 0x6e ∷ 0x61 ∷ 0x62 ∷ 0x6c ∷ 0x65 ∷ 0x28 ∷ 0x69 ∷ 0x6d ∷ 0x70 ∷ 0x6c ∷ 0x69 ∷ 0x63 ∷ 0x69 ∷ 0x74 ∷ 0x5f ∷ 0x73 ∷ 0x6f ∷ 0x6d ∷ 0x65 ∷ 0x29 ∷ 0x5d ∷ []) ≡ Refused (expectedAttribute 0))
@@ -60,7 +63,8 @@ no-attribute : (attributeOf (0x23 ∷ []) ≡ Refused (expectedAttribute 0))
 unfolding attributeOf openedOf consumeFrom skipFrom signAt signFrom keywordFrom keywordAt keywordOf byWord firstOf identOf startsWith nextAhead enableFrom stringValueFrom listOf listFrom itemOf behindName itemEnd otherChar extensionOf firstNamed isWord addedTo closeList listEnd noEnd stringEnd stringFrom gapOf gapFrom gapItem commentOf behindSlash blockEnd blockFrom markOf lineEnd lineFrom identifierOf beginsString beginsRaw rawName strictOf nameLen charIf chars charsFrom blankWidth blank1 blank2 blank3 codeOf codeOf4 charLen widthOf behindThree behindFour secondByte within identFirst identNext identRaw asciiFirst asciiNext asciiRaw letter digit stringOf quotedOf rawString rawEnd bodyOf bodyFrom measured run plain unquoted pieceOf behindBackslash lineGoesOn continuationBlank
 no-attribute = (refl, refl, refl, refl, refl, refl, refl, refl, refl, refl, refl, refl, refl)
 
--- `#![enable(implicit_some 5)]`, `#![enable(implicit_some,,)]`, `#![enable(implicit_some,.)]`, `#![enable(implicit_some`, `#![enable(implicit_some,`, `#![enable(implicit_some)`, `#![type="a")]`, `#![enable(implicit_some]/x`: 20 at the `#`
+-- `#![enable(implicit_some 5)]`, `#![enable(implicit_some,,)]`, `#![enable(implicit_some,.)]`, `#![enable(implicit_some`, `#![enable(implicit_some,`,
+-- `#![enable(implicit_some)`, `#![type="a")]`, `#![enable(implicit_some]/x`: 20 at the `#`
 no-end : (attributeOf (0x23 ∷ 0x21 ∷ 0x5b ∷ 0x65 ∷ 0x6e ∷ 0x61 ∷ 0x62 ∷ 0x6c ∷ 0x65 ∷ 0x28 ∷ 0x69 ∷ 0x6d ∷ 0x70 ∷ 0x6c ∷ 0x69 ∷ 0x63 ∷ 0x69 ∷ 0x74 ∷ 0x5f ∷ 0x73 ∷ 0x6f ∷ 0x6d ∷ 0x65 ∷ 0x20 ∷ 0x35 ∷ 0x29 ∷ 0x5d ∷ []) ≡ Refused (expectedAttributeEnd 0))
     × (attributeOf (0x23 ∷ 0x21 ∷ 0x5b ∷ 0x65 ∷ 0x6e ∷ 0x61 ∷ 0x62 ∷ 0x6c ∷ 0x65 ∷ 0x28 ∷ 0x69 ∷ 0x6d ∷ 0x70 ∷ 0x6c ∷ 0x69 ∷ 0x63 ∷ 0x69 ∷ 0x74 ∷ 0x5f ∷ 0x73 ∷ 0x6f ∷ 0x6d ∷ 0x65 ∷ 0x2c ∷ 0x2c ∷ 0x29 ∷ 0x5d ∷ []) ≡ Refused (expectedAttributeEnd 0))
     × (attributeOf (0x23 ∷ 0x21 ∷ 0x5b ∷ 0x65 ∷ 0x6e ∷ 0x61 ∷ 0x62 ∷ 0x6c ∷ 0x65 ∷ 0x28 ∷ 0x69 ∷ 0x6d ∷ 0x70 ∷ 0x6c ∷ 0x69 ∷ 0x63 ∷ 0x69 ∷ 0x74 ∷ 0x5f ∷ 0x73 ∷ 0x6f ∷ 0x6d ∷ 0x65 ∷ 0x2c ∷ 0x2e ∷ 0x29 ∷ 0x5d ∷ []) ≡ Refused (expectedAttributeEnd 0))
@@ -72,7 +76,8 @@ no-end : (attributeOf (0x23 ∷ 0x21 ∷ 0x5b ∷ 0x65 ∷ 0x6e ∷ 0x61 ∷ 0x6
 unfolding attributeOf openedOf consumeFrom skipFrom signAt signFrom keywordFrom keywordAt keywordOf byWord firstOf identOf startsWith nextAhead enableFrom stringValueFrom listOf listFrom itemOf behindName itemEnd otherChar extensionOf firstNamed isWord addedTo closeList listEnd noEnd stringEnd stringFrom gapOf gapFrom gapItem commentOf behindSlash blockEnd blockFrom markOf lineEnd lineFrom identifierOf beginsString beginsRaw rawName strictOf nameLen charIf chars charsFrom blankWidth blank1 blank2 blank3 codeOf codeOf4 charLen widthOf behindThree behindFour secondByte within identFirst identNext identRaw asciiFirst asciiNext asciiRaw letter digit stringOf quotedOf rawString rawEnd bodyOf bodyFrom measured run plain unquoted pieceOf behindBackslash lineGoesOn continuationBlank
 no-end = (refl, refl, refl, refl, refl, refl, refl, refl)
 
--- `#![enable()]`, `#![enable(,)]`, `#![enable(5)]`, `#![enable(r#)]`, `#![enable(implicit_some.)]`, `#![enable(implicit_some,5)]`, `#![enable(implicit)]`, `#![enable(`: 21 at the `#`, and 6 where the text ends instead
+-- `#![enable()]`, `#![enable(,)]`, `#![enable(5)]`, `#![enable(r#)]`, `#![enable(implicit_some.)]`, `#![enable(implicit_some,5)]`, `#![enable(implicit)]`,
+-- `#![enable(`: 21 at the `#`, and 6 where the text ends instead
 no-extension : (attributeOf (0x23 ∷ 0x21 ∷ 0x5b ∷ 0x65 ∷ 0x6e ∷ 0x61 ∷ 0x62 ∷ 0x6c ∷ 0x65 ∷ 0x28 ∷ 0x29 ∷ 0x5d ∷ []) ≡ Refused (noSuchExtension 0))
     × (attributeOf (0x23 ∷ 0x21 ∷ 0x5b ∷ 0x65 ∷ 0x6e ∷ 0x61 ∷ 0x62 ∷ 0x6c ∷ 0x65 ∷ 0x28 ∷ 0x2c ∷ 0x29 ∷ 0x5d ∷ []) ≡ Refused (noSuchExtension 0))
     × (attributeOf (0x23 ∷ 0x21 ∷ 0x5b ∷ 0x65 ∷ 0x6e ∷ 0x61 ∷ 0x62 ∷ 0x6c ∷ 0x65 ∷ 0x28 ∷ 0x35 ∷ 0x29 ∷ 0x5d ∷ []) ≡ Refused (noSuchExtension 0))
@@ -93,7 +98,8 @@ no-string : (attributeOf (0x23 ∷ 0x21 ∷ 0x5b ∷ 0x74 ∷ 0x79 ∷ 0x70 ∷ 
 unfolding attributeOf openedOf consumeFrom skipFrom signAt signFrom keywordFrom keywordAt keywordOf byWord firstOf identOf startsWith nextAhead enableFrom stringValueFrom listOf listFrom itemOf behindName itemEnd otherChar extensionOf firstNamed isWord addedTo closeList listEnd noEnd stringEnd stringFrom gapOf gapFrom gapItem commentOf behindSlash blockEnd blockFrom markOf lineEnd lineFrom identifierOf beginsString beginsRaw rawName strictOf nameLen charIf chars charsFrom blankWidth blank1 blank2 blank3 codeOf codeOf4 charLen widthOf behindThree behindFour secondByte within identFirst identNext identRaw asciiFirst asciiNext asciiRaw letter digit stringOf quotedOf rawString rawEnd bodyOf bodyFrom measured run plain unquoted pieceOf behindBackslash lineGoesOn continuationBlank
 no-string = (refl, refl, refl, refl, refl)
 
--- `#![enableé]`, `#![enable(é)]`, `#![enable(nopé)]`, `#![enable(implicit_some é)]`, `#![enable(implicit_some,é)]`, `#![enable(implicit_some.é)]`, `#![enable(5é)]`
+-- `#![enableé]`, `#![enable(é)]`, `#![enable(nopé)]`, `#![enable(implicit_some é)]`, `#![enable(implicit_some,é)]`, `#![enable(implicit_some.é)]`,
+-- `#![enable(5é)]`
 accents : (attributeOf (0x23 ∷ 0x21 ∷ 0x5b ∷ 0x65 ∷ 0x6e ∷ 0x61 ∷ 0x62 ∷ 0x6c ∷ 0x65 ∷ 0xc3 ∷ 0xa9 ∷ 0x5d ∷ []) ≡ Refused (expectedAttribute 0))
     × (attributeOf (0x23 ∷ 0x21 ∷ 0x5b ∷ 0x65 ∷ 0x6e ∷ 0x61 ∷ 0x62 ∷ 0x6c ∷ 0x65 ∷ 0x28 ∷ 0xc3 ∷ 0xa9 ∷ 0x29 ∷ 0x5d ∷ []) ≡ Refused (noSuchExtension 0))
     × (attributeOf (0x23 ∷ 0x21 ∷ 0x5b ∷ 0x65 ∷ 0x6e ∷ 0x61 ∷ 0x62 ∷ 0x6c ∷ 0x65 ∷ 0x28 ∷ 0x6e ∷ 0x6f ∷ 0x70 ∷ 0xc3 ∷ 0xa9 ∷ 0x29 ∷ 0x5d ∷ []) ≡ Refused (noSuchExtension 0))

@@ -1,4 +1,5 @@
--- Attributes (document 01, module 7): "`enable` takes one or more of .. `type` and `schema` take a string. .. Exceptions to equality: place of 19 to 21, and the entry ends behind its `]`."
+-- Attributes (document 01, module 7): "`enable` takes one or more of .. `type` and `schema` take a string. .. Exceptions to equality: place of 19 to 21,
+-- and the entry ends behind its `]`."
 -- 19, 20, 21: "attribute; its end; unknown extension; the `#`", which is place 0 of the part. The others stand where the crate's cursor stands.
 use Prim.Native.Nat.{ℕ}
 use mathlib.Core.Bool.{true, cond}

@@ -1,4 +1,5 @@
--- The extensions (document 01, module 7): "`unwrap_newtypes`, `implicit_some`, `unwrap_variant_newtypes`, `explicit_struct_names` ..; detail adds 1, 2, 4, 8, each at most once."
+-- The extensions (document 01, module 7): "`unwrap_newtypes`, `implicit_some`, `unwrap_variant_newtypes`, `explicit_struct_names` ..; detail adds 1, 2, 4,
+-- 8, each at most once."
 use Prim.Native.Nat.{ℕ, _+_, _/_, _%_}
 use mathlib.Core.Bool.{Bool, false, cond}
 use mathlib.Core.List.{List, [], _∷_}

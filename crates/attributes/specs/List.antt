@@ -1,4 +1,5 @@
--- The list of extensions (document 01, module 7): "`enable` takes one or more of .., commas between, one allowed behind. In the list no name is 21 and a missing comma 20."
+-- The list of extensions (document 01, module 7): "`enable` takes one or more of .., commas between, one allowed behind. In the list no name is 21 and a
+-- missing comma 20."
 use Prim.Native.Nat.{ℕ, zero, suc, pred, _+_, _-_}
 use mathlib.Core.Bool.{Bool, true, cond}
 use mathlib.Core.List.{List, [], _∷_}

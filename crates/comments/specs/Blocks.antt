@@ -1,6 +1,6 @@
 -- Block comments (document 01, module 2): "Block comments nest."
--- A part of the text is the list of its bytes; a reader has to believe `markOf` and `Body`: that the rule, and so `blockEnd`, finds exactly a body's end is proved in
--- proofs/Nesting.antt.
+-- A part of the text is the list of its bytes; a reader has to believe `markOf` and `Body`: that the rule, and so `blockEnd`, finds exactly a body's end
+-- is proved in proofs/Nesting.antt.
 use Prim.Native.Nat.{ℕ, _+_, _-_}
 use mathlib.Core.Path.{_≡_}
 use mathlib.Core.List.{List, [], _∷_}

@@ -1,5 +1,6 @@
 -- Whitespace at the cursor (document 01): "Skip from a `ParserCursor` of three numbers (`skip_ws`)."
--- 28: "a place past the end or inside a character; for skip, also a pre-whitespace place above the place, or the whitespace length above the place unless it is the mark for an unclosed line."
+-- 28: "a place past the end or inside a character; for skip, also a pre-whitespace place above the place, or the whitespace length above the place unless
+-- it is the mark for an unclosed line."
 use Prim.Native.Nat.{ℕ, _+_, _-_}
 use mathlib.Core.List.{List, [], _∷_}
 use mathlib.Core.Bool.{Bool, cond, not, _&&_, _||_}

@@ -1,4 +1,5 @@
--- When a digit run reads (document 01, demand 2), said plainly and without the order of the refusals: only digits below the base and underscores, and a value that fits.
+-- When a digit run reads (document 01, demand 2), said plainly and without the order of the refusals: only digits below the base and underscores, and a
+-- value that fits.
 use Prim.Native.Nat.{ℕ, _+_, _*_, _≤_, _<_}
 use mathlib.Core.List.{List, [], _∷_}
 use mathlib.Core.Bool.{cond}

@@ -1,4 +1,6 @@
--- Contents and decoded (document 01): "the bytes inside as a part of the caller's text where nothing was escaped; decoded into a lent buffer in every case." 29: contents hold an escape or a line continuation. 22, no room, is last. "A refused call writes nothing. An accepted decoding leaves the slice behind what it writes as it found it."
+-- Contents and decoded (document 01): "the bytes inside as a part of the caller's text where nothing was escaped; decoded into a lent buffer in every
+-- case." 29: contents hold an escape or a line continuation. 22, no room, is last. "A refused call writes nothing. An accepted decoding leaves the slice
+-- behind what it writes as it found it."
 use Prim.Native.Nat.{ℕ, _+_}
 use mathlib.Core.List.{List, _++_}
 use mathlib.Core.Bool.{Bool, cond}

@@ -1,4 +1,6 @@
--- The string that an entry names (document 01): "28: a place (the start of a contents entry inside the slice is one) past the end or inside a character; an entry number not below the count." "Contents asks of the tape only that the count fits, else 23; the string is read anew, by the entry's kind, at its start." 27: entry of another kind.
+-- The string that an entry names (document 01): "28: a place (the start of a contents entry inside the slice is one) past the end or inside a character;
+-- an entry number not below the count." "Contents asks of the tape only that the count fits, else 23; the string is read anew, by the entry's kind, at its
+-- start." 27: entry of another kind.
 use Prim.Native.Nat.{ℕ}
 use mathlib.Core.List.{List}
 use mathlib.Core.Bool.{Bool, true, false, cond}

@@ -1,4 +1,5 @@
--- Bytes one by one, until they are a whole character: no shorter front of an encoding is one, and bytes that are one for the first time are the encoding of a scalar value. Assumes nothing.
+-- Bytes one by one, until they are a whole character: no shorter front of an encoding is one, and bytes that are one for the first time are the encoding
+-- of a scalar value. Assumes nothing.
 use Prim.Native.Nat.{ℕ, _+_, _-_, _≤_, _<_}
 use native.Mathlib.Omega.{arith}
 use mathlib.Core.List.{List, [], _∷_, _++_, append-assoc, append-nil}

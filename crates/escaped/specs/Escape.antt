@@ -1,5 +1,6 @@
--- Escapes (document 01, module 3), said plainly: what may stand behind a `\`, and what it means. "`\u{}` takes 1 to 6 hex digits, no surrogate, nothing above U+10FFFF.
--- In a string `\x` takes up to four in a row until they form one UTF-8 character; in a char only one; in byte literals and byte strings any byte."
+-- Escapes (document 01, module 3), said plainly: what may stand behind a `\`, and what it means. "`\u{}` takes 1 to 6 hex digits, no surrogate, nothing
+-- above U+10FFFF. In a string `\x` takes up to four in a row until they form one UTF-8 character; in a char only one; in byte literals and byte strings
+-- any byte."
 use Prim.Native.Nat.{ℕ, _+_, _*_, _<_, _≤_}
 use mathlib.Core.List.{List, [], _∷_, _++_}
 use mathlib.Core.Path.{_≡_}

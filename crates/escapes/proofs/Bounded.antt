@@ -1,4 +1,5 @@
--- How far an escape reaches: `bounded` says that it takes 1 or more bytes, all of them ASCII, that a scalar value takes 3 or more, and that a refusal's place lies within the part. Assumes nothing.
+-- How far an escape reaches: `bounded` says that it takes 1 or more bytes, all of them ASCII, that a scalar value takes 3 or more, and that a refusal's
+-- place lies within the part. Assumes nothing.
 use Prim.Native.Nat.{_*_, _+_, _<_, _≤_, suc, zero, ℕ}
 use native.Mathlib.Omega.{arith}
 use mathlib.Core.Bool.{Bool, _&&_, cond, false}

@@ -1,4 +1,5 @@
--- What an escape decodes to: `decoded` says that it is one scalar value or one byte, below 256 in byte strings and byte literals, and of ASCII in strings and chars. Assumes nothing.
+-- What an escape decodes to: `decoded` says that it is one scalar value or one byte, below 256 in byte strings and byte literals, and of ASCII in strings
+-- and chars. Assumes nothing.
 use Prim.Native.Nat.{_*_, _+_, _<_, _≤_, suc, zero, ℕ}
 use native.Mathlib.Omega.{arith}
 use mathlib.Core.Bool.{Bool, _&&_, cond, false, true}

@@ -1,5 +1,6 @@
--- Escapes (document 01, module 3): "`\u{}` takes 1 to 6 hex digits, no surrogate, nothing above U+10FFFF. In a string `\x` takes up to four in a row until they form one UTF-8 character; in a char only one; in byte literals and byte strings any byte."
--- An escape is read over the part of the text from behind its `\`, and its length and places are counted from there. Below, t is what is left of the part, and `at` its place.
+-- Escapes (document 01, module 3): "`\u{}` takes 1 to 6 hex digits, no surrogate, nothing above U+10FFFF. In a string `\x` takes up to four in a row until
+-- they form one UTF-8 character; in a char only one; in byte literals and byte strings any byte." An escape is read over the part of the text from behind
+-- its `\`, and its length and places are counted from there. Below, t is what is left of the part, and `at` its place.
 use Prim.Native.Nat.{ℕ, zero, suc, _+_, _*_}
 use mathlib.Core.List.{List, [], _∷_, _++_}
 use mathlib.Core.Bool.{Bool, true, false, cond, _&&_}

@@ -1,6 +1,7 @@
--- The grammar of Rust's library documentation for `f64::from_str`, "Float ::= Sign? ( 'inf' | 'infinity' | 'nan' | Number )", "Number ::= ( Digit+ | Digit+ '.' Digit* | Digit* '.' Digit+ ) Exp?",
--- "Exp ::= 'e' Sign? Digit+", "Sign ::= [+-]", "Digit ::= [0-9]", where "all alphabetical values are case-insensitive", for texts of float characters (the words need other letters);
--- and the machine that decides it, which proofs/Decides.antt shows to accept exactly the texts of the grammar.
+-- The grammar of Rust's library documentation for `f64::from_str`, "Float ::= Sign? ( 'inf' | 'infinity' | 'nan' | Number )", "Number ::= ( Digit+ |
+-- Digit+ '.' Digit* | Digit* '.' Digit+ ) Exp?", "Exp ::= 'e' Sign? Digit+", "Sign ::= [+-]", "Digit ::= [0-9]", where "all alphabetical values are
+-- case-insensitive", for texts of float characters (the words need other letters); and the machine that decides it, which proofs/Decides.antt shows to
+-- accept exactly the texts of the grammar.
 use Prim.Native.Nat.{ℕ}
 use mathlib.Core.List.{List, [], _∷_, _++_}
 use mathlib.Core.Bool.{Bool, true, false, cond}

@@ -1,4 +1,5 @@
--- A float run judged (document 01, module 6): "Float text must meet the `f64::from_str` grammar, else 11." 12 is a misplaced underscore, and underscores are left out before the grammar is asked.
+-- A float run judged (document 01, module 6): "Float text must meet the `f64::from_str` grammar, else 11." 12 is a misplaced underscore, and underscores
+-- are left out before the grammar is asked.
 use Prim.Native.Nat.{ℕ, suc}
 use mathlib.Core.List.{List, [], _∷_}
 use mathlib.Core.Bool.{Bool, true, false, cond, not, _&&_, _||_}

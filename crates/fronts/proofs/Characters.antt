@@ -1,4 +1,5 @@
--- The character at the front of a part: its width and code point are those of the encoding that stands there, and the width is 0 exactly where none does. Assumes nothing.
+-- The character at the front of a part: its width and code point are those of the encoding that stands there, and the width is 0 exactly where none does.
+-- Assumes nothing.
 use Prim.Native.Nat.{ℕ}
 use native.Mathlib.Omega.{arith}
 use mathlib.Core.List.{List, _++_}

@@ -1,4 +1,5 @@
--- One law for every call with a text: behind the judgement of the text, a call whose own refusals are 4 to 29 has the front that specs/Fronts.antt tells. Assumes nothing.
+-- One law for every call with a text: behind the judgement of the text, a call whose own refusals are 4 to 29 has the front that specs/Fronts.antt tells.
+-- Assumes nothing.
 use Prim.Native.Nat.{ℕ, _≤_, _<_}
 use native.Mathlib.Omega.{arith}
 use mathlib.Core.List.{List}

@@ -1,4 +1,5 @@
--- A character is a byte that is no tail byte, and tail bytes behind it: a text is cut between two characters exactly in front of a byte that is none. Assumes nothing.
+-- A character is a byte that is no tail byte, and tail bytes behind it: a text is cut between two characters exactly in front of a byte that is none.
+-- Assumes nothing.
 use Prim.Native.Nat.{ℕ, zero, suc, _+_, _≤_}
 use native.Mathlib.Omega.{arith}
 use mathlib.Core.Bool.{Bool, true, false}

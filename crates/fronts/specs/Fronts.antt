@@ -1,5 +1,5 @@
--- What every call with a text asks first (document 01), said plainly: "1: text over 65,536 bytes. 2: not UTF-8, first byte of the first bad sequence. 28: a place past the
--- end or inside a character."
+-- What every call with a text asks first (document 01), said plainly: "1: text over 65,536 bytes. 2: not UTF-8, first byte of the first bad sequence. 28:
+-- a place past the end or inside a character."
 use Prim.Native.Nat.{ℕ, _<_, _≤_}
 use mathlib.Core.List.{List, _++_}
 use mathlib.Core.Logic.{_↔_, _⊎_}
@@ -28,8 +28,8 @@ pub record Boundary (text : List ℕ) (p : ℕ) : Type 0 where
   pub before : Encoded (take p text)
   pub behind : Encoded (drop p text)
 
--- The front of a call over a text, behind which it answers `own`: 1 exactly where the text is too long, 2 exactly at the first bad sequence of one that is not, and past
--- both exactly where the text is sound, that is where the call accepts, or refuses with a higher number.
+-- The front of a call over a text, behind which it answers `own`: 1 exactly where the text is too long, 2 exactly at the first bad sequence of one that is
+-- not, and past both exactly where the text is sound, that is where the call accepts, or refuses with a higher number.
 pub record FrontOf {A : Type 0} (text : List ℕ) (call own : Told A) : Type 0 where
   pub long : (call ≡ refused tooLong) ↔ (65536 < length text)
   pub bad : (p : ℕ) → (call ≡ refused (notUtf8 p)) ↔ ((length text ≤ 65536) × FirstBad text p)
@@ -37,7 +37,8 @@ pub record FrontOf {A : Type 0} (text : List ℕ) (call own : Told A) : Type 0 w
   pub accepts : (a : A) → call ≡ accepted a → Sound text
   pub refuses : (r : Refusal) → call ≡ refused r → (2 < r .number) ↔ Sound text
 
--- A cursor that skip takes: its two places are boundaries, the pre-whitespace place is not above the place, nor is the whitespace length, unless it is the mark.
+-- A cursor that skip takes: its two places are boundaries, the pre-whitespace place is not above the place, nor is the whitespace length, unless it is the
+-- mark.
 pub record CursorFits (text : List ℕ) (c : ParserCursor) : Type 0 where
   pub place : Boundary text (c .cursor)
   pub pre : Boundary text (c .«pre_ws_cursor»)

@@ -1,7 +1,6 @@
--- Whitespace told from bytes, both ways: where the bytes in front say a width, there a whitespace character is encoded, over any bytes; and an encoded one has its width.
---     blank-front, blank-none      where there is a width stands a whitespace character, and none where there is no width
---     blank-wide                   a whitespace character's width
--- Assumes nothing.
+-- Whitespace told from bytes, both ways: where the bytes in front say a width, there a whitespace character is encoded, over any bytes; and an encoded one
+-- has its width.     blank-front, blank-none      where there is a width stands a whitespace character, and none where there is no width     blank-wide
+-- a whitespace character's width Assumes nothing.
 use Prim.Native.Nat.{ℕ, _+_, _<_, _≤_}
 use native.Mathlib.Omega.{arith}
 use mathlib.Core.Bool.{Bool, true, cond, _&&_, _||_}

@@ -1,5 +1,5 @@
--- The gap before a token (document 01, modules 1 and 2), said plainly: "Whitespace: U+0009 to U+000D, U+0020, U+0085, U+200E, U+200F, U+2028, U+2029." "Block comments nest;
--- `//` runs to LF. Unclosed at the end, a line comment is accepted." Refusals 4, 5 and 6.
+-- The gap before a token (document 01, modules 1 and 2), said plainly: "Whitespace: U+0009 to U+000D, U+0020, U+0085, U+200E, U+200F, U+2028, U+2029."
+-- "Block comments nest; `//` runs to LF. Unclosed at the end, a line comment is accepted." Refusals 4, 5 and 6.
 use Prim.Native.Nat.{ℕ, _+_}
 use mathlib.Core.Bool.{true}
 use mathlib.Core.List.{List, [], _∷_, _++_}

@@ -78,7 +78,8 @@ module _ (ks : List Kind) where
   abbrev Same : List ℕ → List ℕ → ℕ → Type 0
   Same l l′ n = (i : ℕ) → i < length ks → sideOf (kindAt ks l i) ≡ Opens → linkAt ks l i ≤ i + n → linkAt ks l i ≡ linkAt ks l′ i
 
-  -- no bracket's partner stands before the one that other links give it: it would be joined inside the longer stretch, and to a bracket whose own stretch ends before it
+  -- no bracket's partner stands before the one that other links give it: it would be joined inside the longer stretch, and to a bracket whose own stretch
+  -- ends before it
   shorter : (l l′ : List ℕ) (n : ℕ) → Nested ks l → Nested ks l′ → Same l l′ n
       → (i : ℕ) → i < length ks → sideOf (kindAt ks l i) ≡ Opens → linkAt ks l i ≤ i + suc n → linkAt ks l i < linkAt ks l′ i → ⊥
   shorter l l′ n N N′ same i h e near lt =

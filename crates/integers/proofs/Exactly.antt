@@ -94,7 +94,8 @@ module _ (limit base : ℕ) (positive : 0 < base) where
 -- ---- the theorem
 
 module _ (signed : Bool) (bits : ℕ) (minus : Bool) (base : ℕ) (positive : 0 < base) (run : List ℕ) where
-  -- it reads as a magnitude, exactly when it isn't empty, has no underscore in front, holds only digits below the base and underscores, and its signed value fits
+  -- it reads as a magnitude, exactly when it isn't empty, has no underscore in front, holds only digits below the base and underscores, and its signed
+  -- value fits
   pub reads-exactly : (v : ℕ) → (runOf (limitOf signed bits minus) base run ≡ Value v) ↔ Reads signed bits minus base run v
   reads-exactly v = (
     (λ e.

@@ -1,5 +1,5 @@
--- The third demand over the calls (document 01, "Repair"): "Accepted, the slice holds the new entries, zeros up to the old count, and beyond it what stood there." A repair answers
--- as a fresh reading of the new text does, and the entries that it reports as kept are those that document 01 counts.
+-- The third demand over the calls (document 01, "Repair"): "Accepted, the slice holds the new entries, zeros up to the old count, and beyond it what stood
+-- there." A repair answers as a fresh reading of the new text does, and the entries that it reports as kept are those that document 01 counts.
 use Prim.Native.Nat.{ℕ}
 use mathlib.Core.Bool.{true}
 use mathlib.Core.List.{List}
@@ -14,14 +14,16 @@ use Rattle.reading.specs.Owed.{quietByte}
 use Rattle.read.specs.Read.{readAnswer, readTape}
 use Rattle.repair.specs.Repair.{Repaired, cleared, repairOf, repairedTape}
 
--- `Left text tape n`: an accepted `read` of the text left this tape with n entries, or an accepted `repair` did, over a tape that was left so for a text with one run replaced.
+-- `Left text tape n`: an accepted `read` of the text left this tape with n entries, or an accepted `repair` did, over a tape that was left so for a text
+-- with one run replaced.
 pub data Left : List ℕ → List ℕ → ℕ → Type 0 where
   by-read : (text tape : List ℕ) (n : ℕ) → readAnswer text (length tape) ≡ accepted n → Left text (readTape text tape) n
   by-repair : (old tape : List ℕ) (count a b e : ℕ) (new : List ℕ) (p : Repaired) → Left old tape count → Replaced old new a b e
       → repairOf tape count (length old) a b new ≡ accepted p → Left new (repairedTape tape count (length old) a b new) (p .count)
 
--- The repair of a tape of `count` entries comes to n entries on the tape `now`, which are those that `read` of the new text leaves in a tape of that length; of these the first are old ones that
--- document 01 counts, and the last are old ones moved, as many as it counts; behind the entries stand zeros up to the old count, and beyond it what stood there.
+-- The repair of a tape of `count` entries comes to n entries on the tape `now`, which are those that `read` of the new text leaves in a tape of that
+-- length; of these the first are old ones that document 01 counts, and the last are old ones moved, as many as it counts; behind the entries stand zeros
+-- up to the old count, and beyond it what stood there.
 pub record Mended (old tape : List ℕ) (count a b e : ℕ) (new : List ℕ) (n : ℕ) (now : List ℕ) : Type 0 where
   pub before : ℕ
   pub behind : ℕ

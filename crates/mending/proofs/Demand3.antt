@@ -1,4 +1,5 @@
--- The mission's third demand: a repair of the tape of an old text answers what a fresh reading of the new text answers, and leaves its entries. Assumes nothing.
+-- The mission's third demand: a repair of the tape of an old text answers what a fresh reading of the new text answers, and leaves its entries. Assumes
+-- nothing.
 use Prim.Native.Nat.{ℕ, _+_, _-_}
 use native.Mathlib.Omega.{arith}
 use mathlib.Core.Bool.{Bool, true, false, cond}

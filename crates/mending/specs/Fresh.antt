@@ -1,6 +1,6 @@
--- The mission's third demand: for every old text whose accepted reading the tape holds, and every new text that differs in one run of bytes, a repair answers as a
--- fresh reading of the new text with the same room does. Document 01: "Shown with it: k reaches from the first new entry, at or behind the new bytes' end, that
--- starts where a moved old entry starts, to the last; if none does, k is 0."
+-- The mission's third demand: for every old text whose accepted reading the tape holds, and every new text that differs in one run of bytes, a repair
+-- answers as a fresh reading of the new text with the same room does. Document 01: "Shown with it: k reaches from the first new entry, at or behind the
+-- new bytes' end, that starts where a moved old entry starts, to the last; if none does, k is 0."
 use Prim.Native.Nat.{ℕ, _+_, _-_, _≤_}
 use mathlib.Core.Path.{_≡_}
 use mathlib.Core.Bool.{Bool, false, not, _&&_, _||_}

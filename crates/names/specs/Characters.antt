@@ -1,4 +1,5 @@
--- Characters of a name, by code point and width (document 01, module 1): "Name: first a letter or `_`, then letters, digits, `_`; a raw name also takes `. + -`."
+-- Characters of a name, by code point and width (document 01, module 1): "Name: first a letter or `_`, then letters, digits, `_`; a raw name also takes `.
+-- + -`."
 use Prim.Native.Nat.{ℕ, zero, suc, _+_, _*_, _%_}
 use mathlib.Core.Bool.{Bool, _&&_, _||_}
 use mathlib.Core.List.{List, [], _∷_}

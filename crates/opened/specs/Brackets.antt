@@ -1,4 +1,5 @@
--- The innermost bracket that is open, where the walk refuses with 25 or 26 (document 01, module 10: "entry not allowed here", "tape ends early"). Kinds of entries:
+-- The innermost bracket that is open, where the walk refuses with 25 or 26 (document 01, module 10: "entry not allowed here", "tape ends early"). Kinds of
+-- entries:
 -- 1 `(` 2 `)` 3 `[` 4 `]` 5 `{` 6 `}`.
 use Prim.Native.Nat.{ℕ, zero, suc}
 use mathlib.Core.Bool.{Bool, false, not, cond}

@@ -1,5 +1,6 @@
--- What is promised of the interface for C: nothing of an answer is cut off where it is packed into one number, so that a host which takes the number apart, as bindings/c/sarridok.h says, gets
--- every number of the answer back. Each line is a theorem's statement; its proof only says where it is proved. Assumes nothing.
+-- What is promised of the interface for C: nothing of an answer is cut off where it is packed into one number, so that a host which takes the number
+-- apart, as bindings/c/sarridok.h says, gets every number of the answer back. Each line is a theorem's statement; its proof only says where it is proved.
+-- Assumes nothing.
 use Prim.Native.Nat.{ℕ}
 use mathlib.Core.List.{List}
 use Rattle.cursor.specs.declared.ParserCursor.{ParserCursor}

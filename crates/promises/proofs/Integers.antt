@@ -67,8 +67,8 @@ module _ (text : List ℕ) (place : ℕ) (width : Width) where
   pub integer-placed : Sound text → PlacedOf (Boundary text place) (integerOf text place width) (toldInteger (placedAt place (integerAt width (drop place text))))
   integer-placed = places.integer-placed text place width
 
-  -- What is accepted, where no byte literal stands, is the number written at the place: by its sign, its prefix's base and its digits, the underscores left out. It is a number of the
-  -- width, and the place answered is the one behind its digits and its suffix.
+  -- What is accepted, where no byte literal stands, is the number written at the place: by its sign, its prefix's base and its digits, the underscores
+  -- left out. It is a number of the width, and the place answered is the one behind its digits and its suffix.
   pub integer-written : (t : Typed) → byteLiteral (drop place text) ≡ false → integerOf text place width ≡ accepted t → IsWritten width (drop place text) × AsWritten width (drop place text) place t
   integer-written = accepted-written text place width
 

@@ -1,15 +1,10 @@
--- What is promised: the index, and what all calls share. What the calls promise themselves stands in their contracts, crates/sarridok/src: the answer, told in the paper's
--- words, is what a definition says of the arguments, and so is each lent slice afterwards; none has a `requires`. Beside this file:
---     Skips         skip; gaps and comments; 4, 5 and 6
---     Integers      integer; 6 to 10 and 27; digit runs, byte literals
---     Strings       contents, contents_part, decoded; escapes, strings, chars
---     StructKinds   struct_kind
---     Readings      read; what it reads, what is shut out; names, floats
---     Walks         walk; 24, 25 and 26; links
---     Repairs       repair; the third demand
---     Hosts         the interface for C: nothing of an answer is cut off
--- Demand 1: `refused-read`, `refused-decoded`, `refused-walk`, `refused-repair`; the other calls are lent nothing to write. Demand 2: what is said of each call. Demand 3:
--- `repair-as-read`. Each line is a theorem's statement; its proof only says where it is proved. Assumes nothing.
+-- What is promised: the index, and what all calls share. What the calls promise themselves stands in their contracts, crates/sarridok/src: the answer,
+-- told in the paper's words, is what a definition says of the arguments, and so is each lent slice afterwards; none has a `requires`. Beside this file:
+-- Skips         skip; gaps and comments; 4, 5 and 6     Integers      integer; 6 to 10 and 27; digit runs, byte literals     Strings       contents,
+-- contents_part, decoded; escapes, strings, chars     StructKinds   struct_kind     Readings      read; what it reads, what is shut out; names, floats
+-- Walks         walk; 24, 25 and 26; links     Repairs       repair; the third demand     Hosts         the interface for C: nothing of an answer is cut
+-- off Demand 1: `refused-read`, `refused-decoded`, `refused-walk`, `refused-repair`; the other calls are lent nothing to write. Demand 2: what is said of
+-- each call. Demand 3: `repair-as-read`. Each line is a theorem's statement; its proof only says where it is proved. Assumes nothing.
 use Prim.Native.Nat.{ℕ, _<_, _≤_}
 use mathlib.Core.Bool.{true}
 use mathlib.Core.List.{List, _++_}
@@ -50,7 +45,8 @@ char-front = characters.char-front
 pub no-char-front : (s : List ℕ) → (charLen s ≡ 0) ↔ ((c : ℕ) (t : List ℕ) → Scalar c → s ≡ encode c ++ t → ⊥)
 no-char-front = characters.no-char-front
 
--- A call goes past its front exactly when its text has at most 65,536 bytes and is UTF-8; 1 and 2 are given exactly in their cases (of each call: `skip-front` and its like).
+-- A call goes past its front exactly when its text has at most 65,536 bytes and is UTF-8; 1 and 2 are given exactly in their cases (of each call:
+-- `skip-front` and its like).
 pub text-fit : (text : List ℕ) → (judgedOf text ≡ Fit) ↔ Sound text
 text-fit = texts-front.fit-exactly
 

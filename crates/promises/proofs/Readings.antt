@@ -48,11 +48,13 @@ use Rattle.shutout.proofs.ShutReaders as readers
 
 -- ---- what it reads
 
--- The entries of an accepted read and the gaps between them tile the text: gap, entry, gap, .. to the end, and each entry's bytes have the form of its kind and detail.
+-- The entries of an accepted read and the gaps between them tile the text: gap, entry, gap, .. to the end, and each entry's bytes have the form of its
+-- kind and detail.
 pub read-tiles : (text tape : List ℕ) (n : ℕ) → readAnswer text (length tape) ≡ accepted n → Tiles text 0 (entriesOf n (readTape text tape))
 read-tiles = tiles.read-tiles
 
--- Plain tokens with a blank behind each, marks, names, decimal integers that fit and strings without quote or backslash, are read, and the tape holds exactly them.
+-- Plain tokens with a blank behind each, marks, names, decimal integers that fit and strings without quote or backslash, are read, and the tape holds
+-- exactly them.
 pub read-plain : (text tape : List ℕ) (es : List Entry) → Spelt 0 text es → length text ≤ 65536 → length es ≤ roomOf (length tape)
     → (readAnswer text (length tape) ≡ accepted (length es)) × (entriesOf (length es) (readTape text tape) ≡ es)
 read-plain = spelt.spelt-read
@@ -144,7 +146,8 @@ rows-widest = table-widest
 pub start-goes-on : (c : ℕ) → xidStart c ≡ true → xidContinue c ≡ true
 start-goes-on = start-continues
 
--- The lookup equals membership: the code's tests answer `xidStart` and `xidContinue` (crates/xid/src/search.rt), and these hold exactly of what lies in a row of the class.
+-- The lookup equals membership: the code's tests answer `xidStart` and `xidContinue` (crates/xid/src/search.rt), and these hold exactly of what lies in a
+-- row of the class.
 pub start-member : (c : ℕ) → (xidStart c ≡ true) ↔ ((j : ℕ) × Lies starts table c j)
 start-member c = (start-lies c, λ w. lies-start c (w .0) (w .1))
 

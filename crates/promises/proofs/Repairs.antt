@@ -35,8 +35,9 @@ use Rattle.shutout.proofs.ShutOut as repairers
 
 -- ---- demand 3: a repair is a fresh reading
 
--- Over a tape that `read` or `repair` left, and a new text with one run of bytes replaced, `repair` answers as `read` of the new text in a tape of that length does: the refusal and its
--- place, the entries, zeros up to the old count and what stood beyond it; the first entries are old ones and the last are old ones moved, as many as document 01 counts.
+-- Over a tape that `read` or `repair` left, and a new text with one run of bytes replaced, `repair` answers as `read` of the new text in a tape of that
+-- length does: the refusal and its place, the entries, zeros up to the old count and what stood beyond it; the first entries are old ones and the last are
+-- old ones moved, as many as document 01 counts.
 pub repair-as-read : (old tape : List ℕ) (count a b e : ℕ) (new : List ℕ) → Left old tape count → Replaced old new a b e → AsRead old tape count a b e new
 repair-as-read = repairs-as-read
 

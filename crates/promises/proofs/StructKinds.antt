@@ -1,5 +1,5 @@
--- What is promised of `struct_kind`. Each line is a theorem's statement; its proof only says where it is proved. There is no plainer definition of the answer itself: the
--- crate's lines are the meaning, held by runs against it. Assumes nothing.
+-- What is promised of `struct_kind`. Each line is a theorem's statement; its proof only says where it is proved. There is no plainer definition of the
+-- answer itself: the crate's lines are the meaning, held by runs against it. Assumes nothing.
 use Prim.Native.Nat.{ℕ}
 use mathlib.Core.Bool.{cond}
 use mathlib.Core.List.{List}

@@ -46,7 +46,8 @@ module _ (tape : List ℕ) (count limit links : ℕ) where
       ↔ ((limit ≤ 128) × (count ≤ roomOf (length tape)) × (inOrder (entriesOf count tape) 65536 ≡ true) × (links < count))
   walk-22 = fronts.walk-22 tape count limit links
 
-  -- 24 exactly where a document begins with the entries up to it but none within the limit does; there an opening bracket stands, and the limit is how many are open.
+  -- 24 exactly where a document begins with the entries up to it but none within the limit does; there an opening bracket stands, and the limit is how
+  -- many are open.
   pub walk-24 : (j : ℕ) → (walkOf tape count limit links ≡ refused (depthLimitPassed j)) ↔ (Passed tape count limit links × TooDeep (kindsOf (entriesOf count tape)) limit j)
   walk-24 j = ((λ e. let w = means.says-24 tape count limit links j e in (w .0, w .1)), (λ w. means.answers-24 tape count limit links j (w .0) (w .1)))
 

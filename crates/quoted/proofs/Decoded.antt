@@ -1,4 +1,5 @@
--- The call `decoded` accepts exactly the entries at whose start a string or byte string stands that the buffer has room for, and writes exactly the bytes that it decodes to. Assumes nothing.
+-- The call `decoded` accepts exactly the entries at whose start a string or byte string stands that the buffer has room for, and writes exactly the bytes
+-- that it decodes to. Assumes nothing.
 use Prim.Native.Nat.{ℕ}
 use native.Mathlib.Omega.{arith}
 use mathlib.Core.Bool.{Bool, cond, false, true}

@@ -1,4 +1,5 @@
--- A quoted string is read exactly where a body and its closing quote stand, and decodes to what the body does: `quoted-inside`, `inside-quoted`. Assumes nothing.
+-- A quoted string is read exactly where a body and its closing quote stand, and decodes to what the body does: `quoted-inside`, `inside-quoted`. Assumes
+-- nothing.
 use Prim.Native.Nat.{ℕ, suc, _≤_}
 use native.Mathlib.Omega.{arith}
 use mathlib.Core.Bool.{false}

@@ -1,5 +1,5 @@
--- Read (document 01): "text into a tape, a lent slice of 32-bit numbers. Whitespace and comments make no entry. Order: 1, 2, .. then the refusals of reading in text
--- order, .. and 22 last. A refused call writes nothing. An accepted read leaves the slice behind what it writes as it found it."
+-- Read (document 01): "text into a tape, a lent slice of 32-bit numbers. Whitespace and comments make no entry. Order: 1, 2, .. then the refusals of
+-- reading in text order, .. and 22 last. A refused call writes nothing. An accepted read leaves the slice behind what it writes as it found it."
 use Prim.Native.Nat.{ℕ}
 use mathlib.Core.Bool.{cond}
 use mathlib.Core.List.{List}

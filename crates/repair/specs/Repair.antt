@@ -1,7 +1,7 @@
 -- Repair (document 01): "the tape of an old text, its entry count, the old length, a cut from a to b, the new text." It is told here step by step over the
 -- entries of any tape in order; that these steps come to a fresh reading, where the tape is the old text's, is a theorem. "23: unless a ≤ b ≤ old length, new
--- length + b ≥ old length + a, the count fits the slice, .." and the tape is in order. "Accepted, the slice holds the new entries, zeros up to the old count, and
--- beyond it what stood there." Throughout, o is the old length, n the new one, and e the end of the new bytes.
+-- length + b ≥ old length + a, the count fits the slice, .." and the tape is in order. "Accepted, the slice holds the new entries, zeros up to the old
+-- count, and beyond it what stood there." Throughout, o is the old length, n the new one, and e the end of the new bytes.
 use Prim.Native.Nat.{ℕ, suc, _+_, _-_, _*_}
 use mathlib.Core.Bool.{Bool, cond, _&&_}
 use mathlib.Core.List.{List, [], _∷_, _++_, map}
@@ -74,7 +74,8 @@ noEntry = record { kind = 0; start = 0; end = 0; detail = 0 }
 unfoldable pub joins : List Entry → ℕ → ℕ → ℕ → ℕ → Bool
 joins old b e x k = leb e x && (ltb k (length old) && movedAt b e x (getD old k noEntry))
 
--- The new reading behind n entries, up to the first entry that joins: how many stand before it, and the old entry's number, which is the count where none joins.
+-- The new reading behind n entries, up to the first entry that joins: how many stand before it, and the old entry's number, which is the count where none
+-- joins.
 unfoldable pub scanOf : List Entry → ℕ → ℕ → ℕ → Reading → Scan
 scanOf old b e n complete = scan.Found n (length old)
 scanOf old b e n (broken r) = scan.Refused r

@@ -1,5 +1,5 @@
--- The strings of a tape (document 01): kinds "14 string, 15 byte string", detail "decoded length". "Contents of a string or byte string entry: the bytes inside as a
--- part of the caller's text where nothing was escaped".
+-- The strings of a tape (document 01): kinds "14 string, 15 byte string", detail "decoded length". "Contents of a string or byte string entry: the bytes
+-- inside as a part of the caller's text where nothing was escaped".
 use Prim.Native.Nat.{ℕ}
 use mathlib.Core.List.{List}
 use mathlib.Core.Logic.{_⊎_}

@@ -1,4 +1,6 @@
--- The calls `contents` and `decoded` (document 01): "Contents of a string or byte string entry: the bytes inside as a part of the caller's text where nothing was escaped; decoded into a lent buffer in every case." Order of refusals: 1, 2, 28, 23, 27, then those of reading, then 29 (contents only), and 22 last (decoded only).
+-- The calls `contents` and `decoded` (document 01): "Contents of a string or byte string entry: the bytes inside as a part of the caller's text where
+-- nothing was escaped; decoded into a lent buffer in every case." Order of refusals: 1, 2, 28, 23, 27, then those of reading, then 29 (contents only), and
+-- 22 last (decoded only).
 use Prim.Native.Nat.{ℕ, _-_}
 use mathlib.Core.List.{List, []}
 use lib.ListN.{length, take, drop}

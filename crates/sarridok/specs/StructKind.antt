@@ -1,5 +1,5 @@
--- The call `struct kind` (document 01): "Struct kind at a place, in both `NewtypeMode`s and both `TupleMode`s." Order of refusals: 1, 2, 28, then those of reading.
--- "Success reports no movement; a refusal has the crate's cursor."
+-- The call `struct kind` (document 01): "Struct kind at a place, in both `NewtypeMode`s and both `TupleMode`s." Order of refusals: 1, 2, 28, then those of
+-- reading. "Success reports no movement; a refusal has the crate's cursor."
 use Prim.Native.Nat.{ℕ}
 use mathlib.Core.List.{List}
 use lib.ListN.{drop}

@@ -1,5 +1,6 @@
--- The call `integer` (document 01): "Typed integer at a place, in one of eight widths." Order of refusals: 1, 2, 28, then those of reading, then 27 for a suffix once the digits have read.
--- "A typed read answers the value and the place behind it; with another suffix it is 27 (its place 0 is an exception to equality), and a byte literal is u8."
+-- The call `integer` (document 01): "Typed integer at a place, in one of eight widths." Order of refusals: 1, 2, 28, then those of reading, then 27 for a
+-- suffix once the digits have read. "A typed read answers the value and the place behind it; with another suffix it is 27 (its place 0 is an exception to
+-- equality), and a byte literal is u8."
 use Prim.Native.Nat.{ℕ, _+_, _^_, _<_}
 use mathlib.Core.List.{List, [], _∷_}
 use mathlib.Core.Bool.{false, cond, not}

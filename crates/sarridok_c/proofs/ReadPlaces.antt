@@ -1,5 +1,5 @@
--- The numbers of read and repair are low: a reading has no more entries than the text has bytes, and stops within it; a repair keeps no more of the old ones before
--- and behind the cut. Assumes nothing.
+-- The numbers of read and repair are low: a reading has no more entries than the text has bytes, and stops within it; a repair keeps no more of the old
+-- ones before and behind the cut. Assumes nothing.
 use Prim.Native.Nat.{ℕ, zero, suc, _+_, _-_, _<_, _≤_}
 use native.Mathlib.Omega.{arith}
 use mathlib.Core.Bool.{Bool, true, false, cond}

@@ -1,5 +1,5 @@
--- How a host in C gets an answer: in one number of 64 bits. An accepted call's is below 2^63; a refused call's has the top bit set, and in the rest the refusal's
--- number and place. Document 01: "A refused call writes nothing."
+-- How a host in C gets an answer: in one number of 64 bits. An accepted call's is below 2^63; a refused call's has the top bit set, and in the rest the
+-- refusal's number and place. Document 01: "A refused call writes nothing."
 use Prim.Native.Nat.{ℕ, _+_, _-_, _*_, _^_}
 use mathlib.Core.Bool.{Bool, cond}
 use mathlib.Core.List.{List}

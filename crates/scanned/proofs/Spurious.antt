@@ -1,4 +1,5 @@
--- What is passed over before a step ends between two characters (`spurious-cut`), and at a byte inside a character nothing is passed over (`tail-step`). Assumes nothing.
+-- What is passed over before a step ends between two characters (`spurious-cut`), and at a byte inside a character nothing is passed over (`tail-step`).
+-- Assumes nothing.
 use Prim.Native.Nat.{ℕ, _+_, _≤_}
 use native.Mathlib.Nat.{le-refl}
 use native.Mathlib.Omega.{arith}

@@ -1,4 +1,5 @@
--- A struct kind is the same, whether the scan takes a byte a step or a character (`struct-characters`): the scan begins between two characters. Assumes nothing.
+-- A struct kind is the same, whether the scan takes a byte a step or a character (`struct-characters`): the scan begins between two characters. Assumes
+-- nothing.
 use Prim.Native.Nat.{ℕ, _+_}
 use native.Mathlib.Omega.{arith}
 use mathlib.Core.Bool.{Bool, cond, false, true}

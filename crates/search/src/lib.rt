@@ -42,7 +42,8 @@ fn find_far(s: &[u8], from: usize, a: u8, b: u8) -> usize
     bytewise::find_one_of(s, i, a, b)
 }
 
-// The place of the first a or b at or behind `from`, or the end. Pieces between escapes and stars in a row are short: four bytes are looked at before any sixteen.
+// The place of the first a or b at or behind `from`, or the end. Pieces between escapes and stars in a row are short: four bytes are looked at before any
+// sixteen.
 pub fn find_either(s: &[u8], from: usize, a: u8, b: u8) -> usize
     requires { ⌜ from ≤ length (now s) ⌝ }
     ensures { λ r. ⌜ r ≡ from + run (neither a b) (drop from (now (s .entry))) ⌝ }

@@ -1,5 +1,6 @@
--- What the promises shut out (document 01): "Demand 2 shuts out a reader that refuses everything, one that gives one tape to all texts, and one that accepts and writes nothing. Demand 3,
--- standing over demand 2's reading, shuts out a repair that leaves the first tape standing, and kept numbers that are invented." Assumes nothing.
+-- What the promises shut out (document 01): "Demand 2 shuts out a reader that refuses everything, one that gives one tape to all texts, and one that
+-- accepts and writes nothing. Demand 3, standing over demand 2's reading, shuts out a repair that leaves the first tape standing, and kept numbers that
+-- are invented." Assumes nothing.
 use Prim.Native.Nat.{ℕ}
 use mathlib.Core.List.{List}
 use mathlib.Core.Path.{_≡_}

@@ -1,5 +1,5 @@
--- The call `skip` (document 01), said plainly: "Skip from a `ParserCursor` of three numbers (`skip_ws`)." "The mark for an unclosed line, the largest number of its width."
--- Order of refusals: 1, 2, 28, then those of reading, 4 to 6.
+-- The call `skip` (document 01), said plainly: "Skip from a `ParserCursor` of three numbers (`skip_ws`)." "The mark for an unclosed line, the largest
+-- number of its width." Order of refusals: 1, 2, 28, then those of reading, 4 to 6.
 use Prim.Native.Nat.{ℕ, _+_, _-_, _<_, _≤_}
 use mathlib.Core.Bool.{true}
 use mathlib.Core.List.{List, _∷_, _++_}

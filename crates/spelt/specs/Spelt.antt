@@ -1,5 +1,5 @@
--- Plain tokens written with a blank behind each: marks, names, decimal integers that fit, strings without quote or backslash (document 01, module 9; demand 2 "shuts out a reader
--- that refuses everything, one that gives one tape to all texts, and one that accepts and writes nothing").
+-- Plain tokens written with a blank behind each: marks, names, decimal integers that fit, strings without quote or backslash (document 01, module 9;
+-- demand 2 "shuts out a reader that refuses everything, one that gives one tape to all texts, and one that accepts and writes nothing").
 use Prim.Native.Nat.{ℕ, _+_, _<_}
 use mathlib.Core.Bool.{true, false}
 use mathlib.Core.List.{List, [], _∷_, _++_}

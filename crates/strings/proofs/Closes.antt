@@ -1,4 +1,5 @@
--- Accepted strings, chars and byte literals are decided by their own bytes: `string-closed`, `byte-string-closed`, `char-closed`, `byte-closed` say that nothing behind them changes the answer. Assumes nothing.
+-- Accepted strings, chars and byte literals are decided by their own bytes: `string-closed`, `byte-string-closed`, `char-closed`, `byte-closed` say that
+-- nothing behind them changes the answer. Assumes nothing.
 use Prim.Native.Nat.{_+_, _-_, _<_, _≤_, suc, zero, ℕ}
 use native.Mathlib.Omega.{arith}
 use mathlib.Core.Bool.{Bool, _||_, cond, false, true, _&&_}

@@ -1,4 +1,5 @@
--- What holds of every string that was read: its sizes, what it decodes to and to how many bytes, and that the decoding is the part itself where nothing was escaped. Assumes nothing.
+-- What holds of every string that was read: its sizes, what it decodes to and to how many bytes, and that the decoding is the part itself where nothing
+-- was escaped. Assumes nothing.
 use Prim.Native.Nat.{_+_, _-_, _<_, _≤_, suc, zero, ℕ}
 use native.Mathlib.Omega.{arith}
 use mathlib.Core.Bool.{Bool, _||_, cond, false, _&&_, true}

@@ -1,4 +1,5 @@
--- Chars and byte literals (document 01, modules 3 and 4): "in a char only one [`\x`]; in byte literals any byte. `\u` in a byte literal is 13, behind its `}`." 6: the text ends where a character is needed. 14: char expected. 15: byte literal expected.
+-- Chars and byte literals (document 01, modules 3 and 4): "in a char only one [`\x`]; in byte literals any byte. `\u` in a byte literal is 13, behind its
+-- `}`." 6: the text ends where a character is needed. 14: char expected. 15: byte literal expected.
 use Prim.Native.Nat.{ℕ, _+_}
 use mathlib.Core.List.{List}
 use mathlib.Core.Bool.{cond, _&&_}

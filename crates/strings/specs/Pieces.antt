@@ -73,7 +73,8 @@ writable (decoded.Utf8 c) = scalar c
 
 -- ---- piece by piece
 
--- A body: pieces with their number of bytes, what they decode to, and whether that is something else than what stands there; at its end the closing quote, the end of the text, or a refusal with its place in its piece.
+-- A body: pieces with their number of bytes, what they decode to, and whether that is something else than what stands there; at its end the closing quote,
+-- the end of the text, or a refusal with its place in its piece.
 pub data Body : Type 0 where
   closes : Body
   unclosed : Body

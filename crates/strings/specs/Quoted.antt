@@ -17,7 +17,8 @@ use Rattle.strings.specs.Pieces.Body.{closes, unclosed, spoilt, next}
 abbrev pub literal : ℕ → ℕ → ℕ → ℕ → Bool → Literal
 literal l b e d c = record { len = l; start = b; end = e; decoded = d; escaped = c }
 
--- What a body comes to. It started at `start`, and what is left of it stands at `at`; the last escape or continuation ended at `from`, from where the end is searched for; so many bytes are decoded, and something was escaped or not.
+-- What a body comes to. It started at `start`, and what is left of it stands at `at`; the last escape or continuation ended at `from`, from where the end
+-- is searched for; so many bytes are decoded, and something was escaped or not.
 unfoldable pub measured : Body → ℕ → ℕ → ℕ → ℕ → Bool → LiteralAnswer
 measured closes start from at decoded escaped = Read (literal (at + 1) start at decoded escaped)
 measured unclosed start from at decoded escaped = Refused (expectedStringEnd from)

@@ -1,4 +1,5 @@
--- Strings and byte strings, by their first bytes (document 01, module 9): "`b\"` `br\"` `br#` byte string; `r\"` `r#\"` `r##` string". 16: string expected. 18: byte string expected.
+-- Strings and byte strings, by their first bytes (document 01, module 9): "`b\"` `br\"` `br#` byte string; `r\"` `r#\"` `r##` string". 16: string
+-- expected. 18: byte string expected.
 use Prim.Native.Nat.{ℕ}
 use mathlib.Core.List.{List, _++_}
 use mathlib.Core.Bool.{Bool, cond}

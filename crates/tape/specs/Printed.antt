@@ -1,4 +1,5 @@
--- What the program prints (document 01, "Worked texts"): "The tape program reads standard input, has a tape of 16,384 numbers, and prints .. For a refusal it prints `refused`, number and place."
+-- What the program prints (document 01, "Worked texts"): "The tape program reads standard input, has a tape of 16,384 numbers, and prints .. For a refusal
+-- it prints `refused`, number and place."
 use Prim.Native.Nat.{ℕ}
 use mathlib.Core.List.{List, [], _∷_, _++_}
 use lib.ListN.{length}

@@ -1,5 +1,5 @@
--- Laws of the character at the front: where it is of a class, and that an ASCII byte that is not of the class stops it, whatever list of bytes stands around it.
--- Assumes nothing.
+-- Laws of the character at the front: where it is of a class, and that an ASCII byte that is not of the class stops it, whatever list of bytes stands
+-- around it. Assumes nothing.
 use Prim.Native.Nat.{_<_, _≤_, suc, ℕ}
 use native.Mathlib.Omega.{arith}
 use mathlib.Core.Bool.{Bool, true, cond, false}

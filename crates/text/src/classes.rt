@@ -4,7 +4,8 @@ use xid::search::is_xid_start;
 ghost use mathlib.Core.Path.{_≡_};
 ghost use Prim.Native.Nat.{_≤_};
 ghost use Rattle.xid.specs.Table.{table};
-ghost use Rattle.text.specs.Classes.{within, blankWidth, digit, letter, floatChar, asciiFirst, asciiNext, asciiRaw, identFirst, identNext, identRaw, continuationBlank};
+ghost use Rattle.text.specs.Classes.{within, blankWidth, digit, letter, floatChar, asciiFirst, asciiNext, asciiRaw, identFirst, identNext};
+ghost use Rattle.text.specs.Classes.{identRaw, continuationBlank};
 
 // One of lo to hi.
 pub fn is_within(lo: u8, hi: u8, b: u8) -> bool

@@ -1,7 +1,11 @@
 // The refusals of the paper, each made here and nowhere else: a name for every number, after the crate's errors where it has one. 3 is no longer given (CR 5).
 ghost use mathlib.Core.Path.{_≡_};
 ghost use Prim.Native.Nat.{_+_, _^_, _<_};
-ghost use Rattle.text.specs.Refusals.{refusal, placedBehind, tooLong, notUtf8, unclosedBlockComment, unexpectedChar, eof, expectedInteger, underscoreAtBeginning, invalidIntegerDigit, integerOutOfBounds, expectedFloat, floatUnderscore, invalidEscape, expectedChar, expectedByteLiteral, expectedString, expectedStringEnd, expectedByteString, expectedAttribute, expectedAttributeEnd, noSuchExtension, noRoom, notInOrder, depthLimitPassed, notAllowedHere, tapeEndsEarly, otherKind, unfit, holdsEscape};
+ghost use Rattle.text.specs.Refusals.{refusal, placedBehind, tooLong, notUtf8, unclosedBlockComment, unexpectedChar, eof, expectedInteger};
+ghost use Rattle.text.specs.Refusals.{underscoreAtBeginning, invalidIntegerDigit, integerOutOfBounds, expectedFloat, floatUnderscore};
+ghost use Rattle.text.specs.Refusals.{invalidEscape, expectedChar, expectedByteLiteral, expectedString, expectedStringEnd, expectedByteString};
+ghost use Rattle.text.specs.Refusals.{expectedAttribute, expectedAttributeEnd, noSuchExtension, noRoom, notInOrder, depthLimitPassed};
+ghost use Rattle.text.specs.Refusals.{notAllowedHere, tapeEndsEarly, otherKind, unfit, holdsEscape};
 
 // A refused call's number and place; inside a part of the text the place is counted from the part's front.
 pub struct Refusal {

@@ -6,7 +6,8 @@ ghost use mathlib.Core.Path.{_≡_};
 ghost use Prim.Native.Nat.{_+_, _<_, _≤_};
 ghost use mathlib.Core.List.{_++_};
 ghost use lib.ListN.{length, drop};
-ghost use Rattle.text.specs.Utf8.{secondByte, behindThree, behindFour, widthOf, charLen, utf8Of, codeOf4, codeOf, scalar, encodedLen, encodeAnswer, encodedInto};
+ghost use Rattle.text.specs.Utf8.{secondByte, behindThree, behindFour, widthOf, charLen, utf8Of, codeOf4, codeOf, scalar, encodedLen};
+ghost use Rattle.text.specs.Utf8.{encodeAnswer, encodedInto};
 ghost use Rattle.text.specs.Utf8.{encode as bytesOf};
 
 // What a whole text is: UTF-8, or not, with the place of the first bad sequence.

@@ -1,6 +1,7 @@
--- The form that the bytes of each kind of entry have (document 01, module 9): "Kinds: 1 `(` 2 `)` 3 `[` 4 `]` 5 `{` 6 `}` 7 `,` 8 `:` 9 name, 10 raw name, 11 integer, 12 float,
--- 13 char, 14 string, 15 byte string, 16 attribute. Detail: width 1 to 8 for i8, i16, i32, i64, u8, u16, u32, u64; 0, 32 or 64 for a float's suffix; code point; decoded
--- length; extensions; else 0."
+-- The form that the bytes of each kind of entry have (document 01, module 9): "Kinds: 1 `(` 2 `)` 3 `[` 4 `]` 5 `{` 6 `}` 7 `,` 8 `:` 9 name, 10 raw name,
+-- 11 integer, 12 float,
+-- 13 char, 14 string, 15 byte string, 16 attribute. Detail: width 1 to 8 for i8, i16, i32, i64, u8, u16, u32, u64; 0, 32 or 64 for a float's suffix; code
+-- point; decoded length; extensions; else 0."
 use Prim.Native.Nat.{ℕ}
 use mathlib.Core.List.{List, [], _∷_, _++_}
 use mathlib.Core.Logic.{_⊎_}

@@ -49,8 +49,9 @@ value n end = accepted (record { number = record { minus = false; magnitude = n 
 abbrev pub below : ℕ → ℕ → Told Typed
 below n end = accepted (record { number = record { minus = true; magnitude = n }; end = end })
 
--- The list: `Lock(id: 7)`; `300a`; `'\xC3'`; `\"\q`; `/*/*/`; typed u8 `255`, `256`, `99f` and `25f`, typed i8 `-128`; `\"\xC3\xA9\"` decoded; the struct kind of
--- `(\"a\"/*,*/)`; `[7, 8, 9]` with the bytes from 4 to 6 replaced by `/*8,*/`. A tape or buffer has one number more than it needs: what stands behind stays.
+-- The list: `Lock(id: 7)`; `300a`; `'\xC3'`; `\"\q`; `/*/*/`; typed u8 `255`, `256`, `99f` and `25f`, typed i8 `-128`; `\"\xC3\xA9\"` decoded; the struct
+-- kind of `(\"a\"/*,*/)`; `[7, 8, 9]` with the bytes from 4 to 6 replaced by `/*8,*/`. A tape or buffer has one number more than it needs: what stands
+-- behind stays.
 abbrev pub texts : List Claim
 texts =
     reads (0x4c ∷ 0x6f ∷ 0x63 ∷ 0x6b ∷ 0x28 ∷ 0x69 ∷ 0x64 ∷ 0x3a ∷ 0x20 ∷ 0x37 ∷ 0x29 ∷ [])

@@ -1,4 +1,5 @@
--- When the call `integer` accepts (document 01), said plainly: "A typed read answers the value and the place behind it; with another suffix it is 27, and a byte literal is u8."
+-- When the call `integer` accepts (document 01), said plainly: "A typed read answers the value and the place behind it; with another suffix it is 27, and
+-- a byte literal is u8."
 use Prim.Native.Nat.{ℕ, _+_, _<_, _≤_}
 use mathlib.Core.Bool.{false}
 use mathlib.Core.List.{List}

@@ -1,5 +1,6 @@
--- The number written at a place (document 01): "Typed integer at a place, in one of eight widths." "A typed read answers the value and the place behind it; with
--- another suffix it is 27, and a byte literal is u8." Written are a sign, the prefix of a base, digits below the base with underscores between them, and a suffix.
+-- The number written at a place (document 01): "Typed integer at a place, in one of eight widths." "A typed read answers the value and the place behind
+-- it; with another suffix it is 27, and a byte literal is u8." Written are a sign, the prefix of a base, digits below the base with underscores between
+-- them, and a suffix.
 use Prim.Native.Nat.{ℕ, _+_}
 use mathlib.Core.Bool.{Bool}
 use mathlib.Core.List.{List, [], _∷_}

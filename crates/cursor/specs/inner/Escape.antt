@@ -1,4 +1,5 @@
--- Escapes at the cursor (document 01, "Code places and their forms"): "The three-number ParserCursor takes self and returns the moved cursor after whitespace, characters and escapes."
+-- Escapes at the cursor (document 01, "Code places and their forms"): "The three-number ParserCursor takes self and returns the moved cursor after
+-- whitespace, characters and escapes."
 use Prim.Native.Nat.{ℕ}
 use mathlib.Core.List.{List}
 use lib.ListN.{drop}

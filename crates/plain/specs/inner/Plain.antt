@@ -1,5 +1,5 @@
--- Plain tokens: those that a look at their own bytes and the one behind them tells, with nothing in front. Document 01 knows only tokens (module 9); that a plain
--- token is the token that stands there is proved in proofs/PlainLaws.antt, so nothing here has to be believed.
+-- Plain tokens: those that a look at their own bytes and the one behind them tells, with nothing in front. Document 01 knows only tokens (module 9); that
+-- a plain token is the token that stands there is proved in proofs/PlainLaws.antt, so nothing here has to be believed.
 use Prim.Native.Nat.{ℕ, _-_}
 use mathlib.Core.Bool.{cond}
 use mathlib.Core.List.{List}

@@ -1,5 +1,6 @@
--- Plain numbers, which a read takes without the general reader: a sign or none, digits, and then either a quiet byte, where the digits are at most nine, or a point,
--- digits and a quiet byte. They are kinds 11 and 12 of document 01, module 9; that the general reader says the same of them is proved in proofs/PlainNumbers.antt.
+-- Plain numbers, which a read takes without the general reader: a sign or none, digits, and then either a quiet byte, where the digits are at most nine,
+-- or a point, digits and a quiet byte. They are kinds 11 and 12 of document 01, module 9; that the general reader says the same of them is proved in
+-- proofs/PlainNumbers.antt.
 use Prim.Native.Nat.{ℕ, suc, _+_}
 use mathlib.Core.List.{List}
 use mathlib.Core.Bool.{Bool, cond, _&&_}

@@ -1,5 +1,5 @@
--- Plain strings, which the reading loop takes by itself. Document 01 does not speak of them: what a string is the token reader says, and that a plain string is what it
--- reads is proved in proofs/PlainStrings.antt.
+-- Plain strings, which the reading loop takes by itself. Document 01 does not speak of them: what a string is the token reader says, and that a plain
+-- string is what it reads is proved in proofs/PlainStrings.antt.
 use Prim.Native.Nat.{ℕ, _+_}
 use mathlib.Core.Bool.{cond, _&&_}
 use mathlib.Core.List.{List}

@@ -1,5 +1,5 @@
--- A pass over a text. Read (document 01) makes two with one loop: "a refused call writes nothing", so the first only counts, and the second lays the entries on the
--- tape. Repair lays so many entries from a place on.
+-- A pass over a text. Read (document 01) makes two with one loop: "a refused call writes nothing", so the first only counts, and the second lays the
+-- entries on the tape. Repair lays so many entries from a place on.
 use Prim.Native.Nat.{ℕ, zero, suc}
 use mathlib.Core.Bool.{Bool, cond}
 use mathlib.Core.List.{List}
