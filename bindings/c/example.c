@@ -15,7 +15,8 @@ static uint32_t kind_of(size_t i) { return sarridok_entry(tape, i).kind; }
 
 static int refused_at(const char *call, uint64_t answer, uint32_t place) {
     uint32_t number = sarridok_refusal_number(answer);
-    fprintf(stderr, "%s: refused %" PRIu32 " at %" PRIu32 ": %s\n", call, number, place, sarridok_refusal_text(number));
+    const char *why = sarridok_reason_text(sarridok_refusal_reason(answer));
+    fprintf(stderr, "%s: refused %" PRIu32 " at %" PRIu32 ": %s%s%s\n", call, number, place, sarridok_refusal_text(number), *why ? ": " : "", why);
     return 1;
 }
 

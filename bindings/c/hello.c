@@ -3,7 +3,8 @@
 #include <stdio.h>
 
 static int refused(uint64_t answer) {
-    printf("%s\n", sarridok_refusal_text(sarridok_refusal_number(answer)));
+    const char *why = sarridok_reason_text(sarridok_refusal_reason(answer)); /* of an escape; else there is nothing to add */
+    printf("%s%s%s\n", sarridok_refusal_text(sarridok_refusal_number(answer)), *why ? ": " : "", why);
     return 1;
 }
 

@@ -13,11 +13,11 @@
  *
  * The answer of every function is one number:
  *   accepted   below 2^63; which of the functions below takes out what it holds is said at each call
- *   refused    2^63 + number * 2^32 + place; such a call has written nothing
- * Where an answer holds two numbers they are first * 2^32 + second. Nothing is ever cut off: no place and no count is above 3 * 65,536, and both numbers are got back
- * by a shift and a mask. That is proved of every function (crates/promises/proofs/Hosts.antt).
+ *   refused    2^63 + (number + 256 * reason) * 2^32 + place; such a call has written nothing. The reason says why an escape is not valid (13), and is else 0
+ * Where an accepted answer holds two numbers they are first * 2^32 + second. Nothing is ever cut off: no place and no count is above 3 * 65,536, no number and no reason
+ * above 255, and each is got back by a shift and a mask. That is proved of every function (crates/promises/proofs/Hosts.antt).
  *
- * Names begin with what they are: SARRIDOK_KIND_, _EXTENSION_, _WIDTH_, _NEWTYPE_, _TUPLE_, _STRUCT_, _REFUSED_.
+ * Names begin with what they are: SARRIDOK_KIND_, _EXTENSION_, _WIDTH_, _NEWTYPE_, _TUPLE_, _STRUCT_, _REFUSED_, _REASON_.
  */
 #ifndef SARRIDOK_H
 #define SARRIDOK_H
@@ -34,7 +34,7 @@ _Static_assert(sizeof(size_t) == 8, "sarridok: the archive is for a size_t of 64
 
 /* ---- Version: major * 10000 + minor * 100 + patch */
 
-#define SARRIDOK_VERSION 200
+#define SARRIDOK_VERSION 300
 
 /* The version that the archive was built with: SARRIDOK_VERSION where the header belongs to it. */
 uint32_t sarridok_version(void);
@@ -132,7 +132,7 @@ enum sarridok_refusal {
     SARRIDOK_REFUSED_INTEGER_OUT_OF_BOUNDS = 10,  /* where the crate's cursor stands */
     SARRIDOK_REFUSED_EXPECTED_FLOAT = 11,         /* where the crate's cursor stands */
     SARRIDOK_REFUSED_FLOAT_UNDERSCORE = 12,       /* where the crate's cursor stands */
-    SARRIDOK_REFUSED_INVALID_ESCAPE = 13,         /* where the crate's cursor stands */
+    SARRIDOK_REFUSED_INVALID_ESCAPE = 13,         /* where the crate's cursor stands, as its reason says */
     SARRIDOK_REFUSED_EXPECTED_CHAR = 14,          /* where the crate's cursor stands */
     SARRIDOK_REFUSED_EXPECTED_BYTE_LITERAL = 15,  /* where the crate's cursor stands */
     SARRIDOK_REFUSED_EXPECTED_STRING = 16,        /* where the crate's cursor stands */
@@ -214,6 +214,42 @@ static inline const char *sarridok_refusal_text(uint32_t number) {
         return "no refusal of the table";
     }
 }
+
+/* Why an escape is not valid: the reason of refusal 13, and behind it which place it has. Every other refusal has the reason 0. */
+enum sarridok_escape_reason {
+    SARRIDOK_REASON_DIGIT_NOT_HEX = 1,          /* behind the character that is no digit */
+    SARRIDOK_REASON_UNKNOWN_LETTER = 2,         /* behind it */
+    SARRIDOK_REASON_NOT_BYTE_ESCAPED = 3,       /* behind the last digits read */
+    SARRIDOK_REASON_MISSING_OPEN_BRACE = 4,     /* behind the `u` */
+    SARRIDOK_REASON_NO_DIGITS = 5,              /* at the `}` */
+    SARRIDOK_REASON_NO_CLOSING_BRACE = 6,       /* behind the sixth digit */
+    SARRIDOK_REASON_NOT_A_CHARACTER = 7,        /* behind the `}` */
+    SARRIDOK_REASON_UNICODE_IN_BYTE_LITERAL = 8 /* behind the `}` */
+};
+
+/* The words of a reason; of any other number, 0 too, "": there is nothing to add to the sentence. */
+static inline const char *sarridok_reason_text(uint32_t reason) {
+    switch (reason) {
+    case SARRIDOK_REASON_DIGIT_NOT_HEX:
+        return "digit not hex";
+    case SARRIDOK_REASON_UNKNOWN_LETTER:
+        return "unknown letter";
+    case SARRIDOK_REASON_NOT_BYTE_ESCAPED:
+        return "not a byte-escaped character";
+    case SARRIDOK_REASON_MISSING_OPEN_BRACE:
+        return "missing open brace";
+    case SARRIDOK_REASON_NO_DIGITS:
+        return "no digits";
+    case SARRIDOK_REASON_NO_CLOSING_BRACE:
+        return "no closing brace";
+    case SARRIDOK_REASON_NOT_A_CHARACTER:
+        return "not a character";
+    case SARRIDOK_REASON_UNICODE_IN_BYTE_LITERAL:
+        return "Unicode in a byte literal";
+    default:
+        return "";
+    }
+}
 /* refusals: end */
 
 /* ---- What an answer holds. Each takes one thing out, and is asked of an answer that has it */
@@ -222,7 +258,12 @@ static inline int sarridok_is_refused(uint64_t answer) { return answer >> 63 != 
 
 /* Of a refused answer, its number; 0 for an accepted one. */
 static inline uint32_t sarridok_refusal_number(uint64_t answer) {
-    return sarridok_is_refused(answer) ? (uint32_t)(answer >> 32) & 0x7FFFFFFF : 0;
+    return sarridok_is_refused(answer) ? (uint32_t)(answer >> 32) & 0xFF : 0;
+}
+
+/* Of a refused answer, its reason, of enum sarridok_escape_reason; 0 for every number but 13, and for an accepted one. */
+static inline uint32_t sarridok_refusal_reason(uint64_t answer) {
+    return sarridok_is_refused(answer) ? (uint32_t)(answer >> 40) & 0xFF : 0;
 }
 
 /* Of a refused answer, its place. */

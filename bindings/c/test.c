@@ -14,9 +14,17 @@ static int wrong = 0;
         }                                                             \
     } while (0)
 
-/* Whether an answer is this refusal. */
-static int refused(uint64_t answer, uint32_t number, uint32_t place) {
-    return sarridok_is_refused(answer) && sarridok_refusal_number(answer) == number && sarridok_refusal_place(answer) == place;
+/* Whether an answer is this refusal, for this reason. */
+static int refused_for(uint64_t answer, uint32_t number, uint32_t reason, uint32_t place) {
+    return sarridok_is_refused(answer) && sarridok_refusal_number(answer) == number && sarridok_refusal_reason(answer) == reason &&
+           sarridok_refusal_place(answer) == place;
+}
+
+/* The same where there is no reason, and of an escape, which has one. */
+static int refused(uint64_t answer, uint32_t number, uint32_t place) { return refused_for(answer, number, 0, place); }
+
+static int refused_escape(uint64_t answer, uint32_t reason, uint32_t place) {
+    return refused_for(answer, SARRIDOK_REFUSED_INVALID_ESCAPE, reason, place);
 }
 
 #define TEXT "Lock(id: -7, name: \"Foxton\")"
@@ -40,7 +48,7 @@ static void entry_is(size_t i, uint32_t kind, uint32_t start, uint32_t end, uint
 static void test_read(void) {
     uint64_t answer = sarridok_read(text, text_len, tape, tape_len);
     HOLDS(!sarridok_is_refused(answer));
-    HOLDS(sarridok_refusal_number(answer) == 0);
+    HOLDS(sarridok_refusal_number(answer) == 0 && sarridok_refusal_reason(answer) == 0);
     HOLDS(sarridok_count(answer) == 10);
     entry_is(0, SARRIDOK_KIND_NAME, 0, 4, 0);
     entry_is(1, SARRIDOK_KIND_OPEN_PAREN, 4, 5, 0);
@@ -137,6 +145,67 @@ static void test_repair(void) {
     entry_is(9, 0, 0, 0, 0);
 }
 
+/* Texts whose escape is not valid, each with its reason and its place. */
+static const struct {
+    const char *text;
+    uint32_t reason;
+    uint32_t place;
+} escapes[] = {
+    {"\"\\xg\"", SARRIDOK_REASON_DIGIT_NOT_HEX, 4},
+    {"\"\\u{1\"", SARRIDOK_REASON_DIGIT_NOT_HEX, 6},
+    {"\"\\xC3\\x!\"", SARRIDOK_REASON_DIGIT_NOT_HEX, 8},
+    {"\"\\q\"", SARRIDOK_REASON_UNKNOWN_LETTER, 3},
+    {"#![type=\"\\q\"]", SARRIDOK_REASON_UNKNOWN_LETTER, 11},
+    {"\"\\xC3\"", SARRIDOK_REASON_NOT_BYTE_ESCAPED, 5},
+    {"'\\x80'", SARRIDOK_REASON_NOT_BYTE_ESCAPED, 5},
+    {"\"\\xC3\\x41\"", SARRIDOK_REASON_NOT_BYTE_ESCAPED, 9},
+    {"\"\\u41\"", SARRIDOK_REASON_MISSING_OPEN_BRACE, 3},
+    {"\"\\u{}\"", SARRIDOK_REASON_NO_DIGITS, 4},
+    {"b'\\u{}'", SARRIDOK_REASON_NO_DIGITS, 5},
+    {"\"\\u{1234567}\"", SARRIDOK_REASON_NO_CLOSING_BRACE, 10},
+    {"\"\\u{123456\"", SARRIDOK_REASON_NO_CLOSING_BRACE, 10},
+    {"\"\\u{D800}\"", SARRIDOK_REASON_NOT_A_CHARACTER, 9},
+    {"b'\\u{D800}'", SARRIDOK_REASON_NOT_A_CHARACTER, 10},
+    {"b'\\u{41}'", SARRIDOK_REASON_UNICODE_IN_BYTE_LITERAL, 8},
+};
+
+/* The reason is the same whichever call reads the escape, and nothing is written. */
+static void test_escapes(void) {
+    uint32_t room[SARRIDOK_TAPE_FOR(16)];
+    memset(room, 0, sizeof room);
+    for (size_t i = 0; i < sizeof escapes / sizeof *escapes; i++) {
+        uint64_t answer = sarridok_read(bytes(escapes[i].text), strlen(escapes[i].text), room, sizeof room / sizeof *room);
+        HOLDS(refused_escape(answer, escapes[i].reason, escapes[i].place));
+        HOLDS(room[0] == 0);
+    }
+    /* Where the string is not closed no escape is judged. */
+    HOLDS(refused(sarridok_read(bytes("\"\\q"), 3, room, sizeof room / sizeof *room), SARRIDOK_REFUSED_EXPECTED_STRING_END, 1));
+    uint64_t magnitude = 1;
+    HOLDS(refused_escape(sarridok_integer(bytes("b'\\u{41}'"), 9, 0, SARRIDOK_WIDTH_U8, &magnitude), SARRIDOK_REASON_UNICODE_IN_BYTE_LITERAL, 8));
+    HOLDS(magnitude == 1);
+    HOLDS(refused_escape(sarridok_struct_kind(bytes("(\"\\q\")"), 6, 0, 0, SARRIDOK_TUPLE_DIFFERENTIATE_NEWTYPE), SARRIDOK_REASON_UNKNOWN_LETTER, 4));
+    /* No read gives the entry of such a string: the tape is made by hand. */
+    uint32_t made[SARRIDOK_ENTRY] = {SARRIDOK_KIND_STRING, 1, 7, 1};
+    const uint8_t *const closed = bytes("[\"\\u{}\"]");
+    uint8_t out[2] = "-";
+    HOLDS(refused_escape(sarridok_contents(closed, 8, made, SARRIDOK_ENTRY, 1, 0), SARRIDOK_REASON_NO_DIGITS, 5));
+    HOLDS(refused_escape(sarridok_decoded(closed, 8, made, SARRIDOK_ENTRY, 1, 0, out, 1), SARRIDOK_REASON_NO_DIGITS, 5));
+    HOLDS(out[0] == '-');
+    uint64_t before = 7, behind = 7;
+    HOLDS(sarridok_read(bytes("\"a\""), 3, room, sizeof room / sizeof *room) == 1);
+    HOLDS(refused_escape(sarridok_repair(room, 4, 1, 3, 1, 2, bytes("\"\\u41\""), 6, &before, &behind), SARRIDOK_REASON_MISSING_OPEN_BRACE, 3));
+    HOLDS(before == 7 && behind == 7 && room[0] == SARRIDOK_KIND_STRING && room[2] == 3);
+}
+
+/* 0 and the numbers behind the last have no words. */
+static void test_reasons(void) {
+    for (uint32_t reason = 0; reason < 20; reason++) {
+        int known = 1 <= reason && reason <= SARRIDOK_REASON_UNICODE_IN_BYTE_LITERAL;
+        HOLDS((*sarridok_reason_text(reason) != '\0') == known);
+    }
+    HOLDS(strcmp(sarridok_reason_text(SARRIDOK_REASON_NOT_BYTE_ESCAPED), "not a byte-escaped character") == 0);
+}
+
 /* 0, 3 and the numbers behind the last have no sentence of their own. */
 static void test_refusals(void) {
     const char *none = sarridok_refusal_text(0);
@@ -158,5 +227,7 @@ int main(void) {
     test_skip();
     test_repair();
     test_refusals();
+    test_escapes();
+    test_reasons();
     return wrong;
 }

@@ -15,7 +15,7 @@ pub fn is_refused(answer: u64) -> bool {
 
 /// The number of a refusal.
 pub fn refusal(answer: u64) -> Option<u32> {
-    is_refused(answer).then_some((answer >> 32 & 0x7FFF_FFFF) as u32)
+    is_refused(answer).then_some((answer >> 32 & 0xFF) as u32)
 }
 
 /// The number of entries.

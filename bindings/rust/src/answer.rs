@@ -1,6 +1,6 @@
-//! An answer taken apart: below 2^63 it is accepted, else 2^63 + number * 2^32 + place.
+//! An answer taken apart: below 2^63 it is accepted, else 2^63 + (number + 256 * reason) * 2^32 + place.
 
-use crate::{Refusal, Refused};
+use crate::{EscapeReason, Refusal, Refused};
 
 /// The two numbers of an accepted answer, 31 and 32 bits wide.
 #[derive(Debug)]
@@ -22,9 +22,12 @@ pub fn taken_apart(answer: u64) -> Result<Pair, Refused> {
     if answer >> 63 == 0 {
         return Ok(Pair { high, low });
     }
-    let number = high as u8;
-    let refusal = Refusal::try_from(number).unwrap_or(Refusal::Unknown(number));
-    Err(Refused::new(refusal, low as usize))
+    let [number, reason, ..] = high.to_le_bytes();
+    Err(Refused {
+        refusal: Refusal::try_from(number).unwrap_or(Refusal::Unknown(number)),
+        place: low as usize,
+        reason: EscapeReason::try_from(reason).ok(),
+    })
 }
 
 #[cfg(test)]
@@ -37,8 +40,18 @@ mod tests {
         for number in 0..=u8::MAX {
             let answer = (1 << 63) + (u64::from(number) << 32) + 65_536;
             let refused = taken_apart(answer).expect_err("the top bit refuses");
-            assert_eq!((refused.number(), refused.place), (number, 65_536));
+            assert_eq!((refused.number(), refused.place, refused.reason), (number, 65_536, None));
             assert_eq!(Refusal::try_from(number).is_ok(), Refusal::ALL.contains(&refused.refusal));
+        }
+    }
+
+    #[test]
+    fn every_reason_is_got_back() {
+        for number in 0..=u8::MAX {
+            let answer = (1 << 63) + ((13 + 256 * u64::from(number)) << 32) + 65_536;
+            let refused = taken_apart(answer).expect_err("the top bit refuses");
+            assert_eq!((refused.refusal, refused.place), (Refusal::InvalidEscape, 65_536));
+            assert_eq!(refused.reason, EscapeReason::try_from(number).ok());
         }
     }
 
@@ -46,6 +59,8 @@ mod tests {
     fn an_unknown_refusal_says_so() {
         let refused = taken_apart((1 << 63) + (200 << 32)).expect_err("the top bit refuses");
         assert_eq!(refused.to_string(), "refused 200 at 0: no refusal that this version knows");
+        let refused = taken_apart((1 << 63) + ((13 + 256 * 200) << 32)).expect_err("the top bit refuses");
+        assert_eq!(refused.to_string(), "refused 13 at 0: the escape is not valid");
     }
 
     #[test]

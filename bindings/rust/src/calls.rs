@@ -5,10 +5,10 @@ use crate::raw;
 use crate::{NewtypeMode, ParserCursor, Refused, Repaired, StructType, TupleMode, Value, Width};
 use core::ops::Range;
 
-/// The version of the archive that was linked: major * 10,000 + minor * 100 + patch, so 200 is 0.2.0.
+/// The version of the archive that was linked: major * 10,000 + minor * 100 + patch, so 300 is 0.3.0.
 ///
 /// ```
-/// assert_eq!(sarridok::version(), 200);
+/// assert_eq!(sarridok::version(), 300);
 /// ```
 pub fn version() -> u32 {
     // Safety: it takes and writes nothing.
@@ -25,7 +25,8 @@ pub fn version() -> u32 {
 /// let mut tape = [0; 24];
 /// assert_eq!(sarridok::read(b"Lock(id: 7)", &mut tape), Ok(6));
 /// assert_eq!(tape[16..20], [11, 9, 10, 5]);
-/// assert_eq!(sarridok::read(b"'\\xC3'", &mut tape).unwrap_err().to_string(), "refused 13 at 5: the escape is not valid");
+/// let refused = sarridok::read(b"'\\xC3'", &mut tape).unwrap_err();
+/// assert_eq!(refused.to_string(), "refused 13 at 5: the escape is not valid: not a byte-escaped character");
 /// ```
 pub fn read(text: &[u8], tape: &mut [u32]) -> Result<usize, Refused> {
     // Safety: both slices are valid for the call, and the one that is written is borrowed alone.
@@ -102,6 +103,8 @@ pub fn repair(tape: &mut [u32], count: usize, old_len: usize, cut: Range<usize>,
 /// let (value, end) = integer(b"-128", 0, Width::I8)?;
 /// assert_eq!((i8::try_from(value), end), (Ok(-128), 4));
 /// assert_eq!(integer(b"256", 0, Width::U8).unwrap_err().to_string(), "refused 10 at 3: the integer is out of bounds");
+/// let refused = integer(br"b'\u{41}'", 0, Width::U8).unwrap_err();
+/// assert_eq!(refused.to_string(), "refused 13 at 8: the escape is not valid: Unicode in a byte literal");
 /// # Ok::<(), sarridok::Refused>(())
 /// ```
 pub fn integer(text: &[u8], place: usize, width: Width) -> Result<(Value, usize), Refused> {

@@ -4,7 +4,8 @@
 //! bytes and all numbers, and to end. This crate passes numbers and slices on and takes the answer apart. Slices of Rust are what the archive asks of its
 //! caller: valid, and what is written overlaps nothing else.
 //!
-//! Every call takes arbitrary bytes and numbers. What is unfit gets a numbered [`Refusal`] with a place, and a refused call writes nothing.
+//! Every call takes arbitrary bytes and numbers. What is unfit gets a numbered [`Refusal`] with a place, an escape that is not valid an [`EscapeReason`] too, and a refused
+//! call writes nothing.
 //!
 //! A [`Document`] keeps a text, its tape and the number of its entries together:
 //!
@@ -50,7 +51,7 @@ pub use document::Document;
 pub use entry::{entries, Entries, Entry};
 pub use kinds::{Extension, Kind, NewtypeMode, ParserCursor, Repaired, StructType, TupleMode, Width};
 pub use numbered::UnknownNumber;
-pub use refusal::{Refusal, Refused};
+pub use refusal::{EscapeReason, Refusal, Refused};
 pub use value::{Value, ValueOutOfRange};
 
 /// The longest text, in bytes; a longer one is refused as [`Refusal::TooLong`].

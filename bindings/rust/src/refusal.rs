@@ -1,6 +1,6 @@
-//! Refusals: each with its number and its sentence, from the one table in `docs/refusals.txt`.
+//! Refusals and the reasons of an invalid escape: each with its number and its words, from the one table in `docs/refusals.txt`.
 
-use crate::numbered::UnknownNumber;
+use crate::numbered::{numbered, UnknownNumber};
 use core::fmt;
 
 /// The enum, and what is read off the table: a line is number, name and sentence.
@@ -58,6 +58,35 @@ macro_rules! refusals {
     };
 }
 
+/// The same of the reasons: a line is number, name, words and place.
+macro_rules! reasons {
+    ($($number:literal $name:ident $words:literal $place:literal,)*) => {
+        numbered! {
+            "escape reason",
+            /// Why an escape is not valid: what [`Refusal::InvalidEscape`] has besides its place. Later versions may add reasons.
+            ///
+            /// ```
+            /// use sarridok::EscapeReason;
+            /// assert_eq!(EscapeReason::NoDigits.number(), 5);
+            /// assert_eq!(EscapeReason::try_from(2u32), Ok(EscapeReason::UnknownLetter));
+            /// assert_eq!(EscapeReason::UnknownLetter.to_string(), "unknown letter");
+            /// assert_eq!(EscapeReason::try_from(0u32).unwrap_err().to_string(), "0 is the number of no escape reason");
+            /// ```
+            #[non_exhaustive]
+            pub enum EscapeReason { $(#[doc = concat!($words, "; the place is ", $place)] $name = $number,)* }
+        }
+
+        impl EscapeReason {
+            /// Its words.
+            pub const fn text(self) -> &'static str {
+                match self {
+                    $(EscapeReason::$name => $words,)*
+                }
+            }
+        }
+    };
+}
+
 // refusals: written by docs/refusals
 refusals! {
     1 TooLong "the text is longer than 65,536 bytes",
@@ -89,6 +118,17 @@ refusals! {
     28 Unfit "a place, entry number, cursor, limit, width or mode is unfit",
     29 HoldsEscape "the contents hold an escape or a line continuation",
 }
+
+reasons! {
+    1 DigitNotHex "digit not hex" "behind the character that is no digit",
+    2 UnknownLetter "unknown letter" "behind it",
+    3 NotByteEscaped "not a byte-escaped character" "behind the last digits read",
+    4 MissingOpenBrace "missing open brace" "behind the `u`",
+    5 NoDigits "no digits" "at the `}`",
+    6 NoClosingBrace "no closing brace" "behind the sixth digit",
+    7 NotACharacter "not a character" "behind the `}`",
+    8 UnicodeInByteLiteral "Unicode in a byte literal" "behind the `}`",
+}
 // refusals: end
 
 impl From<Refusal> for u8 {
@@ -103,13 +143,23 @@ impl fmt::Display for Refusal {
     }
 }
 
+impl fmt::Display for EscapeReason {
+    fn fmt(&self, f: &mut fmt::Formatter<'_>) -> fmt::Result {
+        f.write_str(self.text())
+    }
+}
+
 /// What a call was refused with. It has written nothing.
 ///
 /// ```
-/// use sarridok::{Refusal, Refused};
+/// use sarridok::{EscapeReason, Refusal, Refused};
 /// let refused = sarridok::read(b"/*/*/", &mut []).unwrap_err();
 /// assert_eq!(refused, Refused::new(Refusal::UnclosedBlockComment, 5));
 /// assert_eq!(refused.to_string(), "refused 4 at 5: a block comment is not closed");
+///
+/// let refused = sarridok::read(br#""\q""#, &mut []).unwrap_err();
+/// assert_eq!(refused, Refused::invalid_escape(EscapeReason::UnknownLetter, 3));
+/// assert_eq!(refused.to_string(), "refused 13 at 3: the escape is not valid: unknown letter");
 /// ```
 #[derive(Clone, Copy, Debug, PartialEq, Eq, Hash)]
 #[non_exhaustive]
@@ -119,12 +169,27 @@ pub struct Refused {
     /// A byte of the text; for [`Refusal::DepthLimitPassed`] and [`Refusal::NotAllowedHere`] an entry's number, for [`Refusal::TapeEndsEarly`] the number of
     /// entries.
     pub place: usize,
+    /// Why the escape is not valid, for [`Refusal::InvalidEscape`]; `None` for every other refusal, and for a reason of a later archive.
+    pub reason: Option<EscapeReason>,
 }
 
 impl Refused {
-    /// A refusal at a place.
+    /// A refusal at a place, without a reason.
     pub const fn new(refusal: Refusal, place: usize) -> Refused {
-        Refused { refusal, place }
+        Refused {
+            refusal,
+            place,
+            reason: None,
+        }
+    }
+
+    /// An escape that is not valid, for a reason at a place.
+    pub const fn invalid_escape(reason: EscapeReason, place: usize) -> Refused {
+        Refused {
+            refusal: Refusal::InvalidEscape,
+            place,
+            reason: Some(reason),
+        }
     }
 
     /// The refusal's number.
@@ -135,7 +200,11 @@ impl Refused {
 
 impl fmt::Display for Refused {
     fn fmt(&self, f: &mut fmt::Formatter<'_>) -> fmt::Result {
-        write!(f, "refused {} at {}: {}", self.number(), self.place, self.refusal)
+        write!(f, "refused {} at {}: {}", self.number(), self.place, self.refusal)?;
+        match self.reason {
+            Some(reason) => write!(f, ": {reason}"),
+            None => Ok(()),
+        }
     }
 }
 

@@ -52,6 +52,45 @@ fn answers_of_the_requirements() {
     assert_eq!(line.cursor, 7);
 }
 
+/// The reason of each escape and its place, whichever call reads it.
+#[test]
+fn escapes_have_their_reasons() {
+    use EscapeReason::*;
+    let escape = Refused::invalid_escape;
+    for (text, reason, place) in [
+        (r#""\xg""#, DigitNotHex, 4),
+        (r#""\u{1""#, DigitNotHex, 6),
+        (r#""\xC3\x!""#, DigitNotHex, 8),
+        (r#""\q""#, UnknownLetter, 3),
+        (r#"#![type="\q"]"#, UnknownLetter, 11),
+        (r#""\xC3""#, NotByteEscaped, 5),
+        (r"'\x80'", NotByteEscaped, 5),
+        (r#""\xC3\x41""#, NotByteEscaped, 9),
+        (r#""\u41""#, MissingOpenBrace, 3),
+        (r#""\u{}""#, NoDigits, 4),
+        (r"b'\u{}'", NoDigits, 5),
+        (r#""\u{1234567}""#, NoClosingBrace, 10),
+        (r#""\u{123456""#, NoClosingBrace, 10),
+        (r#""\u{D800}""#, NotACharacter, 9),
+        (r"b'\u{D800}'", NotACharacter, 10),
+        (r"b'\u{41}'", UnicodeInByteLiteral, 8),
+    ] {
+        assert_eq!(checked_read(text.as_bytes()).unwrap_err(), escape(reason, place), "{text}");
+        all_calls(text.as_bytes());
+    }
+    assert_eq!(integer(br"b'\u{41}'", 0, Width::U8).unwrap_err(), escape(UnicodeInByteLiteral, 8));
+    let kind = struct_kind(br#"("\q")"#, 0, NewtypeMode::NoParensMeanUnit, TupleMode::DifferentiateNewtype);
+    assert_eq!(kind.unwrap_err(), escape(UnknownLetter, 4));
+    // No read gives the entry of such a string: the tape is made by hand.
+    let (closed, tape) = (br#"["\u{}"]"#, [Kind::String.number(), 1, 7, 1]);
+    assert_eq!(contents(closed, &tape, 1, 0).unwrap_err(), escape(NoDigits, 5));
+    assert_eq!(decoded(closed, &tape, 1, 0, &mut [0]).unwrap_err(), escape(NoDigits, 5));
+    let mut tape = [0; ENTRY];
+    let mut document = Document::read(br#""a""#, &mut tape).unwrap();
+    assert_eq!(document.repair(1..2, br#""\u41""#).unwrap_err(), escape(MissingOpenBrace, 3));
+    assert!(!checked_repair(br#"["a", 7]"#, 2..3, br"\xC3"));
+}
+
 #[test]
 fn empty_slices() {
     assert_eq!(read(b"", &mut []), Ok(0));

@@ -28,6 +28,20 @@ fn refusals_have_their_numbers() {
     }
 }
 
+#[test]
+fn reasons_have_their_words() {
+    for reason in EscapeReason::ALL {
+        assert_eq!(reason.to_string(), reason.text());
+        assert!(!reason.text().is_empty());
+        let refused = Refused::invalid_escape(*reason, 7);
+        assert_eq!((refused.number(), refused.place, refused.reason), (13, 7, Some(*reason)));
+        assert_eq!(refused.to_string(), format!("refused 13 at 7: the escape is not valid: {reason}"));
+    }
+    let without = Refused::new(Refusal::InvalidEscape, 7);
+    assert_eq!(without.reason, None);
+    assert_eq!(without.to_string(), "refused 13 at 7: the escape is not valid");
+}
+
 /// The case of a number has that number, and every number behind those of the list names none.
 macro_rules! is_numbered {
     ($name:ident, $numbers:expr) => {
@@ -51,6 +65,7 @@ fn numbers_name_cases() {
     is_numbered!(TupleMode, 0..=1);
     is_numbered!(StructType, 0..=5);
     is_numbered!(Extension, [1, 2, 4, 8]);
+    is_numbered!(EscapeReason, 1..=8);
 }
 
 #[test]

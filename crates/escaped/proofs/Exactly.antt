@@ -4,9 +4,8 @@
 --     escape-refused    what is refused is no escape
 --     escape-one        an escape means one thing, and ends at one place
 -- Assumes nothing.
-use Prim.Native.Nat.{ℕ, suc, _+_, _*_, _≤_, _<_}
+use Prim.Native.Nat.{ℕ, suc, _+_, _-_, _*_, _≤_, _<_}
 use native.Mathlib.Omega.{arith}
-use mathlib.Core.Bool.{Bool, cond}
 use mathlib.Core.List.{List, [], _∷_, _++_}
 use mathlib.Core.Logic.{_↔_}
 use mathlib.Core.Path.{_≡_, _∙_, ap, refl, subst, sym}
@@ -19,7 +18,8 @@ use Rattle.escapes.specs.declared.answers.EscapeAnswer.{EscapeAnswer}
 use Rattle.escapes.specs.declared.answers.EscapeAnswer.the-variants.{Ascii, Refused, Utf8}
 use Rattle.escapes.specs.declared.answers.Mode.{Mode}
 use Rattle.escapes.specs.declared.answers.Mode.the-variants.{Bytes, Char, Str}
-use Rattle.escaped.proofs.Braces.{digits-read}
+use Rattle.escaped.proofs.Braces.{Stop, digits-read}
+use Rattle.escaped.proofs.Braces.Stop.{closed}
 use Rattle.escaped.proofs.Letters.{letter-byte, letter-simple}
 use Rattle.escaped.proofs.Pairs.{two-reads}
 use Rattle.escaped.proofs.Right.{Right, ascii-scalar, right}
@@ -32,7 +32,6 @@ use Rattle.text.proofs.Choices.{either, lt-or-le}
 use Rattle.text.proofs.RunLaws.{run-le}
 use Rattle.text.proofs.Utf8Laws.{charLen-ascii}
 use Rattle.text.proofs.Utf8Agree.{encode-1}
-use Rattle.text.specs.Refusals.{invalidEscape}
 use Rattle.text.specs.Runs.{ascii}
 use Rattle.text.specs.Utf8.{Scalar, charLen, codeOf, encode}
 use Rattle.text.specs.declared.refusal.Refusal.{Refusal}
@@ -41,14 +40,15 @@ use Rattle.escaped.specs.Escape as spec
 -- ---- an escape is read
 
 -- what a `\x` comes to, by its first byte
-hex-is : (m : Mode) (h l b : ℕ) (t : List ℕ) → Hex 0 (h ∷ l ∷ []) b → escapeOf m (0x78 ∷ h ∷ l ∷ t) ≡ hexBy m t b 3
+pub hex-is : (m : Mode) (h l b : ℕ) (t : List ℕ) → Hex 0 (h ∷ l ∷ []) b → escapeOf m (0x78 ∷ h ∷ l ∷ t) ≡ hexBy m t b 3
 unfolding escapeOf simpleOf hexEscape
 hex-is m h l b t x = ap (λ (a : EscapeAnswer). withByte a (hexBy m t)) (two-reads 1 h l b t x)
 
--- what a `\u{}` comes to
-unicode-is : (m : Mode) (c : ℕ) (ds t : List ℕ) → Hex 0 ds c → 1 ≤ length ds → length ds ≤ 6 → Scalar c → escapeOf m (0x75 ∷ 0x7B ∷ (ds ++ 0x7D ∷ t)) ≡ Utf8 c (3 + length ds)
+-- what a `\u{}` comes to, by what stands behind its digits
+pub unicode-is : (m : Mode) (k c : ℕ) (ds t : List ℕ) (a : EscapeAnswer) → Hex 0 ds c → 6 ≡ length ds + k → Stop k c (2 + length ds) t a
+    → escapeOf m (0x75 ∷ 0x7B ∷ (ds ++ t)) ≡ a
 unfolding escapeOf simpleOf unicodeEscape
-unicode-is m c ds t x l h sc = digits-read x 6 2 t (omega arith) h (λ q. l) sc
+unicode-is m k c ds t a x e z = digits-read x 6 k 2 t a e z
 
 -- a character of one byte, in a string
 one-is : (c b : ℕ) (t : List ℕ) → Scalar c → encode c ≡ b ∷ [] → hexBy Str t b 3 ≡ Utf8 c 3
@@ -94,14 +94,14 @@ letter-is m a b t x = rw (letter-simple x, lt-ltb b 256 (letter-byte x))
 pub escape-reads : {m : Mode} {s : List ℕ} {v : Meant} {t : List ℕ} → Escape m s v t → (n : ℕ) × (n ≤ length s) × (t ≡ drop n s) × Says (escapeOf m s) v n
 escape-reads (letter {m} {a} {b} {t} x) = (1, omega arith, refl, letter-is m a b t x)
 escape-reads (any-byte {h} {l} {b} {t} x) = (3, omega arith, refl, hex-is Bytes h l b t x)
-escape-reads (one-byte {h} {l} {c} {t} x k) = (3, omega arith, refl, hex-is Char h l c t x ∙ ap (λ (i : Bool). cond i (Utf8 c 3) (Refused (invalidEscape 3))) (lt-ltb c 0x80 (omega arith)))
+escape-reads (one-byte {h} {l} {c} {t} x k) = (3, omega arith, refl, hex-is Char h l c t x ∙ rw (lt-ltb c 0x80 (omega arith)))
 escape-reads (bytes {c} {s} sc w) = bytes-reads w c s sc refl refl
 escape-reads (unicode {m} {c} {ds} {t} x l h sc) =
-    let far : 3 + length ds ≡ suc (suc (length ds + 1)) = omega arith in (
+    let far : 2 + length ds + 1 ≡ suc (suc (length ds + 1)) = omega arith in (
       suc (suc (length ds + 1)),
       omega (arith, length-append ds (0x7D ∷ t)),
       sym (drop-append-add ds (0x7D ∷ t) 1),
-      unicode-is m c ds t x (omega arith) (omega arith) sc ∙ ap (Utf8 c) far,
+      unicode-is m (6 - length ds) c ds (0x7D ∷ t) (Utf8 c (2 + length ds + 1)) x (omega arith) (closed (omega arith) sc) ∙ ap (Utf8 c) far,
     )
 
 -- ---- both ways

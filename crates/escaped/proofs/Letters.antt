@@ -1,5 +1,5 @@
 -- The letters of specs/Escape.antt are exactly those that the reader knows. Assumes nothing.
-use Prim.Native.Nat.{ℕ, _<_}
+use Prim.Native.Nat.{ℕ, _<_, _≤_}
 use native.Mathlib.Omega.{arith}
 use mathlib.Core.Bool.{true}
 use mathlib.Core.Path.{_≡_, refl, subst, sym}
@@ -49,3 +49,7 @@ simple-letter a =
   where
     Known : ℕ → Type 0
     Known b = b < 256 → Letter a b
+
+-- what it does not know is none
+pub no-letter : (a : ℕ) → 256 ≤ simpleOf a → (b : ℕ) → Letter a b → ⊥
+no-letter a h b x = omega (arith, letter-simple x, letter-byte x)

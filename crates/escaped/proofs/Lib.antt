@@ -5,3 +5,6 @@ pub mod Wholes
 pub mod Runs
 pub mod Right
 pub mod Exactly
+pub mod WrongReads
+pub mod Reasons
+pub mod WorkedReasons

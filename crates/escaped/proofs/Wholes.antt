@@ -1,5 +1,5 @@
 -- Bytes one by one, until they are a whole character: no shorter front of an encoding is one, and bytes that are one for the first time are the encoding
--- of a scalar value. Assumes nothing.
+-- of a scalar value; `front-none` and `none-front`: their width is 0 exactly where no front of them is one. Assumes nothing.
 use Prim.Native.Nat.{ℕ, _+_, _-_, _≤_, _<_}
 use native.Mathlib.Omega.{arith}
 use mathlib.Core.List.{List, [], _∷_, _++_, append-assoc, append-nil}
@@ -12,6 +12,7 @@ use Rattle.text.proofs.Choices.{cond-cases}
 use Rattle.text.proofs.Utf8Agree.{Head, char-encode, char-pos, char-scalar, charLen-char, decode-encode, head-view}
 use Rattle.text.proofs.Utf8Agree.Head.{a-char, no-char}
 use Rattle.text.specs.Utf8.{Char, Scalar, charLen, codeOf, encode}
+use Rattle.escaped.specs.Wrong.{NoFront}
 
 -- an encoding has at most 4 bytes
 pub encode-four : (c : ℕ) → length (encode c) ≤ 4
@@ -80,3 +81,21 @@ whole bs b z n = go (charLen (bs ++ b ∷ [])) refl (head-view (bs ++ b ∷ []))
     go : (w : ℕ) → charLen (bs ++ b ∷ []) ≡ w → Head (bs ++ b ∷ []) w → Whole (bs ++ b ∷ [])
     go w e no-char = absurd (n e)
     go w e (a-char {l = k} t ch f q) = all k t ch q
+
+-- ---- bytes that are no character yet
+
+-- where the width is 0, no front is a character
+pub none-front : (bs : List ℕ) → charLen bs ≡ 0 → NoFront bs
+none-front bs z l t e ch = omega (arith, char-pos ch, charLen-char l t ch, ap charLen e)
+
+-- and the other way round
+pub front-none : (bs : List ℕ) → NoFront bs → charLen bs ≡ 0
+front-none bs n = go (charLen bs) refl (head-view bs)
+  where
+    go : (w : ℕ) → charLen bs ≡ w → Head bs w → charLen bs ≡ 0
+    go w e no-char = e
+    go w e (a-char {l = k} t ch f q) = absurd (n k t q ch)
+
+-- nor are fewer of the bytes one
+pub fewer : (bs cs : List ℕ) → NoFront (bs ++ cs) → NoFront bs
+fewer bs cs n l t e ch = n l (t ++ cs) (ap (λ (k : List ℕ). k ++ cs) e ∙ append-assoc l t cs) ch

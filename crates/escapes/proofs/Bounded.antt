@@ -63,7 +63,7 @@ two-reach at (b ∷ t) =
 
 pub close-reach : (empty : Bool) (v at : ℕ) (t : List ℕ) → Reaches 1 at t (closeOf empty v at t)
 unfolding closeOf
-close-reach empty v at [] = omega arith
+close-reach empty v at [] = cond-cases (Reaches 1 at []) empty _ _ (λ e. omega arith) (λ e. omega arith)
 close-reach empty v at (b ∷ t) =
     cond-cases (Reaches 1 at (b ∷ t)) empty _ _ (λ e. omega arith)
     (λ n. cond-cases (Reaches 1 at (b ∷ t)) (eqb b 0x7D) _ _

@@ -49,7 +49,7 @@ two-decodes at (b ∷ t) =
 
 close-decodes : (empty : Bool) (v at : ℕ) (t : List ℕ) → Decodes 0 (closeOf empty v at t)
 unfolding closeOf
-close-decodes empty v at [] = tt
+close-decodes empty v at [] = cond-cases (Decodes 0) empty _ _ (λ e. tt) (λ e. tt)
 close-decodes empty v at (b ∷ t) =
     cond-cases (Decodes 0) empty _ _ (λ e. tt)
     (λ n. cond-cases (Decodes 0) (eqb b 0x7D) _ _

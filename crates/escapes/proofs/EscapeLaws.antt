@@ -20,22 +20,24 @@ use Rattle.text.proofs.Lists.{front}
 use Rattle.text.specs.Classes.{within}
 use Rattle.text.specs.Refusals.{eof, invalidEscape}
 use Rattle.text.specs.Utf8.{In, charLen, codeOf, scalar}
+use Rattle.text.specs.declared.reason.EscapeReason.the-variants.{DigitNotHex, MissingOpenBrace, NoClosingBrace, NoDigits, NotACharacter, NotByteEscaped, UnknownLetter}
 use Rattle.text.specs.declared.refusal.Refusal.{Refusal}
 
 -- ---- the end of `\u{...}`
 
-pub close-end : (empty : Bool) (v at : ℕ) (t : List ℕ) → length t ≡ 0 → closeOf empty v at t ≡ Refused (invalidEscape at)
+pub close-end : (v at : ℕ) (t : List ℕ) → length t ≡ 0 → closeOf false v at t ≡ Refused (invalidEscape NoClosingBrace at)
 unfolding closeOf
-close-end empty v at [] h = refl
-close-end empty v at (b ∷ t) h = absurd (omega arith)
+close-end v at [] h = refl
+close-end v at (b ∷ t) h = absurd (omega arith)
 
-pub close-empty : (v at : ℕ) (t : List ℕ) → closeOf true v at t ≡ Refused (invalidEscape at)
+pub close-empty : (v at : ℕ) (t : List ℕ) → closeOf true v at t ≡ Refused (invalidEscape NoDigits at)
 unfolding closeOf
 close-empty v at [] = refl
 close-empty v at (b ∷ t) = refl
 
 pub close-at : (v at : ℕ) (t : List ℕ) → 0 < length t
-    → closeOf false v at t ≡ cond (eqb (getD t 0 0) 0x7D) (cond (scalar v) (Utf8 v (at + 1)) (Refused (invalidEscape (at + 1)))) (Refused (invalidEscape at))
+    → closeOf false v at t
+    ≡ cond (eqb (getD t 0 0) 0x7D) (cond (scalar v) (Utf8 v (at + 1)) (Refused (invalidEscape NotACharacter (at + 1)))) (Refused (invalidEscape NoClosingBrace at))
 unfolding closeOf
 close-at v at [] h = absurd (omega arith)
 close-at v at (b ∷ t) h = refl
@@ -56,7 +58,7 @@ unfolding digitsOf
 digits-brace zero v at i s p h e = absurd (omega arith)
 digits-brace (suc left) v at i s p h e = rw (drop-cons s i 0 h) (simp (eq-eqb (getD s i 0) 0x7D e))
 
-pub digits-bad : (left v at i : ℕ) (s : List ℕ) → 0 < left → i < length s → (getD s i 0 ≡ 0x7D → ⊥) → hexOf (getD s i 0) ≡ 16 → digitsOf left v at (drop i s) ≡ Refused (invalidEscape (at + charLen (drop i s)))
+pub digits-bad : (left v at i : ℕ) (s : List ℕ) → 0 < left → i < length s → (getD s i 0 ≡ 0x7D → ⊥) → hexOf (getD s i 0) ≡ 16 → digitsOf left v at (drop i s) ≡ Refused (invalidEscape DigitNotHex (at + charLen (drop i s)))
 unfolding digitsOf
 digits-bad zero v at i s p h n e = absurd (omega arith)
 digits-bad (suc left) v at i s p h n e = rw (drop-cons s i 0 h) (simp (ne-eqb (getD s i 0) 0x7D n, eq-eqb (hexOf (getD s i 0)) 16 e))
@@ -110,12 +112,12 @@ unfolding unicodeEscape
 unicode-open at [] h e = absurd (omega arith)
 unicode-open at (b ∷ t) h e = simp (eq-eqb b 0x7B e)
 
-pub unicode-end : (at : ℕ) (s : List ℕ) → length s ≡ 0 → unicodeEscape at s ≡ Refused (invalidEscape at)
+pub unicode-end : (at : ℕ) (s : List ℕ) → length s ≡ 0 → unicodeEscape at s ≡ Refused (invalidEscape MissingOpenBrace at)
 unfolding unicodeEscape
 unicode-end at [] h = refl
 unicode-end at (b ∷ t) h = absurd (omega arith)
 
-pub unicode-other : (at : ℕ) (s : List ℕ) → 0 < length s → (getD s 0 0 ≡ 0x7B → ⊥) → unicodeEscape at s ≡ Refused (invalidEscape at)
+pub unicode-other : (at : ℕ) (s : List ℕ) → 0 < length s → (getD s 0 0 ≡ 0x7B → ⊥) → unicodeEscape at s ≡ Refused (invalidEscape MissingOpenBrace at)
 unfolding unicodeEscape
 unicode-other at [] h n = absurd (omega arith)
 unicode-other at (b ∷ t) h n = simp (ne-eqb b 0x7B n)
@@ -128,7 +130,7 @@ second-end h at [] e = refl
 second-end h at (b ∷ t) e = absurd (omega arith)
 
 pub second-at : (h at : ℕ) (t : List ℕ) → 0 < length t
-    → secondDigit h at t ≡ cond (eqb (hexOf (getD t 0 0)) 16) (Refused (invalidEscape (at + charLen t))) (Ascii (h * 16 + hexOf (getD t 0 0)) (at + 1))
+    → secondDigit h at t ≡ cond (eqb (hexOf (getD t 0 0)) 16) (Refused (invalidEscape DigitNotHex (at + charLen t))) (Ascii (h * 16 + hexOf (getD t 0 0)) (at + 1))
 unfolding secondDigit
 second-at h at [] e = absurd (omega arith)
 second-at h at (b ∷ t) e = refl
@@ -139,13 +141,13 @@ two-end at [] e = refl
 two-end at (b ∷ t) e = absurd (omega arith)
 
 pub two-at : (at : ℕ) (t : List ℕ) → 0 < length t
-    → twoDigits at t ≡ cond (eqb (hexOf (getD t 0 0)) 16) (Refused (invalidEscape (at + charLen t))) (secondDigit (hexOf (getD t 0 0)) (at + 1) (drop 1 t))
+    → twoDigits at t ≡ cond (eqb (hexOf (getD t 0 0)) 16) (Refused (invalidEscape DigitNotHex (at + charLen t))) (secondDigit (hexOf (getD t 0 0)) (at + 1) (drop 1 t))
 unfolding twoDigits
 two-at at [] e = absurd (omega arith)
 two-at at (b ∷ t) e = refl
 
 -- fewer than two bytes: the one that is missing counts as 0
-pub next-short : (at : ℕ) (t : List ℕ) → length t < 2 → nextByte at t ≡ Refused (invalidEscape at)
+pub next-short : (at : ℕ) (t : List ℕ) → length t < 2 → nextByte at t ≡ Refused (invalidEscape NotByteEscaped at)
 unfolding nextByte
 next-short at [] h = refl
 next-short at (b ∷ []) h = simp and-false
@@ -170,13 +172,13 @@ two-ascii at (x ∷ t) b p e0 =
 pub next-ascii : (at : ℕ) (t : List ℕ) (b p : ℕ) → Ascii b p ≡ nextByte at t → (p ≡ at + 4) × (4 ≤ length t)
 unfolding nextByte
 next-ascii at t b p =
-    cond-cases (λ (a : EscapeAnswer). Ascii b p ≡ a → (p ≡ at + 4) × (4 ≤ length t)) (eqb (getD t 0 0) 0x5C && eqb (getD t 1 0) 0x78) (twoDigits (at + 2) (drop 2 t)) (Refused (invalidEscape at))
+    cond-cases (λ (a : EscapeAnswer). Ascii b p ≡ a → (p ≡ at + 4) × (4 ≤ length t)) (eqb (getD t 0 0) 0x5C && eqb (getD t 1 0) 0x78) (twoDigits (at + 2) (drop 2 t)) (Refused (invalidEscape NotByteEscaped at))
     (λ i e. let l = two-ascii (at + 2) (drop 2 t) b p e in (omega arith, omega (arith, length-drop 2 t)))
     (λ i e. let z : _≡_ {A = ℕ} 0 1 = cc in absurd (omega arith))
 
 -- ---- more `\x`
 
-pub more-done : (bs : List ℕ) (at : ℕ) (t : List ℕ) → moreBytes 0 bs at t ≡ Refused (invalidEscape at)
+pub more-done : (bs : List ℕ) (at : ℕ) (t : List ℕ) → moreBytes 0 bs at t ≡ Refused (invalidEscape NotByteEscaped at)
 unfolding moreBytes
 more-done bs at t = refl
 
@@ -273,7 +275,7 @@ escape-end m (b ∷ t) h = absurd (omega arith)
 pub escape-at : (m : Mode) (s : List ℕ) → 0 < length s
     → escapeOf m s
     ≡ cond (ltb (simpleOf (getD s 0 0)) 256) (Ascii (simpleOf (getD s 0 0)) 1)
-    (cond (eqb (getD s 0 0) 0x78) (hexEscape m 1 (drop 1 s)) (cond (eqb (getD s 0 0) 0x75) (unicodeEscape 1 (drop 1 s)) (Refused (invalidEscape (charLen s)))))
+    (cond (eqb (getD s 0 0) 0x78) (hexEscape m 1 (drop 1 s)) (cond (eqb (getD s 0 0) 0x75) (unicodeEscape 1 (drop 1 s)) (Refused (invalidEscape UnknownLetter (charLen s)))))
 unfolding escapeOf
 escape-at m [] h = absurd (omega arith)
 escape-at m (b ∷ t) h = refl

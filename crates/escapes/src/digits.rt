@@ -4,6 +4,7 @@ use crate::answers::ended;
 use crate::answers::invalid;
 use hexes::HexAnswer;
 use hexes::decode_hex;
+use text::EscapeReason;
 use text::utf8;
 ghost use mathlib.Core.Path.{_≡_};
 ghost use Prim.Native.Nat.{_+_, _<_, _^_};
@@ -20,7 +21,7 @@ fn second_digit(t: &[u8], at: usize, h: u8) -> EscapeAnswer
     }
     let digit = decode_hex(t[0]);
     let HexAnswer::Digit(k) = digit else {
-        return invalid(at + utf8::char_len(t));
+        return invalid(EscapeReason::DigitNotHex, at + utf8::char_len(t));
     };
     EscapeAnswer::Ascii(h * 16 + k, at + 1)
 }
@@ -35,7 +36,7 @@ pub fn decode_ascii_escape(t: &[u8], at: usize) -> EscapeAnswer
     }
     let digit = decode_hex(t[0]);
     let HexAnswer::Digit(h) = digit else {
-        return invalid(at + utf8::char_len(t));
+        return invalid(EscapeReason::DigitNotHex, at + utf8::char_len(t));
     };
     second_digit(&t[1..], at + 1, h)
 }

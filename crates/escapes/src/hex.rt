@@ -3,6 +3,7 @@ use crate::EscapeAnswer;
 use crate::Mode;
 use crate::answers::invalid;
 use crate::digits::decode_ascii_escape;
+use text::EscapeReason;
 use text::utf8;
 ghost use mathlib.Core.Path.{_≡_};
 ghost use mathlib.Core.List.{[], _∷_};
@@ -16,13 +17,13 @@ fn next_byte(t: &[u8], at: usize) -> EscapeAnswer
     ensures { λ r. ⌜ r ≡ nextByte at (now (t .entry)) ⌝ }
 {
     if t.len() < 2 {
-        return invalid(at);
+        return invalid(EscapeReason::NotByteEscaped, at);
     }
     if t[0] != b'\\' {
-        return invalid(at);
+        return invalid(EscapeReason::NotByteEscaped, at);
     }
     if t[1] != b'x' {
-        return invalid(at);
+        return invalid(EscapeReason::NotByteEscaped, at);
     }
     decode_ascii_escape(&t[2..], at + 2)
 }
@@ -52,7 +53,7 @@ fn more_bytes(t: &[u8], at: usize, b: u8) -> EscapeAnswer
             }
         }
     }
-    invalid(at + 12)
+    invalid(EscapeReason::NotByteEscaped, at + 12)
 }
 
 // t is the part from behind the `x`.
@@ -67,7 +68,7 @@ pub fn hex_escape(m: Mode, t: &[u8], at: usize) -> EscapeAnswer
                 if b < 0x80 {
                     return EscapeAnswer::Utf8(b as u32, p);
                 }
-                invalid(p)
+                invalid(EscapeReason::NotByteEscaped, p)
             }
             Mode::Str => {
                 if b < 0x80 {

@@ -1,5 +1,5 @@
 // Escapes (document 01, module 3), over the part of the text from behind the `\`: `\x` with two digits, `\u` with one to six in braces, and the letters;
-// refusal 13 at its places.
+// refusal 13 at its places, with the reason.
 //
 // `parse_escape` takes the mode (char, string, byte string) and answers the value with its length. Proved beyond the contracts: an accepted escape lies
 // within the part and so does the place of a refused one (Bounded), nothing behind it changes the answer (Closed), and its value is one scalar value or
@@ -13,7 +13,9 @@ pub use answers::EscapeAnswer;
 pub use answers::Mode;
 use answers::SimpleAnswer;
 use answers::ended;
+pub use answers::in_byte_literal;
 use answers::invalid;
+use text::EscapeReason;
 use text::utf8;
 ghost use mathlib.Core.Path.{_≡_};
 ghost use Rattle.escapes.specs.Escapes.{simpleAnswer, escapeOf};
@@ -52,5 +54,5 @@ pub fn parse_escape(m: Mode, s: &[u8]) -> EscapeAnswer
     if b == b'u' {
         return unicode::unicode_escape(&s[1..], 1);
     }
-    invalid(utf8::char_len(s))
+    invalid(EscapeReason::UnknownLetter, utf8::char_len(s))
 }

@@ -4,6 +4,7 @@ use crate::answers::ended;
 use crate::answers::invalid;
 use hexes::HexAnswer;
 use hexes::decode_hex;
+use text::EscapeReason;
 use text::utf8;
 ghost use mathlib.Core.Path.{_≡_};
 ghost use Prim.Native.Nat.{_+_, _<_, _^_};
@@ -16,18 +17,18 @@ fn close(t: &[u8], at: usize, empty: bool, v: u32) -> EscapeAnswer
     ensures { λ r. ⌜ r ≡ closeOf empty v at (now (t .entry)) ⌝ }
 {
     if empty {
-        return invalid(at);
+        return invalid(EscapeReason::NoDigits, at);
     }
     if t.len() == 0 {
-        return invalid(at);
+        return invalid(EscapeReason::NoClosingBrace, at);
     }
     if t[0] == b'}' {
         if utf8::is_scalar(v) {
             return EscapeAnswer::Utf8(v, at + 1);
         }
-        return invalid(at + 1);
+        return invalid(EscapeReason::NotACharacter, at + 1);
     }
-    invalid(at)
+    invalid(EscapeReason::NoClosingBrace, at)
 }
 
 // s is the part from behind the `u`.
@@ -36,10 +37,10 @@ pub fn unicode_escape(s: &[u8], at: usize) -> EscapeAnswer
     ensures { λ r. ⌜ r ≡ unicodeEscape at (now (s .entry)) ⌝ }
 {
     if s.len() == 0 {
-        return invalid(at);
+        return invalid(EscapeReason::MissingOpenBrace, at);
     }
     if s[0] != b'{' {
-        return invalid(at);
+        return invalid(EscapeReason::MissingOpenBrace, at);
     }
     let mut i = 1;
     let mut v: u32 = 0;
@@ -54,7 +55,7 @@ pub fn unicode_escape(s: &[u8], at: usize) -> EscapeAnswer
         }
         let digit = decode_hex(b);
         let HexAnswer::Digit(h) = digit else {
-            return invalid(at + i + utf8::char_len(&s[i..]));
+            return invalid(EscapeReason::DigitNotHex, at + i + utf8::char_len(&s[i..]));
         };
         v = v * 16 + h as u32;
         i += 1;

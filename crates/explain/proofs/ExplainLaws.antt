@@ -32,11 +32,11 @@ module _ (s tape : List ℕ) (count : ℕ) (a : Told Unit) (r : WalkAnswer) (tol
       f ∙ ap (λ (d : ℕ). put out (acceptedText count d)) e ∙ ap (λ (x : Told Unit). put out (walkedText s tape count x)) (sym (ap toldWalk h) ∙ told-is)
 
   pub walked-refused : (d : Refusal) → r ≡ NotWalked d → (p : ℕ) (b : Begun) → p ≡ walkPlace tape count d → b ≡ walkBegun tape count d
-      → end ≡ put out (refusalText s (d .number) p b)
+      → end ≡ put out (refusalText s d p b)
       → end ≡ put out (walkedText s tape count a)
   unfolding walkedText
   walked-refused d h p b e g f =
-      f ∙ ap (λ (k : ℕ). put out (refusalText s (d .number) k b)) e ∙ ap (λ (x : Begun). put out (refusalText s (d .number) (walkPlace tape count d) x)) g
+      f ∙ ap (λ (k : ℕ). put out (refusalText s d k b)) e ∙ ap (λ (x : Begun). put out (refusalText s d (walkPlace tape count d) x)) g
       ∙ ap (λ (x : Told Unit). put out (walkedText s tape count x)) (sym (ap toldWalk h) ∙ told-is)
 
 -- ---- the read
@@ -54,10 +54,10 @@ module _ (s tape t : List ℕ) (r : ReadAnswer) (told-is : toldRead r ≡ readAn
         ∙ ap (λ (x : Told ℕ). put out (readText s (readTape s tape) links x)) (sym (ap toldRead h) ∙ told-is)
 
     pub explained-refused : (d : Refusal) → r ≡ NotRead d → (b : Begun) → b ≡ readBegun s (d .number)
-        → end ≡ put out (refusalText s (d .number) (d .place) b) → end ≡ put out (explained s tape links)
+        → end ≡ put out (refusalText s d (d .place) b) → end ≡ put out (explained s tape links)
     unfolding explained readText
     explained-refused d h b g f =
-        f ∙ ap (λ (x : Begun). put out (refusalText s (d .number) (d .place) x)) g ∙ ap (λ (x : Told ℕ). put out (readText s (readTape s tape) links x)) (sym (ap toldRead h) ∙ told-is)
+        f ∙ ap (λ (x : Begun). put out (refusalText s d (d .place) x)) g ∙ ap (λ (x : Told ℕ). put out (readText s (readTape s tape) links x)) (sym (ap toldRead h) ∙ told-is)
 
 module _ (tape links after : List ℕ) (a : Told ℕ) (r : ReadAnswer) (told-is : toldRead r ≡ a) where
   pub links-accepted : (n : ℕ) → r ≡ Accepted n → after ≡ linksAfter tape n 128 links → after ≡ linksBehind tape links a

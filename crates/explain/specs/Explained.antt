@@ -1,6 +1,8 @@
 -- What is said of a text: how many entries it has and how deep they are nested, or why it is refused, and where.
 use Prim.Native.Nat.{ℕ, min}
+use mathlib.Core.Bool.{cond}
 use mathlib.Core.List.{List, [], _++_}
+use lib.Dec.{eqb}
 use lib.ListN.{length}
 use Rattle.depth.specs.Depth.{deepestOf}
 use Rattle.grammar.specs.Kinds.{kindsOf}
@@ -17,7 +19,8 @@ use Rattle.read.specs.Read.{readAnswer, readTape}
 use Rattle.rows.specs.Rows.{entriesOf}
 use Rattle.sarridok.specs.Walked.{walkOf, linksAfter}
 use Rattle.text.specs.Refusals.{Told, accepted, refused}
-use Rattle.explain.specs.Sentences.{sentenceOf}
+use Rattle.text.specs.declared.refusal.Refusal.{Refusal}
+use Rattle.explain.specs.Sentences.{sentenceOf, whyOf}
 use Rattle.explain.specs.Excerpts.{excerptText}
 
 -- An accepted text: how many entries, and how deep.
@@ -28,17 +31,21 @@ acceptedText count depth = ascii "ok" ++ wordOf count ++ ascii " entries, depth"
 unfoldable pub positionText : List ℕ → ℕ → List ℕ
 positionText s p = ascii "line" ++ wordOf (lineOf s p) ++ ascii ", column" ++ wordOf (columnOf s p) ++ ascii ": "
 
--- The sentence of a refusal, with its number.
-unfoldable pub reasonText : ℕ → List ℕ
-reasonText n = sentenceOf n ++ ascii " [" ++ decimal n ++ ascii "]\n"
+-- A reason's number behind a comma; nothing for 0.
+unfoldable pub alsoText : ℕ → List ℕ
+alsoText n = cond (eqb n 0) [] (ascii "," ++ wordOf n)
+
+-- The sentence of a refusal with its reason in words, and their numbers.
+unfoldable pub reasonText : Refusal → List ℕ
+reasonText r = sentenceOf (r .number) ++ whyOf (r .reason) ++ ascii " [" ++ decimal (r .number) ++ alsoText (r .reason) ++ ascii "]\n"
 
 -- A refusal at a place of the text.
-unfoldable pub refusedAt : List ℕ → ℕ → ℕ → List ℕ
-refusedAt s n p = positionText s p ++ reasonText n ++ excerptText s p
+unfoldable pub refusedAt : List ℕ → Refusal → ℕ → List ℕ
+refusedAt s r p = positionText s p ++ reasonText r ++ excerptText s p
 
 -- The same; a place behind the end, which no refusal has, would be shown at the end.
-unfoldable pub refusedText : List ℕ → ℕ → ℕ → List ℕ
-refusedText s n at = refusedAt s n (min at (length s))
+unfoldable pub refusedText : List ℕ → Refusal → ℕ → List ℕ
+refusedText s r at = refusedAt s r (min at (length s))
 
 -- The place where something began: line, column, what it is, and the line.
 unfoldable pub beganAt : List ℕ → List ℕ → ℕ → List ℕ
@@ -56,13 +63,13 @@ begunText s (Quote p) = beganText s (ascii "the string begins here\n") p
 begunText s (Bracket p) = beganText s (ascii "this bracket is open\n") p
 
 -- A refusal, and below it where what is not closed began.
-unfoldable pub refusalText : List ℕ → ℕ → ℕ → Begun → List ℕ
-refusalText s n at b = refusedText s n at ++ begunText s b
+unfoldable pub refusalText : List ℕ → Refusal → ℕ → Begun → List ℕ
+refusalText s r at b = refusedText s r at ++ begunText s b
 
 -- What is said of a text with so many entries on its tape, by the walk's answer.
 unfoldable pub walkedText : List ℕ → List ℕ → ℕ → Told Unit → List ℕ
 walkedText s tape count (accepted t) = acceptedText count (deepestOf (kindsOf (entriesOf count tape)))
-walkedText s tape count (refused r) = refusalText s (r .number) (walkPlace tape count r) (walkBegun tape count r)
+walkedText s tape count (refused r) = refusalText s r (walkPlace tape count r) (walkBegun tape count r)
 
 -- The same, walked with room for so many links; up to 128 brackets may be open.
 abbrev pub walkText : List ℕ → List ℕ → ℕ → ℕ → List ℕ
@@ -71,7 +78,7 @@ walkText s tape count links = walkedText s tape count (walkOf tape count 128 lin
 -- What is said of a text, by the read's answer.
 unfoldable pub readText : List ℕ → List ℕ → ℕ → Told ℕ → List ℕ
 readText s tape links (accepted n) = walkText s tape n links
-readText s tape links (refused r) = refusalText s (r .number) (r .place) (readBegun s (r .number))
+readText s tape links (refused r) = refusalText s r (r .place) (readBegun s (r .number))
 
 -- The links afterwards: a refused text leaves them.
 unfoldable pub linksBehind : List ℕ → List ℕ → Told ℕ → List ℕ

@@ -1,6 +1,8 @@
--- Each refusal number of the paper as a sentence.
+-- Each refusal number of the paper as a sentence, and each reason of an invalid escape in words.
 use Prim.Native.Nat.{ℕ, zero, suc, _+_, min}
-use mathlib.Core.List.{List, _++_}
+use mathlib.Core.Bool.{cond}
+use mathlib.Core.List.{List, [], _++_}
+use lib.Dec.{eqb}
 use lib.ListN.{take, drop}
 use Rattle.lines.specs.Ascii.{ascii}
 use Rattle.lines.specs.Find.{findOf}
@@ -47,3 +49,20 @@ sentences =
 -- The sentence of a number: its line, and the last one for a number above 28.
 unfoldable pub sentenceOf : ℕ → List ℕ
 sentenceOf n = lineAt (min n 29) sentences
+
+-- A line for each reason of 13 in the words of CR 1, empty for 0.
+unfoldable pub reasons : List ℕ
+reasons =
+    ascii "\n" ++
+    ascii "digit not hex\n" ++
+    ascii "unknown letter\n" ++
+    ascii "not a byte-escaped character\n" ++
+    ascii "missing open brace\n" ++
+    ascii "no digits\n" ++
+    ascii "no closing brace\n" ++
+    ascii "not a character\n" ++
+    ascii "Unicode in a byte literal\n"
+
+-- The words of a reason behind a colon, and the last ones for a number above 7; nothing for 0.
+unfoldable pub whyOf : ℕ → List ℕ
+whyOf n = cond (eqb n 0) [] (ascii ": " ++ lineAt (min n 8) reasons)

@@ -5,11 +5,13 @@ use lines::out;
 use opened::Begun;
 use places::column::column_of;
 use places::line::line_of;
+use text::Refusal;
 ghost use mathlib.Core.Path.{_≡_};
 ghost use Prim.Native.Nat.{min};
 ghost use lib.ListN.{length};
 ghost use Rattle.lines.specs.Out.{put};
-ghost use Rattle.explain.specs.Explained.{acceptedText, positionText, reasonText, refusedText, beganText, begunText, refusalText};
+ghost use Rattle.explain.specs.Explained.{acceptedText, positionText, alsoText, reasonText, refusedText};
+ghost use Rattle.explain.specs.Explained.{beganText, begunText, refusalText};
 
 // What is said of a text that reads and walks.
 pub fn accepted(o: &mut [u8], count: usize, depth: usize) -> usize
@@ -40,23 +42,36 @@ fn position(o: &mut [u8], at: usize, s: &[u8], place: usize) -> usize
     out::bytes(o, d, b": ")
 }
 
-// The sentence of a refusal, with its number.
-fn reason(o: &mut [u8], at: usize, number: u8) -> usize
-    ensures { λ r. ⌜ (now (o .exit), r) ≡ put (now (o .entry), at) (reasonText number) ⌝ }
+// A reason's number behind a comma; nothing for 0.
+fn also(o: &mut [u8], at: usize, reason: u8) -> usize
+    ensures { λ r. ⌜ (now (o .exit), r) ≡ put (now (o .entry), at) (alsoText reason) ⌝ }
 {
-    let a = sentence::say(o, at, number);
-    let b = out::bytes(o, a, b" [");
-    let c = out::number(o, b, number as u64);
-    out::bytes(o, c, b"]\n")
+    if reason == 0 {
+        return at;
+    }
+    let a = out::bytes(o, at, b",");
+    out::word(o, a, reason as u64)
 }
 
-// The refusal with this number, at a byte of the text.
-fn refusal(o: &mut [u8], s: &[u8], number: u8, at: usize) -> usize
-    ensures { λ r. ⌜ (now (o .exit), r) ≡ put (now (o .entry), 0) (refusedText (now (s .entry)) number at) ⌝ }
+// The sentence of a refusal with its reason in words, and their numbers.
+fn reason(o: &mut [u8], at: usize, f: Refusal) -> usize
+    ensures { λ r. ⌜ (now (o .exit), r) ≡ put (now (o .entry), at) (reasonText f) ⌝ }
+{
+    let a = sentence::say(o, at, f.number);
+    let b = sentence::why(o, a, f.reason);
+    let c = out::bytes(o, b, b" [");
+    let d = out::number(o, c, f.number as u64);
+    let e = also(o, d, f.reason);
+    out::bytes(o, e, b"]\n")
+}
+
+// The refusal at a byte of the text.
+fn refusal(o: &mut [u8], s: &[u8], f: Refusal, at: usize) -> usize
+    ensures { λ r. ⌜ (now (o .exit), r) ≡ put (now (o .entry), 0) (refusedText (now (s .entry)) f at) ⌝ }
 {
     let place = within(at, s);
     let a = position(o, 0, s, place);
-    let b = reason(o, a, number);
+    let b = reason(o, a, f);
     excerpt(o, b, s, place)
 }
 
@@ -83,9 +98,9 @@ fn began(o: &mut [u8], at: usize, s: &[u8], b: Begun) -> usize
 }
 
 // The refusal, and below it where what is not closed began.
-pub fn refused(o: &mut [u8], s: &[u8], number: u8, at: usize, b: Begun) -> usize
-    ensures { λ r. ⌜ (now (o .exit), r) ≡ put (now (o .entry), 0) (refusalText (now (s .entry)) number at b) ⌝ }
+pub fn refused(o: &mut [u8], s: &[u8], f: Refusal, at: usize, b: Begun) -> usize
+    ensures { λ r. ⌜ (now (o .exit), r) ≡ put (now (o .entry), 0) (refusalText (now (s .entry)) f at b) ⌝ }
 {
-    let end = refusal(o, s, number, at);
+    let end = refusal(o, s, f, at);
     began(o, end, s, b)
 }

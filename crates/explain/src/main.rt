@@ -38,7 +38,7 @@ fn walked(o: &mut [u8], s: &[u8], tape: &[u32], count: usize, links: &mut [u32])
         WalkAnswer::Refused(f) => {
             let place = walk_place(tape, count, f);
             let begun = walk_begun(tape, count, f);
-            refused(o, s, f.number, place, begun)
+            refused(o, s, f, place, begun)
         }
     }
 }
@@ -52,7 +52,7 @@ fn explain(o: &mut [u8], s: &[u8], tape: &mut [u32], links: &mut [u32]) -> usize
     let r = sarridok::read(s, tape);
     match r {
         ReadAnswer::Accepted(n) => walked(o, s, &tape[..], n, links),
-        ReadAnswer::Refused(f) => refused(o, s, f.number, f.place, read_begun(s, f.number)),
+        ReadAnswer::Refused(f) => refused(o, s, f, f.place, read_begun(s, f.number)),
     }
 }
 

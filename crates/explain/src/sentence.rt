@@ -1,4 +1,4 @@
-// Each refusal number of the paper as a sentence. One text with a line for each: a match of as many arms takes far longer to prove. 0 and 3 are given by
+// Each refusal number of the paper as a sentence, and each reason of an invalid escape in words. One text with a line for each: a match of as many arms takes far longer to prove. 0 and 3 are given by
 // no call, so their lines are empty.
 use lines::out;
 use lines::past;
@@ -6,7 +6,7 @@ use lines::until;
 ghost use mathlib.Core.Path.{_≡_};
 ghost use Prim.Native.Nat.{min};
 ghost use Rattle.lines.specs.Out.{put};
-ghost use Rattle.explain.specs.Sentences.{lineAt, sentenceOf};
+ghost use Rattle.explain.specs.Sentences.{lineAt, sentenceOf, whyOf};
 
 // The line behind n others.
 fn line(s: &[u8], n: usize) -> &[u8]
@@ -60,4 +60,31 @@ pub fn say(o: &mut [u8], at: usize, number: u8) -> usize
             a place, entry number, cursor, limit, width or mode is unfit\n\
             the contents hold an escape or a line continuation\n";
     out::bytes(o, at, line(all, known(number)))
+}
+
+// Reasons above 7 have the last words.
+fn known_reason(reason: u8) -> usize
+    ensures { λ r. ⌜ r ≡ min reason 8 ⌝ }
+{
+    if reason < 8 { reason as usize } else { 8 }
+}
+
+// The words of a reason behind a colon; nothing for 0.
+pub fn why(o: &mut [u8], at: usize, reason: u8) -> usize
+    ensures { λ r. ⌜ (now (o .exit), r) ≡ put (now (o .entry), at) (whyOf reason) ⌝ }
+{
+    if reason == 0 {
+        return at;
+    }
+    let all = b"\n\
+            digit not hex\n\
+            unknown letter\n\
+            not a byte-escaped character\n\
+            missing open brace\n\
+            no digits\n\
+            no closing brace\n\
+            not a character\n\
+            Unicode in a byte literal\n";
+    let a = out::bytes(o, at, b": ");
+    out::bytes(o, a, line(all, known_reason(reason)))
 }

@@ -8,7 +8,6 @@ use mathlib.Core.Path.{_≡_, _∙_, ap, refl, sym}
 use lib.Dec.{lit≤, ltb}
 use lib.ListN.{length}
 use Rattle.text.proofs.Choices.{cond-cases}
-use Rattle.text.proofs.ClassLaws.{within-true}
 use Rattle.text.specs.Judged.{behindJudged, byUtf8, judgedOf}
 use Rattle.text.specs.Refusals.{Told, accepted, notUtf8, refused, tooLong}
 use Rattle.text.specs.Utf8.{utf8Of}
@@ -17,7 +16,7 @@ use Rattle.text.specs.declared.judge.Judged.the-variants.{Fit, Refused}
 use Rattle.text.specs.declared.refusal.Refusal.{Refusal}
 use Rattle.text.specs.declared.utf8.Utf8Answer.{Utf8Answer}
 use Rattle.text.specs.declared.utf8.Utf8Answer.the-variants.{Good, BadAt}
-use Rattle.given.proofs.Front.{Own-told, told-number}
+use Rattle.given.proofs.Front.{Own-told, number-in, told-number}
 use Rattle.fronts.specs.Fronts.{FrontOf, Sound}
 use Rattle.fronts.proofs.Texts.{bad-exactly, fit-exactly, long-exactly}
 
@@ -47,7 +46,7 @@ same q r e = cc
 module _ {A : Type 0} (own : Told A) (h : Own-told own) where
   -- the call's own refusals are higher
   higher : (r : Refusal) → own ≡ refused r → 2 < r .number
-  higher r e = omega (arith, within-true 4 29 (r .number) (told-number 29 own r h e))
+  higher r e = omega (arith, number-in 4 29 r (told-number 29 own r h e))
 
   -- 1 and 2 are the judgement's
   judged : (j : Judged) (r : Refusal) → r .number ≤ 2 → (behindJudged j own ≡ refused r) ↔ (j ≡ Refused r)

@@ -14,7 +14,6 @@ use Rattle.text.specs.declared.judge.Judged.{Judged}
 use Rattle.text.specs.declared.judge.Judged.the-variants.{Fit}
 use Rattle.text.specs.declared.refusal.Refusal.{Refusal}
 use Rattle.text.proofs.Choices.{cond-cases}
-use Rattle.text.proofs.ClassLaws.{within-true}
 use Rattle.strings.specs.declared.literal.LiteralAnswer.{LiteralAnswer}
 use Rattle.strings.specs.declared.literal.LiteralAnswer.the-variants.{Read, Refused}
 use Rattle.entries.specs.Contents.{byNamed, decodedIn}
@@ -25,6 +24,7 @@ use Rattle.entries.specs.declared.named.Named.the-variants as named
 use Rattle.sarridok.specs.Contents.{decodedAnswer}
 use Rattle.quoted.specs.Decoding.{Decodes}
 use Rattle.quoted.proofs.Decoded.{literal-reads, literal-stands}
+use Rattle.given.proofs.Front.{number-in}
 use Rattle.given.proofs.Entries.{Own-named, literal-inner, named-own}
 use Rattle.given.proofs.Strings.{Inner-literal}
 use Rattle.fronts.proofs.Calls.{decoded-front}
@@ -56,12 +56,12 @@ module _ (text tape : List ℕ) (count entry room : ℕ) where
         },
       ))
       (λ h f. let z : _≡_ {A = ℕ} 0 22 = ap numberIn f in absurd (omega arith))
-  by-literal bytes place (Refused r) j m e i = λ f. let z : r .number ≡ 22 = ap numberIn f in absurd (omega (arith, within-true 4 21 (r .number) i .1))
+  by-literal bytes place (Refused r) j m e i = λ f. let z : r .number ≡ 22 = ap numberIn f in absurd (omega (arith, number-in 4 21 r i .1))
 
   by-named : (x : Named) → judgedOf text ≡ Fit → namedOf text tape count entry ≡ x → Own-named x
       → byNamed x (λ bytes place. decodedIn place room (literalOf bytes (drop place text))) ≡ refused noRoom → TooLong
   by-named (At bytes place) j m o f = by-literal bytes place (literalOf bytes (drop place text)) j m refl (literal-inner bytes (drop place text)) f
-  by-named (named.Refused r) j m o f = let z : r .number ≡ 22 = ap numberIn f in absurd (omega (arith, within-true 23 28 (r .number) o .0))
+  by-named (named.Refused r) j m o f = let z : r .number ≡ 22 = ap numberIn f in absurd (omega (arith, number-in 23 28 r o .0))
 
   gives : decodedAnswer text tape count entry room ≡ refused noRoom → TooLong
   gives e =

@@ -9,7 +9,6 @@ use lib.Dec.{eqb, leb}
 use lib.ListN.{drop}
 use borrow.Author.Tests.{eq-eqb, eqb-true, le-leb, leb-true}
 use Rattle.text.proofs.Choices.{and-true, either, or-cases, or-true}
-use Rattle.text.proofs.ClassLaws.{within-true}
 use Rattle.text.specs.Judged.{placeFits}
 use Rattle.text.specs.Refusals.{Told, refused, unfit}
 use Rattle.text.specs.Utf8.{Encoded}
@@ -24,7 +23,7 @@ use Rattle.structs.specs.declared.kinds.TupleMode.{TupleMode}
 use Rattle.sarridok.specs.Skip.{skipOf, toldSkip}
 use Rattle.sarridok.specs.StructKind.{structKindOf, toldStruct}
 use Rattle.sarridok.specs.Typed.{integerAt, integerOf, placedAt, toldInteger as toldTyped}
-use Rattle.given.proofs.Front.{FourTo-told, told-number}
+use Rattle.given.proofs.Front.{FourTo-told, number-in, told-number}
 use Rattle.given.proofs.Owns.{skip-own, struct-own}
 use Rattle.given.proofs.Typed.{integer-own}
 use Rattle.fronts.specs.Fronts.{Boundary, CursorFits, PlacedOf, Sound}
@@ -75,7 +74,7 @@ cursor-exactly text c x = (means, says)
 
 -- 28 is none of the call's own refusals
 not-28 : {X A : Type 0} (own : Told A) → FourTo-told 27 own → own ≡ refused unfit → X
-not-28 own h e = absurd (omega (arith, within-true 4 27 28 (told-number 27 own unfit h e)))
+not-28 own h e = absurd (omega (arith, number-in 4 27 unfit (told-number 27 own unfit h e)))
 
 -- a choice by a test that says whether it fits
 by-test : {A : Type 0} (t : Bool) (fits : Type 0) (own : Told A) → FourTo-told 27 own → (t ≡ true) ↔ fits → PlacedOf fits (cond t own (refused unfit)) own

@@ -9,7 +9,6 @@ use lib.ListN.{length}
 use Rattle.text.specs.Classes.{within}
 use Rattle.text.specs.Refusals.{Told, accepted, noRoom, notInOrder, refused, unfit}
 use Rattle.text.proofs.Choices.{bool-cases, either, lt-or-le}
-use Rattle.text.proofs.ClassLaws.{within-true}
 use Rattle.rows.specs.Order.{inOrder}
 use Rattle.rows.specs.Rows.{entriesOf, roomOf}
 use Rattle.grammar.specs.Kinds.{kindsOf}
@@ -18,6 +17,7 @@ use Rattle.grammar.specs.declared.ends.Verdict.{Verdict}
 use Rattle.grammar.specs.declared.ends.Verdict.the-variants as verdict
 use Rattle.sarridok.specs.Walked.{judged, walkOf}
 use Rattle.sarridok.proofs.WalkFront as laws
+use Rattle.given.proofs.Front.{number-in}
 use Rattle.given.proofs.Walks.{Of-walk, verdict-of-walk}
 use Rattle.fronts.proofs.Numbers.{numberIn}
 
@@ -27,7 +27,7 @@ Own x = (numberIn x < 22) ⊎ ((23 < numberIn x) × (numberIn x < 28))
 
 own-judged : (v : Verdict) → Of-walk v → Own (judged v)
 own-judged verdict.Accepted h = inl (omega arith)
-own-judged (verdict.Refused r) h = let w = within-true 24 26 (r .number) h in inr (omega (arith, w .0), omega (arith, w .1))
+own-judged (verdict.Refused r) h = let w = number-in 24 26 r h in inr (omega (arith, w .0), omega (arith, w .1))
 
 not-own : (x : Told Unit) (n : ℕ) → Own x → numberIn x ≡ n → (n ≡ 22) ⊎ ((n ≡ 23) ⊎ (n ≡ 28)) → ⊥
 not-own x n o e c = either o (λ h. by c (inl (omega arith))) (λ h. by c (inr (omega (arith, h .0), omega (arith, h .1))))

@@ -16,6 +16,7 @@ use Rattle.comments.specs.declared.gap.Item.the-variants.{Blank}
 use Rattle.gapped.proofs.Items.{item-block, item-line, item-space}
 use Rattle.gapped.specs.Gap.{Gap}
 use Rattle.gapped.specs.Gap.Gap.{none, space, line, block}
+use Rattle.text.specs.Refusals.{atPlace}
 use Rattle.text.specs.Utf8.{encode}
 
 -- ---- answers seen from further in front
@@ -23,12 +24,12 @@ use Rattle.text.specs.Utf8.{encode}
 behind-none : (g : Answer) → gapBehind 0 g ≡ g
 behind-none (answer.Clear n) = ap answer.Clear (zero-add n)
 behind-none (answer.InLine n) = ap answer.InLine (zero-add n)
-behind-none (answer.Refused r) = ap (λ (n : ℕ). answer.Refused (record { number = r .number; place = n })) (zero-add (r .place))
+behind-none (answer.Refused r) = ap (λ (n : ℕ). answer.Refused (atPlace r n)) (zero-add (r .place))
 
 behind-both : (m n : ℕ) (g : Answer) → gapBehind m (gapBehind n g) ≡ gapBehind (m + n) g
 behind-both m n (answer.Clear k) = ap answer.Clear (omega arith)
 behind-both m n (answer.InLine k) = ap answer.InLine (omega arith)
-behind-both m n (answer.Refused r) = ap (λ (k : ℕ). answer.Refused (record { number = r .number; place = k })) (omega arith)
+behind-both m n (answer.Refused r) = ap (λ (k : ℕ). answer.Refused (atPlace r k)) (omega arith)
 
 -- ---- one item
 

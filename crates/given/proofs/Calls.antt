@@ -1,11 +1,17 @@
--- Each call refuses with one of the numbers 1, 2 and 4 to 29, and so never with 3 (document 01, "Refusal numbers"; CR 5). Assumes nothing.
+-- Each call refuses with one of the numbers 1, 2 and 4 to 29, and so never with 3 (document 01, "Refusal numbers"; CR 5); with a reason of 1 to 8 where the
+-- number is 13, and 0 elsewhere (CR 1). Assumes nothing.
 use Prim.Native.Nat.{ℕ}
-use mathlib.Core.Bool.{true≢false}
+use mathlib.Core.Bool.{Bool, cond, true, true≢false}
 use mathlib.Core.List.{List}
-use mathlib.Core.Path.{_≡_, ap, sym, _∙_}
+use mathlib.Core.Path.{_≡_, ap, subst, sym, _∙_}
+use lib.Dec.{eqb}
 use lib.ListN.{drop}
+use borrow.Author.Tests.{eq-eqb, eqb-true, ne-eqb}
+use Rattle.text.proofs.Choices.{and-true}
+use Rattle.text.proofs.ClassLaws.{within-true}
 use Rattle.text.specs.Judged.{behindFront, placeFits}
 use Rattle.text.specs.Refusals.{refused}
+use Rattle.text.specs.Utf8.{In}
 use Rattle.text.specs.declared.refusal.Refusal.{Refusal}
 use Rattle.cursor.specs.Skip.{cursorFits}
 use Rattle.cursor.specs.declared.ParserCursor.{ParserCursor}
@@ -20,7 +26,7 @@ use Rattle.sarridok.specs.Skip.{skipOf}
 use Rattle.sarridok.specs.StructKind.{structKindOf}
 use Rattle.sarridok.specs.Typed.{integerOf}
 use Rattle.sarridok.specs.Walked.{walkOf}
-use Rattle.given.specs.Given.{Given, given, within}
+use Rattle.given.specs.Given.{Given, given, reasoned, within}
 use Rattle.given.proofs.Front.{answered, behind-judged, own-given}
 use Rattle.given.proofs.Owns.{contents-own, decoded-own, or-unfit, skip-own, struct-own, walk-own}
 use Rattle.given.proofs.Repairs.{fitted-own, repaired-own}
@@ -65,4 +71,18 @@ repair-given tape count o a b text r = answered _ r (behind-judged text _ (repai
 
 pub never-three : (r : Refusal) → Given r → r .number ≡ 3 → ⊥
 unfolding given within
-never-three r h e = true≢false (sym h ∙ ap given e)
+never-three r h e = true≢false (sym (and-true (given (r .number)) (reasoned r) h .0) ∙ ap given e)
+
+-- ---- the reason
+
+-- of a refusal that is given
+reason-of : (r : Refusal) → Given r → reasoned r ≡ true
+reason-of r h = and-true (given (r .number)) (reasoned r) h .1
+
+-- 13 has one of the eight
+pub reason-13 : (r : Refusal) → Given r → r .number ≡ 13 → In 1 8 (r .reason)
+reason-13 r h e = within-true 1 8 (r .reason) (subst (λ (b : Bool). cond b (within 1 8 (r .reason)) (eqb (r .reason) 0) ≡ true) (eq-eqb (r .number) 13 e) (reason-of r h))
+
+-- any other number has none
+pub reason-none : (r : Refusal) → Given r → (r .number ≡ 13 → ⊥) → r .reason ≡ 0
+reason-none r h n = eqb-true (r .reason) 0 (subst (λ (b : Bool). cond b (within 1 8 (r .reason)) (eqb (r .reason) 0) ≡ true) (ne-eqb (r .number) 13 n) (reason-of r h))

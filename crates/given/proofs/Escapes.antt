@@ -31,7 +31,7 @@ two-digits at (b ∷ t) = both Inner-escape (eqb (hexOf b) 16) refl (second-digi
 
 close : (empty : Bool) (v at : ℕ) (t : List ℕ) → Inner-escape (closeOf empty v at t)
 unfolding closeOf within
-close empty v at [] = refl
+close empty v at [] = both Inner-escape empty refl refl
 close empty v at (b ∷ t) = both Inner-escape empty refl (both Inner-escape (eqb b 0x7D) (both Inner-escape (scalar v) tt refl) refl)
 
 digits : (left v at : ℕ) (t : List ℕ) → Inner-escape (digitsOf left v at t)

@@ -6,19 +6,36 @@ use mathlib.Core.List.{List, [], _∷_}
 use mathlib.Core.Path.{_≡_, refl, subst}
 use lib.Dec.{lit≤, ltb}
 use lib.ListN.{length}
-use Rattle.text.proofs.Choices.{or-true}
+use Rattle.text.proofs.Choices.{and-true, or-true}
 use Rattle.text.proofs.ClassLaws.{in-within, inside, within-true}
 use Rattle.text.specs.Classes.{oneOf}
 use Rattle.text.specs.Judged.{byUtf8, judgedOf, behindJudged}
 use Rattle.text.specs.Refusals.{Told, accepted, refused}
-use Rattle.text.specs.Utf8.{utf8Of}
+use Rattle.text.specs.Utf8.{In, utf8Of}
 use Rattle.text.specs.declared.judge.Judged.{Judged}
 use Rattle.text.specs.declared.judge.Judged.the-variants.{Fit, Refused}
 use Rattle.text.specs.declared.refusal.Refusal.{Refusal}
 use Rattle.text.specs.declared.utf8.Utf8Answer.{Utf8Answer}
 use Rattle.text.specs.declared.utf8.Utf8Answer.the-variants.{Good, BadAt}
-use Rattle.given.specs.Given.{FourTo, Given, Inner, given, within}
+use Rattle.given.specs.Given.{Between, FourTo, Given, Inner, given, reasoned, within}
 use Rattle.given.proofs.Both.{both}
+
+-- ---- the number and the reason of a refusal
+
+-- both are told of it
+pub number-in : (first last : ℕ) (r : Refusal) → Between first last r → In first last (r .number)
+number-in first last r h = within-true first last (r .number) (and-true (within first last (r .number)) (reasoned r) h .0)
+
+pub reason-fits : (first last : ℕ) (r : Refusal) → Between first last r → reasoned r ≡ true
+reason-fits first last r h = and-true (within first last (r .number)) (reasoned r) h .1
+
+-- and they are all that has to be told
+pub between : (first last : ℕ) (r : Refusal) → In first last (r .number) → reasoned r ≡ true → Between first last r
+between first last r h k = rw (in-within first last (r .number) h) k
+
+-- the range may be wider
+pub wider : (i j m n : ℕ) (r : Refusal) → m ≤ i → j ≤ n → Between i j r → Between m n r
+wider i j m n r f l h = let k = number-in i j r h in between m n r (omega (arith, k .0), omega (arith, k .1)) (reason-fits i j r h)
 
 -- ---- 4 to a last number
 
@@ -33,7 +50,7 @@ Own-told a = FourTo-told 29 a
 
 -- the last number may be higher
 pub higher : (m n : ℕ) (r : Refusal) → m ≤ n → FourTo m r → FourTo n r
-higher m n r l h = let i = within-true 4 m (r .number) h in in-within 4 n (r .number) (i .0, omega arith)
+higher m n r l h = wider 4 m 4 n r (omega arith) l h
 
 pub higher-told : {A : Type 0} (m n : ℕ) (a : Told A) → m ≤ n → FourTo-told m a → FourTo-told n a
 higher-told m n (accepted a) l h = tt
@@ -64,7 +81,7 @@ among l lo hi n h k = rw (inside lo hi n h k) (or-true (oneOf l n))
 -- 4 to 29 are given
 four-given : (r : Refusal) → FourTo 29 r → Given r
 unfolding given
-four-given r h = let i = within-true 4 29 (r .number) h in among (1 ∷ 2 ∷ []) _ _ (r .number) (omega (arith, i .0)) (omega (arith, i .1))
+four-given r h = let i = number-in 4 29 r h in rw (among (1 ∷ 2 ∷ []) 4 29 (r .number) (i .0) (i .1)) (reason-fits 4 29 r h)
 
 pub own-given : {A : Type 0} (a : Told A) → Own-told a → Given-told a
 own-given (accepted a) h = tt

@@ -7,7 +7,6 @@ use native.Mathlib.Omega.{arith}
 use lib.Dec.{lit≤, ltb}
 use lib.ListN.{drop, length}
 use Rattle.text.specs.Refusals.{Told, refused, unfit}
-use Rattle.text.proofs.ClassLaws.{inside, within-true}
 use Rattle.cursor.specs.Skip.{skipWsOf}
 use Rattle.cursor.specs.declared.ParserCursor.{ParserCursor}
 use Rattle.cursor.specs.declared.skip.Step.{Step}
@@ -33,7 +32,7 @@ use Rattle.given.specs.Given.{within}
 use Rattle.given.proofs.Both.{both}
 use Rattle.given.proofs.Cursors.{Inner-step, skip-ws-inner}
 use Rattle.given.proofs.Entries.{named-own, by-named, literal-inner, contents-in, decoded-in}
-use Rattle.given.proofs.Front.{FourTo-told, Own-told, higher, higher-told}
+use Rattle.given.proofs.Front.{FourTo-told, Own-told, higher, higher-told, wider}
 use Rattle.given.proofs.Scans.{Inner-struct}
 use Rattle.given.proofs.Structs.{struct-type-inner}
 use Rattle.given.proofs.Walks.{Of-walk, verdict-of-walk}
@@ -75,7 +74,7 @@ decoded-own text tape count entry room =
 
 told-verdict : (v : Verdict) → Of-walk v → Own-told (judged v)
 told-verdict verdict.Accepted h = tt
-told-verdict (verdict.Refused r) h = let w = within-true 24 26 (r .number) h in inside 4 29 (r .number) (omega (arith, w .0)) (omega (arith, w .1))
+told-verdict (verdict.Refused r) h = wider 24 26 4 29 r (omega arith) (omega arith) h
 
 pub walk-own : (tape : List ℕ) (count limit links : ℕ) → Own-told (walkOf tape count limit links)
 unfolding walkOf behindWalkFront within

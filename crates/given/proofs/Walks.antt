@@ -1,8 +1,7 @@
 -- The refusals of the grammar's walk are 24 to 26. Assumes nothing.
 use Prim.Native.Nat.{ℕ, _+_}
 use mathlib.Core.List.{List, [], _∷_}
-use mathlib.Core.Bool.{true}
-use mathlib.Core.Path.{_≡_, refl}
+use mathlib.Core.Path.{refl}
 use lib.Dec.{ltb}
 use lib.ListN.{length}
 use Rattle.grammar.specs.Steps.{stepOf}
@@ -16,12 +15,12 @@ use Rattle.grammar.specs.declared.states.Move.{Move}
 use Rattle.grammar.specs.declared.states.Move.the-variants.{Stay, Push, Pop, Bad}
 use Rattle.grammar.specs.declared.ends.Verdict.{Verdict}
 use Rattle.grammar.specs.declared.ends.Verdict.the-variants.{Accepted, Refused}
-use Rattle.given.specs.Given.{within}
+use Rattle.given.specs.Given.{Between, within}
 use Rattle.given.proofs.Both.{both}
 
 abbrev pub Of-walk : Verdict → Type 0
 Of-walk Accepted = Unit
-Of-walk (Refused r) = within 24 26 (r .number) ≡ true
+Of-walk (Refused r) = Between 24 26 r
 
 end : (f : Frame) (i : ℕ) → Of-walk (ended f i)
 unfolding within

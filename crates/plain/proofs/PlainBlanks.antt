@@ -8,7 +8,7 @@ use lib.ListN.{drop, getD, length}
 use lib.Seq.{drop-drop}
 use Rattle.text.proofs.Choices.{either, lt-or-le}
 use Rattle.text.specs.Classes.{blank1, blankWidth}
-use Rattle.text.specs.Refusals.{placedBehind, refusal}
+use Rattle.text.specs.Refusals.{atPlace, placedBehind}
 use Rattle.text.specs.Runs.{run}
 use Rattle.comments.proofs.GapLaws.{gap-moved, gapBehind, item-blank, on-blank}
 use Rattle.comments.specs.Gaps.{gapOf}
@@ -33,7 +33,7 @@ later (refuse r) = refuse (placedBehind 1 r)
 
 later-lexeme : (g : ℕ) (l : LexemeAnswer) → lexemeBehind (1 + g) l ≡ later (lexemeBehind g l)
 later-lexeme g (lexeme.Read l) = refl
-later-lexeme g (lexeme.Refused r) = ap (λ (p : ℕ). refuse (refusal (r .number) p)) (omega arith)
+later-lexeme g (lexeme.Refused r) = ap (λ (p : ℕ). refuse (atPlace r p)) (omega arith)
 
 later-gap : (a : ℕ) (s : List ℕ) (g : Gap) → byGap (a ∷ s) (gapBehind 1 g) ≡ later (byGap s g)
 later-gap a s (gap.Clear g) =
@@ -66,7 +66,7 @@ blank-read : (a : ℕ) (s : List ℕ) (at : ℕ) (x : Answer) → ronToken (a �
 blank-read a s at stop e f = read-stop ronToken quietByte laws at (a ∷ s) e ∙ sym (read-stop ronToken quietByte laws (at + 1) s f)
 blank-read a s at (refuse r) e f =
     read-refuse ronToken quietByte laws at (a ∷ s) (placedBehind 1 r) e
-    ∙ ap (λ (p : ℕ). broken (refusal (r .number) p)) (omega arith)
+    ∙ ap (λ (p : ℕ). broken (atPlace r p)) (omega arith)
     ∙ sym (read-refuse ronToken quietByte laws (at + 1) s r f)
 blank-read a s at (token t) e f =
     let start : at + (1 + t .gap) ≡ at + 1 + t .gap = omega arith in

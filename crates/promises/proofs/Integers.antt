@@ -103,7 +103,7 @@ module _ (text : List ℕ) (place : ℕ) (width : Width) where
   pub integer-27 : (integerOf text place width ≡ refused otherKind) ↔ (OtherWidth width text place ⊎ OtherByte width text place)
   integer-27 = bytes.integer-27 text place width
 
-  -- A refusal's number is 1, 2 or one of 4 to 29.
+  -- A refusal's number is 1, 2 or one of 4 to 29, and its reason 1 to 8 where that is 13, else 0.
   pub integer-numbers : (r : Refusal) → integerOf text place width ≡ refused r → Given r
   integer-numbers = integer-given text place width
 

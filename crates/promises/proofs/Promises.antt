@@ -4,7 +4,7 @@
 -- contents_part, decoded; escapes, strings, chars     StructKinds   struct_kind     Readings      read; what it reads, what is shut out; names, floats
 -- Walks         walk; 24, 25 and 26; links     Repairs       repair; the third demand     Hosts         the interface for C: nothing of an answer is cut
 -- off Demand 1: `refused-read`, `refused-decoded`, `refused-walk`, `refused-repair`; the other calls are lent nothing to write. Demand 2: what is said of
--- each call. Demand 3: `repair-as-read`. Each line is a theorem's statement; its proof only says where it is proved. Assumes nothing.
+-- each call. Demand 3: `repair-as-read`. In both a refusal is its number, place and reason. Each line is a theorem's statement; its proof only says where it is proved. Assumes nothing.
 use Prim.Native.Nat.{ℕ, _<_, _≤_}
 use mathlib.Core.Bool.{true}
 use mathlib.Core.List.{List, _++_}
@@ -23,8 +23,10 @@ use Rattle.fronts.proofs.Characters as characters
 use Rattle.fronts.proofs.Texts as texts-front
 use Rattle.given.specs.Given.{Given}
 use Rattle.given.proofs.Calls.{never-three}
+use Rattle.given.proofs.Calls as calls
+use Rattle.worked.specs.Reasons.{reasonTexts}
 use Rattle.worked.specs.Texts.{AllHold, texts}
-use Rattle.worked.proofs.Worked.{worked}
+use Rattle.worked.proofs.Worked.{worked, worked-reasons}
 
 -- ---- the front of every call with a text
 
@@ -60,13 +62,24 @@ text-bad = texts-front.bad-exactly
 pub place-fit : (text : List ℕ) (p : ℕ) → Encoded text → (placeFits text p ≡ true) ↔ Boundary text p
 place-fit = texts-front.place-exactly
 
--- ---- the numbers
+-- ---- the numbers, and the reason of an escape
 
 -- No call gives 3: a refusal's number is 1, 2 or one of 4 to 29 (`Given`), of every call (`skip-numbers` and its like).
 pub never-3 : (r : Refusal) → Given r → r .number ≡ 3 → ⊥
 never-3 = never-three
 
+-- A refusal with 13 has a reason of 1 to 8, and one with any other number has 0: of every call, since its refusals are `Given`.
+pub reason-13 : (r : Refusal) → Given r → r .number ≡ 13 → (1 ≤ r .reason) × (r .reason ≤ 8)
+reason-13 = calls.reason-13
+
+pub reason-0 : (r : Refusal) → Given r → (r .number ≡ 13 → ⊥) → r .reason ≡ 0
+reason-0 = calls.reason-none
+
 -- ---- the worked texts, as a single statement over one list
 
 pub texts-hold : AllHold texts
 texts-hold = worked
+
+-- Those of change request 1: each of the eight reasons is given by a text, and typed integer, decoded, struct kind and repair hand one on.
+pub reasons-hold : AllHold reasonTexts
+reasons-hold = worked-reasons

@@ -74,7 +74,7 @@ pub refused-read : (text tape : List ℕ) (r : Refusal) → readAnswer text (len
 unfolding readTape
 refused-read text tape r e = ap (λ (t : Told ℕ). laidBy t (readingOf text) tape) e
 
--- A refusal's number is 1, 2 or one of 4 to 29.
+-- A refusal's number is 1, 2 or one of 4 to 29, and its reason 1 to 8 where that is 13, else 0.
 pub read-numbers : (text : List ℕ) (numbers : ℕ) (r : Refusal) → readAnswer text numbers ≡ refused r → Given r
 read-numbers = read-given
 

@@ -36,7 +36,7 @@ use Rattle.shutout.proofs.ShutOut as repairers
 -- ---- demand 3: a repair is a fresh reading
 
 -- Over a tape that `read` or `repair` left, and a new text with one run of bytes replaced, `repair` answers as `read` of the new text in a tape of that
--- length does: the refusal and its place, the entries, zeros up to the old count and what stood beyond it; the first entries are old ones and the last are
+-- length does: the refusal with its place and reason, the entries, zeros up to the old count and what stood beyond it; the first entries are old ones and the last are
 -- old ones moved, as many as document 01 counts.
 pub repair-as-read : (old tape : List ℕ) (count a b e : ℕ) (new : List ℕ) → Left old tape count → Replaced old new a b e → AsRead old tape count a b e new
 repair-as-read = repairs-as-read
@@ -78,7 +78,7 @@ module _ (tape : List ℕ) (count o a b : ℕ) (text : List ℕ) where
   unfolding repairOf repairedTape
   refused-repair r e = by-judgement r (judgedOf text) e
 
-  -- A refusal's number is 1, 2 or one of 4 to 29.
+  -- A refusal's number is 1, 2 or one of 4 to 29, and its reason 1 to 8 where that is 13, else 0.
   pub repair-numbers : (r : Refusal) → repairOf tape count o a b text ≡ refused r → Given r
   repair-numbers = repair-given tape count o a b text
 

@@ -87,7 +87,7 @@ module _ (text : List ℕ) (c : ParserCursor) where
   pub skip-6 : (p : ℕ) → (skipOf text c ≡ refused (eof p)) ↔ (Fits text c × (p ≡ length text) × LastSlash (ahead text c))
   skip-6 = skips.six-exactly text c
 
-  -- A refusal's number is 1, 2 or one of 4 to 29.
+  -- A refusal's number is 1, 2 or one of 4 to 29, and its reason 1 to 8 where that is 13, else 0.
   pub skip-numbers : (r : Refusal) → skipOf text c ≡ refused r → Given r
   skip-numbers = skip-given text c
 

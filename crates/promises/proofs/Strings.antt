@@ -5,24 +5,30 @@ use mathlib.Core.List.{List, _++_}
 use mathlib.Core.Logic.{_↔_}
 use mathlib.Core.Path.{_≡_, _∙_, ap}
 use lib.ListN.{drop, length}
-use Rattle.text.specs.Refusals.{Told, accepted, noRoom, refused}
+use Rattle.text.specs.Refusals.{Told, accepted, eof, invalidEscape, noRoom, refused}
 use Rattle.text.specs.Utf8.{Encoded}
+use Rattle.text.specs.declared.reason.EscapeReason.{EscapeReason}
 use Rattle.text.specs.declared.refusal.Refusal.{Refusal}
 use Rattle.escapes.specs.Escapes.{escapeOf}
 use Rattle.escapes.specs.declared.answers.EscapeAnswer.the-variants.{Refused as NoEscape}
 use Rattle.escapes.specs.declared.answers.Mode.{Mode}
 use Rattle.escaped.specs.Escape.{Escape, Meant, Says}
+use Rattle.escaped.specs.Wrong.{Ends, Wrong}
 use Rattle.escaped.proofs.Exactly as escapes
+use Rattle.escaped.proofs.Reasons as reasons
 use Rattle.strings.specs.Chars.{byteOf, charOf}
 use Rattle.strings.specs.Strings.{byteStringDecoded, byteStringOf, stringDecoded, stringOf}
 use Rattle.strings.specs.declared.literal.Literal.{Literal}
-use Rattle.strings.specs.declared.literal.LiteralAnswer.the-variants.{Read}
-use Rattle.strings.specs.declared.chars.ByteAnswer.the-variants.{Read as ReadByte}
-use Rattle.strings.specs.declared.chars.CharAnswer.the-variants.{Read as ReadChar}
+use Rattle.strings.specs.declared.literal.LiteralAnswer.the-variants.{Read, Refused as NoString}
+use Rattle.strings.specs.declared.chars.ByteAnswer.the-variants.{Read as ReadByte, Refused as NoByte}
+use Rattle.strings.specs.declared.chars.CharAnswer.the-variants.{Read as ReadChar, Refused as NoChar}
 use Rattle.quoted.specs.Decoding.{Decodes}
 use Rattle.quoted.specs.Literals.{ByteAt, ByteStringAt, CharAt, LiteralAt, StringAt}
+use Rattle.quoted.specs.Wrong.{WrongByte, WrongByteString, WrongChar, WrongString}
 use Rattle.quoted.proofs.Decoded as decodings
 use Rattle.quoted.proofs.Exactly as quotes
+use Rattle.quoted.proofs.WrongChars as wrong-chars
+use Rattle.quoted.proofs.WrongStrings as wrong-strings
 use Rattle.rows.specs.Rows.{entryAt}
 use Rattle.entries.specs.Contents.{Span, byNamed, contentsIn, decodedIn, toldContents, toldDecoded, writtenBy}
 use Rattle.entries.specs.Named.{literalDecoded, literalOf, namedOf}
@@ -48,6 +54,14 @@ use Rattle.given.proofs.Calls.{contents-given, decoded-given}
 pub escape-exactly : (m : Mode) (s : List ℕ) (v : Meant) (n : ℕ) → Says (escapeOf m s) v n ↔ ((n ≤ length s) × Escape m s v (drop n s))
 escape-exactly = escapes.escape-exactly
 
+-- 13 is given exactly where it is wrong for that reason, at that place (CR 1); the eighth reason is that of a byte literal (`byte-13`).
+pub escape-13 : (m : Mode) (s : List ℕ) (why : EscapeReason) (p : ℕ) → (escapeOf m s ≡ NoEscape (invalidEscape why p)) ↔ Wrong m s why p
+escape-13 = reasons.escape-13
+
+-- 6 exactly where the text ends before the escape does, at its end; there is no other refusal.
+pub escape-6 : (m : Mode) (s : List ℕ) (p : ℕ) → (escapeOf m s ≡ NoEscape (eof p)) ↔ (Ends m s × (p ≡ length s))
+escape-6 = reasons.escape-6
+
 -- Where it is refused, no escape stands.
 pub escape-refused : (m : Mode) (s : List ℕ) (r : Refusal) → escapeOf m s ≡ NoEscape r → (v : Meant) (t : List ℕ) → Escape m s v t → ⊥
 escape-refused = escapes.escape-refused
@@ -66,6 +80,19 @@ char-exactly = quotes.char-exactly
 
 pub byte-exactly : (s : List ℕ) (n b : ℕ) → (byteOf s ≡ ReadByte n b) ↔ ((n ≤ length s) × ByteAt s b (drop n s))
 byte-exactly = quotes.byte-exactly
+
+-- 13 is given exactly where an escape in it is wrong, with that reason, at that place: behind pieces that are well, where a quote stands behind the opening one.
+pub string-13 : (s : List ℕ) (why : EscapeReason) (p : ℕ) → (stringOf s ≡ NoString (invalidEscape why p)) ↔ WrongString s why p
+string-13 = wrong-strings.string-13
+
+pub byte-string-13 : (s : List ℕ) (why : EscapeReason) (p : ℕ) → (byteStringOf s ≡ NoString (invalidEscape why p)) ↔ WrongByteString s why p
+byte-string-13 = wrong-strings.byte-string-13
+
+pub char-13 : (s : List ℕ) (why : EscapeReason) (p : ℕ) → (charOf s ≡ NoChar (invalidEscape why p)) ↔ WrongChar s why p
+char-13 = wrong-chars.char-13
+
+pub byte-13 : (s : List ℕ) (why : EscapeReason) (p : ℕ) → (byteOf s ≡ NoByte (invalidEscape why p)) ↔ WrongByte s why p
+byte-13 = wrong-chars.byte-13
 
 -- The decoded length is that of the decoded bytes.
 pub string-length : (s : List ℕ) (l : Literal) → stringOf s ≡ Read l → length (stringDecoded s) ≡ l .decoded
@@ -109,7 +136,7 @@ module _ (text tape : List ℕ) (count entry : ℕ) where
   pub refused-decoded : (out : List ℕ) (r : Refusal) → decodedAnswer text tape count entry (length out) ≡ refused r → decodedOut text tape count entry out ≡ out
   refused-decoded = out-refused text tape count entry
 
-  -- A refusal's number is 1, 2 or one of 4 to 29.
+  -- A refusal's number is 1, 2 or one of 4 to 29, and its reason 1 to 8 where that is 13, else 0.
   pub decoded-numbers : (room : ℕ) (r : Refusal) → decodedAnswer text tape count entry room ≡ refused r → Given r
   decoded-numbers = decoded-given text tape count entry
 
@@ -135,7 +162,7 @@ module _ (text tape : List ℕ) (count entry : ℕ) where
       → LiteralAt bytes (drop place text) d t → partOf text (contentsOf text tape count entry) ≡ d
   contents-decoded s bytes place d t e m l = agree.part-decoded text tape count entry s e ∙ ap (namedBytes text) m ∙ literal-is bytes (drop place text) d t l
 
-  -- A refusal's number is 1, 2 or one of 4 to 29.
+  -- A refusal's number is 1, 2 or one of 4 to 29, and its reason 1 to 8 where that is 13, else 0.
   pub contents-numbers : (r : Refusal) → contentsOf text tape count entry ≡ refused r → Given r
   contents-numbers = contents-given text tape count entry
 

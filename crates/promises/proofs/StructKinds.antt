@@ -43,7 +43,7 @@ module _ (text : List ℕ) (place : ℕ) (newtype : NewtypeMode) (tuple : TupleM
   pub struct-kind-placed : Sound text → PlacedOf (Boundary text place) (structKindOf text place newtype tuple) (toldStruct (placedKind place (structTypeOf (drop place text) newtype tuple)))
   struct-kind-placed = places.struct-kind-placed text place newtype tuple
 
-  -- A refusal's number is 1, 2 or one of 4 to 29.
+  -- A refusal's number is 1, 2 or one of 4 to 29, and its reason 1 to 8 where that is 13, else 0.
   pub struct-kind-numbers : (r : Refusal) → structKindOf text place newtype tuple ≡ refused r → Given r
   struct-kind-numbers = struct-given text place newtype tuple
 

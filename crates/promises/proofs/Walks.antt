@@ -71,7 +71,7 @@ module _ (tape : List ℕ) (count limit links : ℕ) where
       → walkOf tape count more links ≡ walkOf tape count limit links
   walk-higher more = means.higher-same tape count limit more links
 
-  -- A refusal's number is 1, 2 or one of 4 to 29.
+  -- A refusal's number is 1, 2 or one of 4 to 29, and its reason 1 to 8 where that is 13, else 0.
   pub walk-numbers : (r : Refusal) → walkOf tape count limit links ≡ refused r → Given r
   walk-numbers = walk-given tape count limit links
 

@@ -19,6 +19,7 @@ use Rattle.strings.specs.Pieces.{lineEnd}
 use Rattle.text.proofs.Choices.{and-true, bool-cases, either, or-cases}
 use Rattle.text.specs.Classes.{continuationBlank}
 use Rattle.text.specs.Refusals.{invalidEscape}
+use Rattle.text.specs.declared.reason.EscapeReason.the-variants.{UnknownLetter}
 use Rattle.text.specs.Runs.{run}
 use Rattle.text.specs.Utf8.{charLen}
 
@@ -60,12 +61,12 @@ continued-ends (lf x) = (refl, run-blanks x)
 continued-ends (crlf x) = (refl, run-blanks x)
 
 -- the byte that ends a line is refused as an escape
-refused-lf : (m : Mode) (s : List ℕ) → escapeOf m (0x0A ∷ s) ≡ Refused (invalidEscape (charLen (0x0A ∷ s)))
+refused-lf : (m : Mode) (s : List ℕ) → escapeOf m (0x0A ∷ s) ≡ Refused (invalidEscape UnknownLetter (charLen (0x0A ∷ s)))
 unfolding escapeOf simpleOf
 refused-lf m s = refl
 
 -- and so is CR
-refused-cr : (m : Mode) (s : List ℕ) → escapeOf m (0x0D ∷ s) ≡ Refused (invalidEscape (charLen (0x0D ∷ s)))
+refused-cr : (m : Mode) (s : List ℕ) → escapeOf m (0x0D ∷ s) ≡ Refused (invalidEscape UnknownLetter (charLen (0x0D ∷ s)))
 unfolding escapeOf simpleOf
 refused-cr m s = refl
 

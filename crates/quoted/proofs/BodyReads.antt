@@ -32,7 +32,7 @@ use Rattle.text.specs.Classes.{continuationBlank}
 use Rattle.text.specs.Runs.{run}
 
 -- what an escape means, as a piece decodes to it
-abbrev meaning : Meant → Decoded
+abbrev pub meaning : Meant → Decoded
 meaning (byte b) = Ascii b
 meaning (point c) = Utf8 c
 
@@ -76,7 +76,7 @@ module _ (m : Mode) where
     on-decoded (suc j) e = ap decodedOf (plain-body b s h i (suc j) e) ∙ ap (λ (x : Body). b ∷ decodedOf x) (sym (run-body s j e))
 
     -- and what it comes to is one byte further on
-    on-measured : (j : ℕ) → run plain s ≡ j → (start from at dec : ℕ) (esc : Bool)
+    pub on-measured : (j : ℕ) → run plain s ≡ j → (start from at dec : ℕ) (esc : Bool)
         → measured (bodyOf m (b ∷ s)) start from at dec esc ≡ measured (bodyOf m s) start from (at + 1) (dec + 1) esc
     unfolding measured
     on-measured zero e start from at dec esc = ap (λ (x : Body). measured x start from at dec esc) (plain-body b s h i zero e) ∙ ap (measured (bodyOf m s) start from (at + 1) (dec + 1)) (or-false esc)
@@ -91,18 +91,18 @@ module _ (m : Mode) where
   -- ---- a backslash in front
 
   -- an escape is the piece at the front
-  escape-front : (s : List ℕ) (v : Meant) (k : ℕ) → Says (escapeOf m s) v k → lineEnd s ≡ false → Backslash (suc k) (meaning v) ≡ pieceOf m (0x5C ∷ s)
+  pub escape-front : (s : List ℕ) (v : Meant) (k : ℕ) → Says (escapeOf m s) v k → lineEnd s ≡ false → Backslash (suc k) (meaning v) ≡ pieceOf m (0x5C ∷ s)
   unfolding pieceOf behindBackslash
   escape-front s (byte b) k e f = rw (f, e, add-one k)
   escape-front s (point c) k e f = rw (f, e, add-one k)
 
   -- and so is a continuation
-  continued-front : (s : List ℕ) → lineEnd s ≡ true → Backslash (suc (run continuationBlank s)) Nothing ≡ pieceOf m (0x5C ∷ s)
+  pub continued-front : (s : List ℕ) → lineEnd s ≡ true → Backslash (suc (run continuationBlank s)) Nothing ≡ pieceOf m (0x5C ∷ s)
   unfolding pieceOf behindBackslash
   continued-front s e = rw (e, add-one (run continuationBlank s))
 
   -- the body then begins with it
-  backslash-body : (s : List ℕ) (k : ℕ) (d : Decoded) → Backslash (suc k) d ≡ pieceOf m (0x5C ∷ s) → bodyOf m (0x5C ∷ s) ≡ next (suc k) (bytesOf d) true (bodyOf m (drop k s))
+  pub backslash-body : (s : List ℕ) (k : ℕ) (d : Decoded) → Backslash (suc k) d ≡ pieceOf m (0x5C ∷ s) → bodyOf m (0x5C ∷ s) ≡ next (suc k) (bytesOf d) true (bodyOf m (drop k s))
   backslash-body s k d e = body-step m (0x5C ∷ s) (Backslash (suc k) d) (omega arith) e
 
   -- ---- the whole

@@ -10,3 +10,7 @@ pub mod RawReads
 pub mod StringReads
 pub mod Exactly
 pub mod Decoded
+pub mod Thirteen
+pub mod WrongChars
+pub mod WrongBodies
+pub mod WrongStrings

@@ -61,7 +61,7 @@ pub record Read-as (m : Mode) (start : ℕ) (s d t : List ℕ) : Type 0 where
   pub count : literal .decoded ≡ length d
 
 -- where a quote stands, it is the body that is judged
-judged : (m : Mode) (start : ℕ) (s : List ℕ) (k : ℕ) → getD (drop start s) k 0 ≡ 0x22 → quotedOf m start s ≡ measured (bodyOf m (drop start s)) start start start 0 false
+pub judged : (m : Mode) (start : ℕ) (s : List ℕ) (k : ℕ) → getD (drop start s) k 0 ≡ 0x22 → quotedOf m start s ≡ measured (bodyOf m (drop start s)) start start start 0 false
 unfolding quotedOf
 judged m start s k e =
     rw (lt-ltb (run unquoted (drop start s)) (length (drop start s)) (omega (arith, run-to (drop start s) k e, stands (drop start s) k 0x22 (omega arith) e)))

@@ -1,3 +1,4 @@
 pub mod Bodies
 pub mod Literals
 pub mod Decoding
+pub mod Wrong

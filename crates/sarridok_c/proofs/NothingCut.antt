@@ -1,7 +1,7 @@
--- Nothing is ever cut off: from the number that each call answers a host gets back whether it was refused, and both numbers of the answer.
+-- Nothing is ever cut off: from the number that each call answers a host gets back whether it was refused, and every number of the answer.
 --     read-whole, walk-whole, repair-whole, integer-whole, contents-whole, decoded-whole, struct-whole, skip-whole
 -- They hold of any text, tape and numbers. Assumes nothing.
-use Prim.Native.Nat.{ℕ, _≤_}
+use Prim.Native.Nat.{ℕ}
 use mathlib.Core.Bool.{_&&_}
 use mathlib.Core.List.{List}
 use mathlib.Core.Path.{_≡_, refl}
@@ -28,21 +28,21 @@ use Rattle.sarridok_c.specs.Whole.{Whole, countParts, cursorParts, doneP
 use Rattle.sarridok_c.specs.Words.{countWord, cursorWord, doneWord, kindWord, repairedWord, spanWord, typedWord}
 use Rattle.sarridok_c.proofs.CallPlaces.{contents-low, decoded-low, integer-low, skip-low, struct-low}
 use Rattle.sarridok_c.proofs.ReadPlaces.{read-low, repair-low}
-use Rattle.sarridok_c.proofs.Unpacking.{Low, given-low, got-back, unfit-low}
+use Rattle.sarridok_c.proofs.Unpacking.{Low, Short, given-low, got-back, unfit-low}
 use Rattle.sarridok_c.proofs.WalkPlaces.{walk-low}
 
 -- ---- widths and modes by their numbers
 
--- the number of a refusal is one of the table's, which ends at 29
+-- the number of a refusal is one of the table's, which ends at 29, and its reason at most 8
 abbrev Listed : {A : Type 0} → Told A → Type 0
 Listed (accepted a) = Unit {0}
-Listed (refused r) = r .number ≤ 29
+Listed (refused r) = Short r
 
 listed : {A : Type 0} (t : Told A) → ((r : Refusal) → t ≡ refused r → Given r) → Listed t
 listed (accepted a) h = tt
 listed (refused r) h = given-low r (h r refl)
 
-numbers : {A : Type 0} (t : Told A) → Listed t → (r : Refusal) → t ≡ refused r → r .number ≤ 29
+numbers : {A : Type 0} (t : Told A) → Listed t → (r : Refusal) → t ≡ refused r → Short r
 numbers t h r e = rw e at h
 
 module _ (text : List ℕ) (place : ℕ) where

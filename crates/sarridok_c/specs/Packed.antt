@@ -1,5 +1,5 @@
 -- How a host in C gets an answer: in one number of 64 bits. An accepted call's is below 2^63; a refused call's has the top bit set, and in the rest the
--- refusal's number and place. Document 01: "A refused call writes nothing."
+-- refusal's number, reason and place. Document 01: "A refused call writes nothing."
 use Prim.Native.Nat.{ℕ, _+_, _-_, _*_, _^_}
 use mathlib.Core.Bool.{Bool, cond}
 use mathlib.Core.List.{List}
@@ -22,9 +22,9 @@ pairOf high low = atMost (2 ^ 31 - 1) high * 2 ^ 32 + atMost (2 ^ 32 - 1) low
 abbrev pub bitOf : Bool → ℕ
 bitOf set = cond set 1 0
 
--- A refusal with the top bit set.
+-- A refusal with the top bit set; its number has the 8 bits above its place, and its reason those above.
 unfoldable pub refusalWord : Refusal → ℕ
-refusalWord r = 2 ^ 63 + pairOf (r .number) (r .place)
+refusalWord r = 2 ^ 63 + pairOf (r .number + 256 * r .reason) (r .place)
 
 -- An answer: what was accepted in its own way, or the refusal.
 abbrev pub packed : {A : Type 0} → (A → ℕ) → Told A → ℕ

@@ -2,6 +2,7 @@
 use Prim.Native.Nat.{ℕ, _/_, _%_, _^_}
 use mathlib.Core.Path.{_≡_}
 use Rattle.text.specs.Refusals.{Told, accepted, refused}
+use Rattle.text.specs.declared.refusal.Refusal.{Refusal}
 use Rattle.cursor.specs.declared.ParserCursor.{ParserCursor}
 use Rattle.entries.specs.Contents.{Span}
 use Rattle.repair.specs.Repair.{Repaired}
@@ -24,10 +25,17 @@ pub record Unpacks (word top upper lower : ℕ) : Type 0 where
   pub above : word % 2 ^ 63 / 2 ^ 32 ≡ upper
   pub below : word % 2 ^ 32 ≡ lower
 
--- An answer is got back whole: whether it is a refusal, and its two numbers.
+-- What a host gets out of a refusal: the top bit, and its number, reason and place.
+pub record Refuses (word : ℕ) (r : Refusal) : Type 0 where
+  pub first : word / 2 ^ 63 ≡ 1
+  pub number : word / 2 ^ 32 % 256 ≡ r .number
+  pub reason : word / 2 ^ 40 % 256 ≡ r .reason
+  pub place : word % 2 ^ 32 ≡ r .place
+
+-- An answer is got back whole: whether it is a refusal, and its numbers.
 abbrev pub Whole : {A : Type 0} → (A → ℕ) → (A → Halves) → Told A → Type 0
 Whole word parts (accepted a) = Unpacks (word a) 0 (parts a .upper) (parts a .lower)
-Whole word parts (refused r) = Unpacks (refusalWord r) 1 (r .number) (r .place)
+Whole word parts (refused r) = Refuses (refusalWord r) r
 
 -- The two numbers of each call: how many entries or bytes,
 abbrev pub countParts : ℕ → Halves

@@ -35,11 +35,13 @@ pub fn bit(set: bool) -> u64
     0
 }
 
-// The top bit, the refusal's number and its place.
+// The top bit, the refusal's reason, its number and its place.
 pub fn refused(refusal: Refusal) -> u64
     ensures { λ r. ⌜ r ≡ refusalWord refusal ⌝ }
 {
-    let word = pair(refusal.number as u64, refusal.place as u64);
+    let number = refusal.number as u64;
+    let reason = refusal.reason as u64;
+    let word = pair(number + 256 * reason, refusal.place as u64);
     0x8000_0000_0000_0000 + word
 }
 

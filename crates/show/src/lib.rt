@@ -10,7 +10,7 @@ pub mod walk;
 
 ghost use mathlib.Core.Path.{_≡_};
 ghost use Rattle.lines.specs.Out.{put};
-ghost use Rattle.show.specs.Answers.{badText, refusedText, cleanText};
+ghost use Rattle.show.specs.Answers.{badText, placedText, refusedText, cleanText};
 use lines::out;
 use text::Refusal;
 
@@ -21,13 +21,21 @@ pub fn bad(o: &mut [u8], at: usize) -> usize
     out::bytes(o, at, b"bad")
 }
 
-// Number and place.
-pub fn refused(o: &mut [u8], at: usize, r: Refusal) -> usize
-    ensures { λ p. ⌜ (now (o .exit), p) ≡ put (now (o .entry), at) (refusedText r) ⌝ }
+// Number and place, as document 01 prints them.
+pub fn placed(o: &mut [u8], at: usize, r: Refusal) -> usize
+    ensures { λ p. ⌜ (now (o .exit), p) ≡ put (now (o .entry), at) (placedText r) ⌝ }
 {
     let a = out::bytes(o, at, b"refused");
     let b = out::word(o, a, r.number as u64);
     out::word(o, b, r.place as u64)
+}
+
+// And with the reason, 0 where the number is not 13.
+pub fn refused(o: &mut [u8], at: usize, r: Refusal) -> usize
+    ensures { λ p. ⌜ (now (o .exit), p) ≡ put (now (o .entry), at) (refusedText r) ⌝ }
+{
+    let a = placed(o, at, r);
+    out::word(o, a, r.reason as u64)
 }
 
 // Behind an answer: whether its call changed nothing that it may not.

@@ -40,16 +40,21 @@ pub fn entries(o: &mut [u8], at: usize, tape: &[u32], n: usize, between: u8) -> 
     to
 }
 
-// The separator stands before each entry.
+// How many entries, and these; the separator stands before each.
+pub fn accepted(o: &mut [u8], at: usize, n: usize, tape: &[u32], between: u8) -> usize
+    ensures { λ p. ⌜ (now (o .exit), p) ≡ put (now (o .entry), at) (readText between (now (tape .entry)) n) ⌝ }
+{
+    let a = out::bytes(o, at, b"ok");
+    let b = out::word(o, a, n as u64);
+    entries(o, b, tape, n, between)
+}
+
+// These, or the refusal.
 pub fn read(o: &mut [u8], at: usize, r: ReadAnswer, tape: &[u32], between: u8) -> usize
     ensures { λ p. ⌜ (now (o .exit), p) ≡ put (now (o .entry), at) (answerText (readText between (now (tape .entry))) (toldRead r)) ⌝ }
 {
     match r {
-        ReadAnswer::Accepted(n) => {
-            let a = out::bytes(o, at, b"ok");
-            let b = out::word(o, a, n as u64);
-            entries(o, b, tape, n, between)
-        }
+        ReadAnswer::Accepted(n) => accepted(o, at, n, tape, between),
         ReadAnswer::Refused(f) => crate::refused(o, at, f),
     }
 }

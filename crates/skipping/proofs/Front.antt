@@ -19,7 +19,7 @@ use Rattle.skipping.specs.Skips.{Fits, ahead}
 use Rattle.text.proofs.Choices.{cond-cases, either, lt-or-le}
 use Rattle.text.proofs.JudgeLaws.{front-fit, front-refused, front-unfit}
 use Rattle.text.specs.Judged.{byUtf8, judgedOf}
-use Rattle.text.specs.Refusals.{Told, accepted, notUtf8, refusal, refused, tooLong, unfit}
+use Rattle.text.specs.Refusals.{Told, accepted, atPlace, notUtf8, placedBehind, refusal, refused, tooLong, unfit}
 use Rattle.text.specs.declared.judge.Judged.{Judged}
 use Rattle.text.specs.declared.judge.Judged.the-variants.{Fit, Refused}
 use Rattle.text.specs.declared.refusal.Refusal.{Refusal}
@@ -82,8 +82,8 @@ module _ (text : List ℕ) (c : ParserCursor) where
 
 -- ---- refusals
 
-refusals : (n m j i : ℕ) → _≡_ {A = Told ParserCursor} (refused (refusal n j)) (refused (refusal m i)) → (n ≡ m) × (j ≡ i)
-refusals n m j i e = let r : refusal n j ≡ refusal m i = cc in (ap (λ (x : Refusal). x .number) r, ap (λ (x : Refusal). x .place) r)
+refusals : (q r : Refusal) → _≡_ {A = Told ParserCursor} (refused q) (refused r) → q ≡ r
+refusals q r e = cc
 
 -- a refusal of the gap, seen from the text
 abbrev pub Refuses : ℕ → Answer → ℕ → ℕ → Type 0
@@ -93,8 +93,8 @@ gap-refused : (at pre : ℕ) (g : Answer) (n p : ℕ) → toldSkip (cursorBehind
 gap-refused at pre (answer.Clear k) n p e = let z : _≡_ {A = ℕ} 0 1 = cc in absurd (omega arith)
 gap-refused at pre (answer.InLine k) n p e = let z : _≡_ {A = ℕ} 0 1 = cc in absurd (omega arith)
 gap-refused at pre (answer.Refused r) n p e =
-    let q = refusals (r .number) n (at + r .place) p e in
-    (r .place, ap (λ (k : ℕ). answer.Refused (refusal k (r .place))) (q .0), sym (q .1))
+    let q = refusals (placedBehind at r) (refusal n p) e in
+    (r .place, ap (λ (x : Refusal). answer.Refused (atPlace x (r .place))) q, sym (ap (λ (x : Refusal). x .place) q))
 
 clear-apart : (k : ℕ) (r : Refusal) → answer.Clear k ≡ answer.Refused r → ⊥
 clear-apart k r e = let z : _≡_ {A = ℕ} 0 1 = cc in omega arith

@@ -42,6 +42,7 @@ use Rattle.text.proofs.Utf8Agree.{Head, char-scalar, charLen-char, decode-encod
 use Rattle.text.proofs.Utf8Agree.Head.{a-char, no-char}
 use Rattle.text.specs.Classes.{continuationBlank}
 use Rattle.text.specs.Refusals.{invalidEscape, expectedByteLiteral, expectedChar}
+use Rattle.text.specs.declared.reason.EscapeReason.the-variants.{UnknownLetter}
 use Rattle.text.specs.Runs.{run}
 use Rattle.text.specs.Utf8.{charLen, codeOf}
 
@@ -108,7 +109,7 @@ cr-run : (v : List ℕ) → 1 ≤ run continuationBlank (0x0D ∷ v)
 unfolding run continuationBlank
 cr-run v = omega arith
 
-cr-escape : (m : Mode) (v : List ℕ) → escapeOf m (0x0D ∷ v) ≡ NoEscape (invalidEscape (charLen (0x0D ∷ v)))
+cr-escape : (m : Mode) (v : List ℕ) → escapeOf m (0x0D ∷ v) ≡ NoEscape (invalidEscape UnknownLetter (charLen (0x0D ∷ v)))
 unfolding escapeOf simpleOf
 cr-escape m v = refl
 

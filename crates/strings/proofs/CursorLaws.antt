@@ -30,6 +30,7 @@ use Rattle.strings.specs.declared.chars.CharAnswer.{CharAnswer}
 use Rattle.strings.specs.declared.chars.CharAnswer.the-variants.{Read as ReadChar, Refused as NoChar}
 use Rattle.text.proofs.Choices.{bool-cases, either, lt-or-le}
 use Rattle.text.specs.Refusals.{expectedByteLiteral, expectedChar, invalidEscape}
+use Rattle.text.specs.declared.reason.EscapeReason.the-variants.{UnicodeInByteLiteral}
 use Rattle.text.specs.Utf8.{charLen}
 
 -- ---- the closing quote
@@ -64,7 +65,7 @@ charEscaped s (escaped.Refused r) = NoChar r
 
 abbrev pub byteEscaped : List ℕ → Escaped → ByteAnswer
 byteEscaped s (escaped.Ascii b c) = byteEnds s (c .cursor) b
-byteEscaped s (escaped.Utf8 p c) = NoByte (invalidEscape (c .cursor))
+byteEscaped s (escaped.Utf8 p c) = NoByte (invalidEscape UnicodeInByteLiteral (c .cursor))
 byteEscaped s (escaped.Refused r) = NoByte r
 
 module _ (s : List ℕ) (c : ParserCursor) where

@@ -13,6 +13,7 @@ use Rattle.strings.specs.declared.chars.CharAnswer.the-variants.{Read as
 use Rattle.strings.specs.declared.literal.LiteralAnswer.the-variants.{Read, Refused}
 use Rattle.text.specs.Classes.{continuationBlank, within}
 use Rattle.text.specs.Refusals.{eof, expectedByteLiteral, expectedByteString, expectedChar, expectedString, expectedStringEnd, invalidEscape}
+use Rattle.text.specs.declared.reason.EscapeReason.the-variants.{NoClosingBrace, NoDigits, NotACharacter, NotByteEscaped, UnicodeInByteLiteral, UnknownLetter}
 use Rattle.text.specs.Runs.{run}
 use Rattle.text.specs.Utf8.{behindFour, behindThree, charLen, codeOf, codeOf4, encode, scalar, secondByte, widthOf}
 
@@ -27,7 +28,7 @@ unfolding stringDecoded byteStringDecoded rawContents decodedOf bodyOf bodyFrom 
 two-bytes-decoded = refl
 
 -- `'\xC3'`: 13 at 5.
-char-byte : charOf (0x27 ∷ 0x5C ∷ 0x78 ∷ 0x43 ∷ 0x33 ∷ 0x27 ∷ []) ≡ NoChar (invalidEscape 5)
+char-byte : charOf (0x27 ∷ 0x5C ∷ 0x78 ∷ 0x43 ∷ 0x33 ∷ 0x27 ∷ []) ≡ NoChar (invalidEscape NotByteEscaped 5)
 unfolding charOf charEnds byteOf byteEnds escapeOf hexEscape twoDigits secondDigit nextByte moreBytes unicodeEscape digitsOf closeOf hexOf simpleOf within charLen widthOf behindThree behindFour secondByte codeOf codeOf4 scalar
 char-byte = refl
 
@@ -37,12 +38,12 @@ unfolding stringOf byteStringOf quotedOf rawOf measured bodyOf bodyFrom pieceOf 
 unclosed-first = refl
 
 -- `"\q"`: 13 at 3.
-unknown-escape : stringOf (0x22 ∷ 0x5C ∷ 0x71 ∷ 0x22 ∷ []) ≡ Refused (invalidEscape 3)
+unknown-escape : stringOf (0x22 ∷ 0x5C ∷ 0x71 ∷ 0x22 ∷ []) ≡ Refused (invalidEscape UnknownLetter 3)
 unfolding stringOf byteStringOf quotedOf rawOf measured bodyOf bodyFrom pieceOf behindBackslash lineEnd plain unquoted rawEnd run continuationBlank escapeOf hexEscape twoDigits secondDigit nextByte moreBytes unicodeEscape digitsOf closeOf hexOf simpleOf within charLen widthOf behindThree behindFour secondByte codeOf codeOf4 scalar
 unknown-escape = refl
 
 -- `"\u{}"`: 13 at 4.
-no-digits : stringOf (0x22 ∷ 0x5C ∷ 0x75 ∷ 0x7B ∷ 0x7D ∷ 0x22 ∷ []) ≡ Refused (invalidEscape 4)
+no-digits : stringOf (0x22 ∷ 0x5C ∷ 0x75 ∷ 0x7B ∷ 0x7D ∷ 0x22 ∷ []) ≡ Refused (invalidEscape NoDigits 4)
 unfolding stringOf byteStringOf quotedOf rawOf measured bodyOf bodyFrom pieceOf behindBackslash lineEnd plain unquoted rawEnd run continuationBlank escapeOf hexEscape twoDigits secondDigit nextByte moreBytes unicodeEscape digitsOf closeOf hexOf simpleOf within charLen widthOf behindThree behindFour secondByte codeOf codeOf4 scalar
 no-digits = refl
 
@@ -57,22 +58,22 @@ unfolding stringOf byteStringOf quotedOf rawOf measured bodyOf bodyFrom pieceOf 
 empty = refl
 
 -- `"\é"`: 13 at 4, behind the character.
-wide-escape : stringOf (0x22 ∷ 0x5C ∷ 0xC3 ∷ 0xA9 ∷ 0x22 ∷ []) ≡ Refused (invalidEscape 4)
+wide-escape : stringOf (0x22 ∷ 0x5C ∷ 0xC3 ∷ 0xA9 ∷ 0x22 ∷ []) ≡ Refused (invalidEscape UnknownLetter 4)
 unfolding stringOf byteStringOf quotedOf rawOf measured bodyOf bodyFrom pieceOf behindBackslash lineEnd plain unquoted rawEnd run continuationBlank escapeOf hexEscape twoDigits secondDigit nextByte moreBytes unicodeEscape digitsOf closeOf hexOf simpleOf within charLen widthOf behindThree behindFour secondByte codeOf codeOf4 scalar
 wide-escape = refl
 
 -- `"\u{0000041}"`: 13 at 10.
-seventh-digit : stringOf (0x22 ∷ 0x5C ∷ 0x75 ∷ 0x7B ∷ 0x30 ∷ 0x30 ∷ 0x30 ∷ 0x30 ∷ 0x30 ∷ 0x34 ∷ 0x31 ∷ 0x7D ∷ 0x22 ∷ []) ≡ Refused (invalidEscape 10)
+seventh-digit : stringOf (0x22 ∷ 0x5C ∷ 0x75 ∷ 0x7B ∷ 0x30 ∷ 0x30 ∷ 0x30 ∷ 0x30 ∷ 0x30 ∷ 0x34 ∷ 0x31 ∷ 0x7D ∷ 0x22 ∷ []) ≡ Refused (invalidEscape NoClosingBrace 10)
 unfolding stringOf byteStringOf quotedOf rawOf measured bodyOf bodyFrom pieceOf behindBackslash lineEnd plain unquoted rawEnd run continuationBlank escapeOf hexEscape twoDigits secondDigit nextByte moreBytes unicodeEscape digitsOf closeOf hexOf simpleOf within charLen widthOf behindThree behindFour secondByte codeOf codeOf4 scalar
 seventh-digit = refl
 
 -- `"\u{D800}"`: 13 at 9.
-surrogate : stringOf (0x22 ∷ 0x5C ∷ 0x75 ∷ 0x7B ∷ 0x44 ∷ 0x38 ∷ 0x30 ∷ 0x30 ∷ 0x7D ∷ 0x22 ∷ []) ≡ Refused (invalidEscape 9)
+surrogate : stringOf (0x22 ∷ 0x5C ∷ 0x75 ∷ 0x7B ∷ 0x44 ∷ 0x38 ∷ 0x30 ∷ 0x30 ∷ 0x7D ∷ 0x22 ∷ []) ≡ Refused (invalidEscape NotACharacter 9)
 unfolding stringOf byteStringOf quotedOf rawOf measured bodyOf bodyFrom pieceOf behindBackslash lineEnd plain unquoted rawEnd run continuationBlank escapeOf hexEscape twoDigits secondDigit nextByte moreBytes unicodeEscape digitsOf closeOf hexOf simpleOf within charLen widthOf behindThree behindFour secondByte codeOf codeOf4 scalar
 surrogate = refl
 
 -- `"\xC3\x41"`: 13 at 9.
-second-byte-ascii : stringOf (0x22 ∷ 0x5C ∷ 0x78 ∷ 0x43 ∷ 0x33 ∷ 0x5C ∷ 0x78 ∷ 0x34 ∷ 0x31 ∷ 0x22 ∷ []) ≡ Refused (invalidEscape 9)
+second-byte-ascii : stringOf (0x22 ∷ 0x5C ∷ 0x78 ∷ 0x43 ∷ 0x33 ∷ 0x5C ∷ 0x78 ∷ 0x34 ∷ 0x31 ∷ 0x22 ∷ []) ≡ Refused (invalidEscape NotByteEscaped 9)
 unfolding stringOf byteStringOf quotedOf rawOf measured bodyOf bodyFrom pieceOf behindBackslash lineEnd plain unquoted rawEnd run continuationBlank escapeOf hexEscape twoDigits secondDigit nextByte moreBytes unicodeEscape digitsOf closeOf hexOf simpleOf within charLen widthOf behindThree behindFour secondByte codeOf codeOf4 scalar
 second-byte-ascii = refl
 
@@ -97,7 +98,7 @@ unfolding stringDecoded byteStringDecoded rawContents decodedOf bodyOf bodyFrom 
 continued-vt = refl
 
 -- `"\`, CR, `a"`: 13 at 3.
-lone-cr : stringOf (0x22 ∷ 0x5C ∷ 0x0D ∷ 0x61 ∷ 0x22 ∷ []) ≡ Refused (invalidEscape 3)
+lone-cr : stringOf (0x22 ∷ 0x5C ∷ 0x0D ∷ 0x61 ∷ 0x22 ∷ []) ≡ Refused (invalidEscape UnknownLetter 3)
 unfolding stringOf byteStringOf quotedOf rawOf measured bodyOf bodyFrom pieceOf behindBackslash lineEnd plain unquoted rawEnd run continuationBlank escapeOf hexEscape twoDigits secondDigit nextByte moreBytes unicodeEscape digitsOf closeOf hexOf simpleOf within charLen widthOf behindThree behindFour secondByte codeOf codeOf4 scalar
 lone-cr = refl
 
@@ -142,7 +143,7 @@ unfolding charOf charEnds byteOf byteEnds escapeOf hexEscape twoDigits secondDig
 byte-literal = refl
 
 -- `b'\u{41}'`: 13 at 8, behind its `}`.
-byte-unicode : byteOf (0x62 ∷ 0x27 ∷ 0x5C ∷ 0x75 ∷ 0x7B ∷ 0x34 ∷ 0x31 ∷ 0x7D ∷ 0x27 ∷ []) ≡ NoByte (invalidEscape 8)
+byte-unicode : byteOf (0x62 ∷ 0x27 ∷ 0x5C ∷ 0x75 ∷ 0x7B ∷ 0x34 ∷ 0x31 ∷ 0x7D ∷ 0x27 ∷ []) ≡ NoByte (invalidEscape UnicodeInByteLiteral 8)
 unfolding charOf charEnds byteOf byteEnds escapeOf hexEscape twoDigits secondDigit nextByte moreBytes unicodeEscape digitsOf closeOf hexOf simpleOf within charLen widthOf behindThree behindFour secondByte codeOf codeOf4 scalar
 byte-unicode = refl
 

@@ -6,6 +6,7 @@ use mathlib.Core.Bool.{cond, _&&_}
 use lib.ListN.{length, getD, drop}
 use lib.Dec.{eqb, ltb}
 use Rattle.text.specs.Refusals.{placedBehind, eof, invalidEscape, expectedChar, expectedByteLiteral}
+use Rattle.text.specs.declared.reason.EscapeReason.the-variants.{UnicodeInByteLiteral}
 use Rattle.text.specs.Utf8.{charLen, codeOf}
 use Rattle.escapes.specs.declared.answers.Mode.the-variants.{Char, Bytes}
 use Rattle.escapes.specs.declared.answers.EscapeAnswer.{EscapeAnswer}
@@ -42,7 +43,7 @@ byteEnds s at byte = cond (eqb (getD s at 0) 0x27) (ReadByte (at + 1) byte) (NoB
 -- An escape behind `b'\`.
 abbrev pub byByteEscape : List ℕ → EscapeAnswer → ByteAnswer
 byByteEscape s (Ascii b n) = byteEnds s (3 + n) b
-byByteEscape s (Utf8 c n) = NoByte (invalidEscape (3 + n))
+byByteEscape s (Utf8 c n) = NoByte (invalidEscape UnicodeInByteLiteral (3 + n))
 byByteEscape s (Refused r) = NoByte (placedBehind 3 r)
 
 -- The byte literal at the front of s.

@@ -6,6 +6,7 @@ use cursor::Next;
 use cursor::ParserCursor;
 use cursor::Step;
 use escapes::Mode;
+use escapes::in_byte_literal;
 use text::Refusal;
 use text::bytes::peek;
 use text::utf8::char_len;
@@ -107,7 +108,7 @@ fn escaped_byte(s: &[u8], cursor: ParserCursor) -> ByteAnswer
     let escaped = cursor.parse_escape(s, Mode::Bytes);
     match escaped {
         Escaped::Ascii(b, behind) => byte_ends(s, behind, b),
-        Escaped::Utf8(_, behind) => ByteAnswer::Refused(Refusal::invalid_escape(behind.cursor)),
+        Escaped::Utf8(_, behind) => ByteAnswer::Refused(in_byte_literal(behind.cursor)),
         Escaped::Refused(refusal) => ByteAnswer::Refused(refusal),
     }
 }

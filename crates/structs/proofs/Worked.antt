@@ -5,6 +5,7 @@ use Rattle.text.specs.Classes.{asciiFirst, asciiNext, asciiRaw, blank1, blank2,
 use Rattle.xid.specs.Table.{table}
 use Rattle.xid.specs.Xid.{inRows, xidContinue, xidStart}
 use Rattle.text.specs.Refusals.{eof, expectedStringEnd, invalidEscape}
+use Rattle.text.specs.declared.reason.EscapeReason.the-variants.{UnknownLetter}
 use Rattle.text.specs.Runs.{run}
 use Rattle.text.specs.Utf8.{behindFour, behindThree, charLen, codeOf, codeOf4, scalar, secondByte, widthOf}
 use Rattle.text.specs.Words.{startsWith}
@@ -104,7 +105,7 @@ unfolding structTypeOf parenthesized insideNewtype unlessEmpty insideBrackets af
 quote = refl
 
 -- `("\q")`: 13 at 4, since a malformed string ends the scan.
-pub bad-escape : structTypeOf (0x28 ∷ 0x22 ∷ 0x5C ∷ 0x71 ∷ 0x22 ∷ 0x29 ∷ []) NoParensMeanUnit DifferentiateNewtype ≡ Refused (invalidEscape 4)
+pub bad-escape : structTypeOf (0x28 ∷ 0x22 ∷ 0x5C ∷ 0x71 ∷ 0x22 ∷ 0x29 ∷ []) NoParensMeanUnit DifferentiateNewtype ≡ Refused (invalidEscape UnknownLetter 4)
 unfolding structTypeOf parenthesized insideNewtype unlessEmpty insideBrackets afterName decided scanOf scanFrom stepOf pastSpurious markedBy afterComma pastGap pastChar pastString pastByteString gapOf gapFrom itemOf commentOf behindSlash lineEnd lineFrom blockEnd blockFrom markOf blankWidth blank1 blank2 blank3 within skipIdentifierOf nameRaw plainOf nameLen charIf chars charsFrom asciiFirst asciiNext asciiRaw identFirst identNext identRaw letter digit beginsString beginsRaw startsWith charOf charEnds stringOf byteStringOf quotedOf rawOf measured bodyOf bodyFrom pieceOf behindBackslash continued plain unquoted rawEnd run continuationBlank escapeOf hexEscape twoDigits secondDigit nextByte moreBytes unicodeEscape digitsOf closeOf hexOf simpleOf charLen widthOf behindThree behindFour secondByte codeOf codeOf4 scalar
 bad-escape = refl
 

@@ -2,10 +2,21 @@
 use libc::STDIN_FILENO;
 use lines::input;
 use lines::out;
+use sarridok::ReadAnswer;
 ghost use mathlib.Core.Path.{_≡_};
 ghost use Rattle.lines.specs.Out.{put};
-ghost use Rattle.read.specs.Read.{readTape};
-ghost use Rattle.tape.specs.Printed.{printedText};
+ghost use Rattle.read.specs.Read.{readTape, toldRead};
+ghost use Rattle.tape.specs.Printed.{saidText, printedText};
+
+// What the read answered, over the tape that it left.
+fn said(r: ReadAnswer, tape: &[u32], o: &mut [u8]) -> usize
+    ensures { λ p. ⌜ (now (o .exit), p) ≡ put (now (o .entry), 0) (saidText (now (tape .entry)) (toldRead r)) ⌝ }
+{
+    match r {
+        ReadAnswer::Accepted(n) => show::reading::accepted(o, 0, n, tape, b'\n'),
+        ReadAnswer::Refused(f) => show::placed(o, 0, f),
+    }
+}
 
 // The answer to a text, from the front of the output on: where it ends there.
 fn answer(text: &[u8], tape: &mut [u32], o: &mut [u8]) -> usize
@@ -13,7 +24,7 @@ fn answer(text: &[u8], tape: &mut [u32], o: &mut [u8]) -> usize
         × (now (tape .exit) ≡ readTape (now (text .entry)) (now (tape .entry))) ⌝ }
 {
     let r = sarridok::read(text, tape);
-    let a = show::reading::read(o, 0, r, &tape[..], b'\n');
+    let a = said(r, &tape[..], o);
     out::byte(o, a, b'\n')
 }
 

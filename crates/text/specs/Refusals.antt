@@ -1,5 +1,9 @@
 -- The refusals of document 01, "Refusal numbers": "What is unfit gets a numbered refusal with a place." A place inside a part is counted from its front.
+-- CR 1: "The escape reader answers a reason, 1 to 8 in that order .. a refusal now includes its reason, 0 for every other number."
 use Prim.Native.Nat.{ℕ, _+_}
+use Rattle.text.specs.declared.reason.EscapeReason.{EscapeReason}
+use Rattle.text.specs.declared.reason.EscapeReason.the-variants.{DigitNotHex, UnknownLetter, NotByteEscaped, MissingOpenBrace}
+use Rattle.text.specs.declared.reason.EscapeReason.the-variants.{NoDigits, NoClosingBrace, NotACharacter, UnicodeInByteLiteral}
 use Rattle.text.specs.declared.refusal.Refusal.{Refusal}
 
 -- What a call answers, as the paper has it: a value, or a refusal.
@@ -7,13 +11,28 @@ pub data Told (A : Type 0) : Type 0 where
   accepted : A → Told A
   refused : Refusal → Told A
 
--- A number of the table, and a place.
+-- The number of a reason, in the order of CR 1.
+abbrev pub reasonOf : EscapeReason → ℕ
+reasonOf DigitNotHex = 1
+reasonOf UnknownLetter = 2
+reasonOf NotByteEscaped = 3
+reasonOf MissingOpenBrace = 4
+reasonOf NoDigits = 5
+reasonOf NoClosingBrace = 6
+reasonOf NotACharacter = 7
+reasonOf UnicodeInByteLiteral = 8
+
+-- A number of the table, and a place; the reason is 0.
 abbrev pub refusal : ℕ → ℕ → Refusal
-refusal n p = record { number = n; place = p }
+refusal n p = record { number = n; reason = 0; place = p }
+
+-- The same refusal at another place.
+abbrev pub atPlace : Refusal → ℕ → Refusal
+atPlace r p = record { number = r .number; reason = r .reason; place = p }
 
 -- The same refusal seen from `by` bytes further in front.
 abbrev pub placedBehind : ℕ → Refusal → Refusal
-placedBehind by r = refusal (r .number) (by + r .place)
+placedBehind by r = atPlace r (by + r .place)
 
 -- 1: text over 65,536 bytes.
 abbrev pub tooLong : Refusal
@@ -61,9 +80,9 @@ expectedFloat p = refusal 11 p
 abbrev pub floatUnderscore : ℕ → Refusal
 floatUnderscore p = refusal 12 p
 
--- 13: invalid escape.
-abbrev pub invalidEscape : ℕ → Refusal
-invalidEscape p = refusal 13 p
+-- 13: invalid escape, with its reason.
+abbrev pub invalidEscape : EscapeReason → ℕ → Refusal
+invalidEscape why p = record { number = 13; reason = reasonOf why; place = p }
 
 -- 14: char expected.
 abbrev pub expectedChar : ℕ → Refusal

@@ -1,4 +1,5 @@
 // The refusals of the paper, each made here and nowhere else: a name for every number, after the crate's errors where it has one. 3 is no longer given (CR 5).
+use crate::reason::EscapeReason;
 ghost use mathlib.Core.Path.{_≡_};
 ghost use Prim.Native.Nat.{_+_, _^_, _<_};
 ghost use Rattle.text.specs.Refusals.{refusal, placedBehind, tooLong, notUtf8, unclosedBlockComment, unexpectedChar, eof, expectedInteger};
@@ -7,16 +8,21 @@ ghost use Rattle.text.specs.Refusals.{invalidEscape, expectedChar, expec
 ghost use Rattle.text.specs.Refusals.{expectedAttribute, expectedAttributeEnd, noSuchExtension, noRoom, notInOrder, depthLimitPassed};
 ghost use Rattle.text.specs.Refusals.{notAllowedHere, tapeEndsEarly, otherKind, unfit, holdsEscape};
 
-// A refused call's number and place; inside a part of the text the place is counted from the part's front.
+// A refused call's number, reason and place; inside a part of the text the place is counted from the part's front. The reason is that of an escape, else 0.
 pub struct Refusal {
     pub number: u8,
+    pub reason: u8,
     pub place: usize,
 }
 
 fn at(number: u8, place: usize) -> Refusal
     ensures { λ r. ⌜ r ≡ refusal number place ⌝ }
 {
-    Refusal { number, place }
+    Refusal {
+        number,
+        reason: 0,
+        place,
+    }
 }
 
 // The same refusal, seen from `by` bytes further in front. No method: a host, to whom the type is handed out, has no call with a `requires`.
@@ -24,7 +30,11 @@ pub fn placed_behind(refused: Refusal, by: usize) -> Refusal
     requires { ⌜ by + refused .place < 2 ^ 64 ⌝ }
     ensures { λ r. ⌜ r ≡ placedBehind by refused ⌝ }
 {
-    at(refused.number, by + refused.place)
+    Refusal {
+        number: refused.number,
+        reason: refused.reason,
+        place: by + refused.place,
+    }
 }
 
 impl Refusal {
@@ -161,11 +171,15 @@ impl Refusal {
         at(Self::FLOAT_UNDERSCORE, place)
     }
 
-    // 13: invalid escape.
-    pub fn invalid_escape(place: usize) -> Refusal
-        ensures { λ r. ⌜ r ≡ invalidEscape place ⌝ }
+    // 13: invalid escape, with its reason.
+    pub fn invalid_escape(why: EscapeReason, place: usize) -> Refusal
+        ensures { λ r. ⌜ r ≡ invalidEscape why place ⌝ }
     {
-        at(Self::INVALID_ESCAPE, place)
+        Refusal {
+            number: Self::INVALID_ESCAPE,
+            reason: why.number(),
+            place,
+        }
     }
 
     // 14: char expected.

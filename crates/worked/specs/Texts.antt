@@ -4,7 +4,8 @@ use mathlib.Core.Bool.{true, false}
 use mathlib.Core.List.{List, [], _∷_}
 use mathlib.Core.Path.{_≡_}
 use lib.ListN.{length}
-use Rattle.text.specs.Refusals.{Told, accepted, refused, refusal}
+use Rattle.text.specs.Refusals.{Told, accepted, refused, refusal, invalidEscape}
+use Rattle.text.specs.declared.reason.EscapeReason.the-variants.{NotByteEscaped}
 use Rattle.integers.specs.declared.width.Width.{Width}
 use Rattle.integers.specs.declared.width.Width.the-variants.{I8, U8}
 use Rattle.read.specs.Read.{readAnswer, readTape}
@@ -59,7 +60,7 @@ texts =
     (accepted 6)
     (9 ∷ 0 ∷ 4 ∷ 0 ∷ 1 ∷ 4 ∷ 5 ∷ 0 ∷ 9 ∷ 5 ∷ 7 ∷ 0 ∷ 8 ∷ 7 ∷ 8 ∷ 0 ∷ 11 ∷ 9 ∷ 10 ∷ 5 ∷ 2 ∷ 10 ∷ 11 ∷ 0 ∷ 77 ∷ [])
     ∷ reads (0x33 ∷ 0x30 ∷ 0x30 ∷ 0x61 ∷ []) (0 ∷ 0 ∷ 0 ∷ 0 ∷ 0 ∷ 0 ∷ 0 ∷ 0 ∷ 77 ∷ []) (accepted 2) (12 ∷ 0 ∷ 3 ∷ 0 ∷ 9 ∷ 3 ∷ 4 ∷ 0 ∷ 77 ∷ [])
-    ∷ reads (0x27 ∷ 0x5c ∷ 0x78 ∷ 0x43 ∷ 0x33 ∷ 0x27 ∷ []) (77 ∷ []) (refused (refusal 13 5)) (77 ∷ [])
+    ∷ reads (0x27 ∷ 0x5c ∷ 0x78 ∷ 0x43 ∷ 0x33 ∷ 0x27 ∷ []) (77 ∷ []) (refused (invalidEscape NotByteEscaped 5)) (77 ∷ [])
     ∷ reads (0x22 ∷ 0x5c ∷ 0x71 ∷ []) (77 ∷ []) (refused (refusal 17 1)) (77 ∷ [])
     ∷ reads (0x2f ∷ 0x2a ∷ 0x2f ∷ 0x2a ∷ 0x2f ∷ []) (77 ∷ []) (refused (refusal 4 5)) (77 ∷ [])
     ∷ types (0x32 ∷ 0x35 ∷ 0x35 ∷ []) U8 (value 255 3)

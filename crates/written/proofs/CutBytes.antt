@@ -57,7 +57,7 @@ Open left v t = ((w : ℕ) × Hex v t w) × (length t < left)
 
 close : (C : Type 0) (end : ℕ) (empty : Bool) (v at : ℕ) (t : List ℕ) → Says C end (closeOf empty v at t)
 unfolding closeOf
-close C end empty v at [] = inr refl
+close C end empty v at [] = cond-cases (Says C end) empty _ _ (λ p. inr refl) (λ p. inr refl)
 close C end empty v at (b ∷ t) =
     cond-cases (Says C end) empty _ _ (λ p. inr refl) λ p.
     cond-cases (Says C end) (eqb b 0x7D) _ _ (λ q. cond-cases (Says C end) (scalar v) _ _ (λ r. tt) (λ r. inr refl)) (λ q. inr refl)

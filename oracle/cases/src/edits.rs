@@ -1,7 +1,7 @@
 //! Edits as they are made by hand: one run of a text's bytes, replaced by others.
 use crate::documents::Draft;
 use crate::random::Random;
-use crate::{alphabet, damage, laid, limits};
+use crate::{alphabet, damage, laid, limits, strings};
 
 /// A text, a cut in it, and what is put there.
 pub struct Edit {
@@ -106,11 +106,13 @@ pub fn of_short_text(r: &mut Random, number: u64) -> Edit {
     Edit { text, from, to, put }
 }
 
-/// An edit of this text; one in sixteen may part characters, one in eight is at a character above U+007F.
+/// An edit of this text; one in sixteen may part characters, one in eight is at a character above U+007F,
+/// one in 32 puts an escape behind a quote.
 pub fn of_text(r: &mut Random, text: Vec<u8>) -> Edit {
     let special = match r.below(16) {
         0 => inside_characters(r, &text),
         1 | 2 => at_wide_character(r, &text),
+        3 if r.once_in(2) => at_quote(r, &text),
         _ => None,
     };
     if let Some((from, to, put)) = special {
@@ -251,4 +253,17 @@ fn at_wide_character(r: &mut Random, text: &[u8]) -> Option<(usize, usize, Vec<u
 /// The second byte of the next character that has one.
 fn next_inside(text: &[u8], place: usize) -> Option<usize> {
     (place.max(1)..text.len()).find(|at| is_inside(text, *at) && !is_inside(text, at - 1))
+}
+
+/// An escape behind the next quote, mostly in the place of what stood there up to the closing one.
+fn at_quote(r: &mut Random, text: &[u8]) -> Option<(usize, usize, Vec<u8>)> {
+    let quote = |place: usize| (place..text.len()).find(|at| b"\"'".contains(&text[*at]));
+    let from = quote(r.below(text.len() + 1))? + 1;
+    let to = match quote(from) {
+        Some(to) if !r.once_in(4) => to,
+        _ => from,
+    };
+    let mut put = Vec::new();
+    strings::escape(r, &mut put);
+    Some((from, to, put))
 }

@@ -5,6 +5,7 @@ pub mod damage;
 pub mod documents;
 pub mod edits;
 pub mod entries;
+pub mod escapes;
 pub mod every;
 pub mod gaps;
 pub mod generator;

@@ -1,4 +1,5 @@
 //! Strings, byte strings, chars and byte literals.
+use crate::escapes;
 use crate::random::Random;
 
 const PLAIN: &[&str] = &[
@@ -53,11 +54,28 @@ fn escaped(r: &mut Random, text: &mut Vec<u8>, escapes: &[&str]) {
     for _ in 0..r.below(5) {
         match r.below(16) {
             0..=7 => text.extend_from_slice(r.pick(PLAIN).as_bytes()),
-            8 if r.once_in(2) => text.extend_from_slice(r.pick(WRONG).as_bytes()),
+            8 if r.once_in(2) => wrong(r, text),
             _ => text.extend_from_slice(r.pick(escapes).as_bytes()),
         }
     }
     end(r, text, b"\"");
+}
+
+/// What is no escape, or by chance one.
+fn wrong(r: &mut Random, text: &mut Vec<u8>) {
+    match r.below(2) {
+        0 => escapes::any(r, text),
+        _ => text.extend_from_slice(r.pick(WRONG).as_bytes()),
+    }
+}
+
+/// What may stand behind a quote: mostly what is no escape.
+pub fn escape(r: &mut Random, text: &mut Vec<u8>) {
+    match r.below(4) {
+        0 => text.extend_from_slice(r.pick(ESCAPES).as_bytes()),
+        1 => text.extend_from_slice(r.pick(BYTE_ESCAPES).as_bytes()),
+        _ => wrong(r, text),
+    }
 }
 
 fn raw(r: &mut Random, text: &mut Vec<u8>) {
@@ -85,7 +103,7 @@ fn end(r: &mut Random, text: &mut Vec<u8>, closing: &[u8]) {
 fn char(r: &mut Random, text: &mut Vec<u8>) {
     text.push(b'\'');
     match r.below(8) {
-        0 => text.extend_from_slice(r.pick(WRONG).as_bytes()),
+        0 => wrong(r, text),
         1 | 2 | 3 => text.extend_from_slice(r.pick(ESCAPES).as_bytes()),
         4 => text.extend_from_slice(r.pick(&["'", "\"", "\\", "", "ab", ",", ")"]).as_bytes()),
         _ => text.extend_from_slice(r.pick(PLAIN).as_bytes()),
@@ -97,7 +115,7 @@ fn char(r: &mut Random, text: &mut Vec<u8>) {
 pub fn byte_literal(r: &mut Random, text: &mut Vec<u8>) {
     text.extend_from_slice(b"b'");
     match r.below(8) {
-        0 => text.extend_from_slice(r.pick(WRONG).as_bytes()),
+        0 => wrong(r, text),
         1 | 2 | 3 => text.extend_from_slice(r.pick(BYTE_ESCAPES).as_bytes()),
         4 => text.extend_from_slice(r.pick(ESCAPES).as_bytes()),
         5 => text.extend_from_slice(r.pick(&["'", "\"", "\\", "", "ab", "é"]).as_bytes()),

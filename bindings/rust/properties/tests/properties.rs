@@ -48,17 +48,22 @@ fn any_tape() {
         let (count, entry) = (count.of(rows), entry.of(rows));
         let _ = checked_walk(tape, count, limit.of(MAX_DEPTH), rows);
         let mut out = [0xEE; 8];
-        if decoded(text, tape, count, entry, &mut out).is_err() {
+        if let Err(refused) = decoded(text, tape, count, entry, &mut out) {
+            is_refusal(refused, text);
             assert_eq!(out, [0xEE; 8]);
         }
-        let _ = contents(text, tape, count, entry);
+        if let Err(refused) = contents(text, tape, count, entry) {
+            is_refusal(refused, text);
+        }
         let mut lent = tape.clone();
         let document = Document::from_parts(text, &mut lent, count);
         assert!(document.entries().count() <= count);
         for (number, entry) in document.entries().enumerate() {
             assert_eq!(document.entry(number), Some(entry));
         }
-        let _ = document.integer(entry);
+        if let Err(refused) = document.integer(entry) {
+            is_refusal(refused, text);
+        }
     }
     holds(4000, property as fn(Tape, Good, Near, Near, Near));
 }
@@ -69,7 +74,8 @@ fn any_tape_and_cut_in_a_repair() {
         let (rows, most) = (tape.0.len() / ENTRY, text.0.len());
         let mut repaired = tape.0.clone();
         let cut = start.of(most)..end.of(most);
-        if repair(&mut repaired, count.of(rows), len.of(most), cut, text.0).is_err() {
+        if let Err(refused) = repair(&mut repaired, count.of(rows), len.of(most), cut, text.0) {
+            is_refusal(refused, text.0);
             assert_eq!(repaired, tape.0);
         }
     }
@@ -85,6 +91,34 @@ fn repairs_are_fresh_readings() {
     }
     holds(4000, property as fn(Good, Cut, Piece));
     assert!(400 < ACCEPTED.load(Ordering::Relaxed), "hardly a repair was accepted");
+}
+
+/// What is refused has a reason exactly where an escape is not valid, the text is there as the reason says, and every call gives the same; each reason is met.
+#[test]
+fn reasons_of_escapes() {
+    static MET: AtomicU64 = AtomicU64::new(0);
+    fn property(literal: Literal) {
+        let text = literal.0.as_bytes();
+        let refused = checked_read(text).err();
+        if let Some(reason) = refused.and_then(|refused| refused.reason) {
+            MET.fetch_or(1 << reason.number(), Ordering::Relaxed);
+        }
+        let entry = |kind: Kind| [kind.number(), 0, text.len() as u32, 0];
+        let own = [
+            contents(text, &entry(Kind::String), 1, 0).err(),
+            contents(text, &entry(Kind::ByteString), 1, 0).err(),
+            integer(text, 0, Width::U8).err(),
+        ];
+        for of_call in own.into_iter().flatten().filter(|own| own.reason.is_some()) {
+            is_refusal(of_call, text);
+            assert_eq!(Some(of_call), refused);
+        }
+    }
+    holds(4000, property as fn(Literal));
+    let met = MET.load(Ordering::Relaxed);
+    for reason in EscapeReason::ALL {
+        assert!(met >> reason.number() & 1 == 1, "never met: {reason}");
+    }
 }
 
 /// An integer written by Rust is read in a width exactly where it fits the type of that width, else refused at its end.

@@ -26,6 +26,43 @@ pub fn marked(text: &[u8]) -> Vec<u32> {
 pub fn is_refusal(refused: Refused, text: &[u8]) {
     assert!(Refusal::ALL.contains(&refused.refusal), "{refused}");
     assert!(refused.place <= text.len(), "{refused}");
+    has_its_reason(refused);
+    if let Some(reason) = refused.reason {
+        let text = std::str::from_utf8(text).expect("else it is refused for that");
+        let (before, behind) = text.split_at(refused.place);
+        assert!(stands_there(reason, before, behind), "{refused}: {text:?}");
+    }
+}
+
+/// An escape that is not valid has a reason, and nothing else has one.
+pub fn has_its_reason(refused: Refused) {
+    assert_eq!(refused.reason.is_some(), refused.refusal == Refusal::InvalidEscape, "{refused}");
+}
+
+/// Whether the text before and behind a reason's place is what the reason says.
+fn stands_there(reason: EscapeReason, before: &str, behind: &str) -> bool {
+    let is_hex = |c: char| c.is_ascii_hexdigit();
+    let digits = |mark: &str, n: usize| matches!(before.rsplit_once(mark), Some((_, d)) if d.len() == n && d.chars().all(is_hex));
+    let unicode = before.strip_suffix('}').and_then(|text| text.rsplit_once("\\u{"));
+    let value = unicode.and_then(|(_, digits)| u32::from_str_radix(digits, 16).ok());
+    let mut front = before.chars();
+    let last = front.next_back();
+    match reason {
+        EscapeReason::DigitNotHex => {
+            let front = front.as_str().trim_end_matches(is_hex);
+            !last.map_or(true, is_hex) && (front.ends_with("\\x") || front.ends_with("\\u{"))
+        }
+        EscapeReason::UnknownLetter => front.as_str().ends_with('\\') && !last.map_or(true, |c| "'\"\\nrt0xu".contains(c)),
+        EscapeReason::NotByteEscaped => digits("\\x", 2),
+        EscapeReason::MissingOpenBrace => before.ends_with("\\u") && !behind.starts_with('{'),
+        EscapeReason::NoDigits => digits("\\u{", 0) && behind.starts_with('}'),
+        EscapeReason::NoClosingBrace => digits("\\u{", 6) && !behind.starts_with('}'),
+        EscapeReason::NotACharacter => value.map_or(false, |value| char::from_u32(value).is_none()),
+        EscapeReason::UnicodeInByteLiteral => {
+            unicode.map_or(false, |(front, _)| front.ends_with("b'")) && value.and_then(char::from_u32).is_some()
+        }
+        _ => false,
+    }
 }
 
 /// Reads, and asks what holds of every read.
@@ -69,6 +106,7 @@ pub fn checked_walk(tape: &[u32], count: usize, limit: usize, room: usize) -> Re
         }
         Err(refused) => {
             assert!((22..=28).contains(&refused.number()), "{refused}");
+            has_its_reason(refused);
             assert!(links.iter().all(|n| *n == MARK));
             Err(refused)
         }

@@ -9,6 +9,7 @@ use Rattle.escapes.proofs.parse_escape.Statement.{statement}
 use Rattle.escapes.specs.declared.answers.EscapeAnswer.the-variants.{Ascii, Refused}
 use Rattle.text.proofs.Lists.{tail-part}
 use Rattle.text.specs.Refusals.{invalidEscape}
+use Rattle.text.specs.declared.reason.EscapeReason.the-variants.{UnknownLetter}
 use Rattle.escapes.proofs.parse_escape.Tie as tie
 
 ended-requires : tie.Need-ended-requires
@@ -69,7 +70,7 @@ invalid-requires : tie.Need-invalid-requires
 invalid-requires c κs = search needs
 
 returns-5 : tie.Need-returns-5
-returns-5 c = c .invalid .ensures ∙ ap (λ (k : ℕ). Refused (invalidEscape k)) (c .before .char-len .ensures) ∙ sym (escape-at (c .before .before .before .before .before .before .before .before .before .before .args .m) (c .before .before .before .before .before .before .before .before .before .before .args .s .now) (omega arith) ∙ simp (no-letter (getD (c .before .before .before .before .before .before .before .before .before .before .args .s .now) 0 0) (sym (c .before .before .before .before .before .before .simple .ensures) ∙ c .before .before .before .before .enum-told .given .1), ne-eqb (getD (c .before .before .before .before .before .before .before .before .before .before .args .s .now) 0 0) 0x78 (c .before .before .before .if2 .left), ne-eqb (getD (c .before .before .before .before .before .before .before .before .before .before .args .s .now) 0 0) 0x75 (c .before .before .if3 .left)))
+returns-5 c = c .invalid .ensures ∙ ap (λ (k : ℕ). Refused (invalidEscape UnknownLetter k)) (c .before .char-len .ensures) ∙ sym (escape-at (c .before .before .before .before .before .before .before .before .before .before .args .m) (c .before .before .before .before .before .before .before .before .before .before .args .s .now) (omega arith) ∙ simp (no-letter (getD (c .before .before .before .before .before .before .before .before .before .before .args .s .now) 0 0) (sym (c .before .before .before .before .before .before .simple .ensures) ∙ c .before .before .before .before .enum-told .given .1), ne-eqb (getD (c .before .before .before .before .before .before .before .before .before .before .args .s .now) 0 0) 0x78 (c .before .before .before .if2 .left), ne-eqb (getD (c .before .before .before .before .before .before .before .before .before .before .args .s .now) 0 0) 0x75 (c .before .before .if3 .left)))
 
 pub parse-escape-spec : {M : Type 1} → statement M
 parse-escape-spec =

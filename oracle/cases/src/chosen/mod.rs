@@ -3,6 +3,7 @@ mod contents;
 mod integers;
 mod names;
 mod read;
+mod reasons;
 mod repair;
 mod skip;
 mod structs;
@@ -46,5 +47,6 @@ pub fn lines(call: u8) -> Lines {
         _ => {}
     }
     names::lines(&mut lines, call);
+    reasons::lines(&mut lines, call);
     lines
 }

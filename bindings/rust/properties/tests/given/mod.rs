@@ -10,6 +10,10 @@ const PIECES: &[&str] = &[
     "]", "é", " lock ", "0x", "_", ".", "e", "-", "+", "u8", "inf", "\\u{", "\\x4", "\u{85}", "\u{301}",
 ];
 
+/// What an escape begins with, and what may follow it there.
+const BEGUN: &[&str] = &["", "\\", "\\x", "\\u", "\\u{"];
+const ENDED: &[&str] = &["", "n", "q", "é", "4", "41", "C3", "g", "{", "}", "41}", "D800}", "123456"];
+
 fn below(g: &mut Gen, n: usize) -> usize {
     usize::arbitrary(g) % n
 }
@@ -39,6 +43,22 @@ impl Arbitrary for Piece {
 
     fn shrink(&self) -> Box<dyn Iterator<Item = Piece>> {
         Box::new(self.0.shrink().map(Piece))
+    }
+}
+
+/// A literal, closed as it began, in which escapes are nearly good.
+#[derive(Clone, Debug)]
+pub struct Literal(pub String);
+
+impl Arbitrary for Literal {
+    fn arbitrary(g: &mut Gen) -> Literal {
+        let quote = if bool::arbitrary(g) { "'" } else { "\"" };
+        let mut text = if bool::arbitrary(g) { "b" } else { "" }.to_string() + quote;
+        for _ in 0..=below(g, 3) {
+            text += g.choose(BEGUN).expect("there are some");
+            text += g.choose(ENDED).expect("there are some");
+        }
+        Literal(text + quote)
     }
 }
 

@@ -12,6 +12,7 @@ use Rattle.escapes.specs.declared.answers.EscapeAnswer.the-variants.{Ref
 use Rattle.text.proofs.Lists.{tail-part}
 use Rattle.text.proofs.Utf8Agree.{charLen-le}
 use Rattle.text.specs.Refusals.{invalidEscape}
+use Rattle.text.specs.declared.reason.EscapeReason.the-variants.{DigitNotHex}
 use Rattle.escapes.proofs.digits.decode_ascii_escape.Tie as tie
 
 ended-requires : tie.Need-ended-requires
@@ -42,7 +43,7 @@ invalid-requires : tie.Need-invalid-requires
 invalid-requires c κs = search needs
 
 returns-2 : tie.Need-returns-2
-returns-2 c = c .invalid .ensures ∙ ap (λ (k : ℕ). Refused (invalidEscape (c .before .before .before .before .before .before .before .before .args .at + k))) (c .before .char-len .ensures) ∙ sym (two-at (c .before .before .before .before .before .before .before .before .args .at) (c .before .before .before .before .before .before .before .before .args .t .now) (omega arith) ∙ simp (eq-eqb (hexOf (getD (c .before .before .before .before .before .before .before .before .args .t .now) 0 0)) 16 (no-digit (getD (c .before .before .before .before .before .before .before .before .args .t .now) 0 0) (sym (c .before .before .before .before .decode-hex .ensures) ∙ c .before .before .enum-told .given .1))))
+returns-2 c = c .invalid .ensures ∙ ap (λ (k : ℕ). Refused (invalidEscape DigitNotHex (c .before .before .before .before .before .before .before .before .args .at + k))) (c .before .char-len .ensures) ∙ sym (two-at (c .before .before .before .before .before .before .before .before .args .at) (c .before .before .before .before .before .before .before .before .args .t .now) (omega arith) ∙ simp (eq-eqb (hexOf (getD (c .before .before .before .before .before .before .before .before .args .t .now) 0 0)) 16 (no-digit (getD (c .before .before .before .before .before .before .before .before .args .t .now) 0 0) (sym (c .before .before .before .before .decode-hex .ensures) ∙ c .before .before .enum-told .given .1))))
 
 sub-second-digit : tie.Need-sub-second-digit
 sub-second-digit c = search needs

@@ -11,6 +11,7 @@ use Rattle.escapes.specs.Escapes.{hexOf}
 use Rattle.escapes.specs.declared.answers.EscapeAnswer.the-variants.{Ascii, Refused}
 use Rattle.text.proofs.Utf8Agree.{charLen-le}
 use Rattle.text.specs.Refusals.{invalidEscape}
+use Rattle.text.specs.declared.reason.EscapeReason.the-variants.{DigitNotHex}
 use Rattle.escapes.proofs.digits.second_digit.Tie as tie
 
 ended-requires : tie.Need-ended-requires
@@ -41,13 +42,13 @@ invalid-requires : tie.Need-invalid-requires
 invalid-requires c κs = search needs
 
 returns-2 : tie.Need-returns-2
-returns-2 c = c .invalid .ensures ∙ ap (λ (k : ℕ). Refused (invalidEscape (c .before .before .before .before .before .before .before .before .args .at + k))) (c .before .char-len .ensures) ∙ sym (second-at (c .before .before .before .before .before .before .before .before .args .h) (c .before .before .before .before .before .before .before .before .args .at) (c .before .before .before .before .before .before .before .before .args .t .now) (omega arith) ∙ simp (eq-eqb (hexOf (getD (c .before .before .before .before .before .before .before .before .args .t .now) 0 0)) 16 (no-digit (getD (c .before .before .before .before .before .before .before .before .args .t .now) 0 0) (sym (c .before .before .before .before .decode-hex .ensures) ∙ c .before .before .enum-told .given .1))))
+returns-2 c = c .invalid .ensures ∙ ap (λ (k : ℕ). Refused (invalidEscape DigitNotHex (c .before .before .before .before .before .before .before .before .args .at + k))) (c .before .char-len .ensures) ∙ sym (second-at (c .before .before .before .before .before .before .before .before .args .h) (c .before .before .before .before .before .before .before .before .args .at) (c .before .before .before .before .before .before .before .before .args .t .now) (omega arith) ∙ simp (eq-eqb (hexOf (getD (c .before .before .before .before .before .before .before .before .args .t .now) 0 0)) 16 (no-digit (getD (c .before .before .before .before .before .before .before .before .args .t .now) 0 0) (sym (c .before .before .before .before .decode-hex .ensures) ∙ c .before .before .enum-told .given .1))))
 
 mul-t9 : tie.Need-mul-t9
 mul-t9 c = search needs
 
-add-t12 : tie.Need-add-t12
-add-t12 c = omega (arith, digit-lt (getD (c .before .before .before .before .before .before .before .args .t .now) 0 0) _ (sym (c .before .before .before .decode-hex .ensures) ∙ c .before .digit .given .1))
+add-t13 : tie.Need-add-t13
+add-t13 c = omega (arith, digit-lt (getD (c .before .before .before .before .before .before .before .args .t .now) 0 0) _ (sym (c .before .before .before .decode-hex .ensures) ∙ c .before .digit .given .1))
 
 add-t6 : tie.Need-add-t6
 add-t6 c = search needs
@@ -70,6 +71,6 @@ second-digit-spec =
     invalid-requires
     returns-2
     mul-t9
-    add-t12
+    add-t13
     add-t6
     returns-3)

@@ -32,8 +32,8 @@ invalid-requires c κs = search needs
 enum-told-3 : tie.Need-enum-told-3
 enum-told-3 c = search needs
 
-cast-t15 : tie.Need-cast-t15
-cast-t15 c = search needs
+cast-t16 : tie.Need-cast-t16
+cast-t16 c = search needs
 
 returns-2 : tie.Need-returns-2
 returns-2 c = sym (hex-byte (c .before .before .before .before .before .before .before .before .args .m) (c .before .before .before .before .before .before .before .before .args .at) (c .before .before .before .before .before .before .before .before .args .t .now) (c .before .before .before .before .b .given .0 .0) (c .before .before .before .before .b .given .0 .1 .0) (sym (c .before .before .before .before .b .given .1) ∙ c .before .before .before .before .before .before .decode-ascii-escape .ensures) ∙ rw (c .before .enum-told3 .given .1) (simp (lt-ltb (c .before .before .before .before .b .given .0 .0) 0x80 (c .if2 .taken))))
@@ -83,7 +83,7 @@ hex-escape-spec =
     returns
     invalid-requires
     enum-told-3
-    cast-t15
+    cast-t16
     returns-2
     sub-more-bytes
     part-more-bytes-start

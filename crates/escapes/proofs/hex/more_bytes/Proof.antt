@@ -11,6 +11,7 @@ use Rattle.escapes.specs.Escapes.{moreBytes}
 use Rattle.escapes.specs.declared.answers.EscapeAnswer.the-variants.{Refused, Utf8}
 use Rattle.text.proofs.Lists.{tail-part}
 use Rattle.text.specs.Refusals.{invalidEscape}
+use Rattle.text.specs.declared.reason.EscapeReason.the-variants.{NotByteEscaped}
 use Rattle.escapes.proofs.hex.more_bytes.Tie as tie
 
 abbrev Inv-loop : tie.InvT-loop
@@ -115,7 +116,7 @@ returns-4 c = c .invalid .ensures
     (c .before .before .loop .inv .6
     ∙ ap (λ (k : ℕ). moreBytes k (c .before .before .loop .inv .0) (c .before .before .before .before .args .at + (c .before .before .loop .n - 1) * 4) (drop ((c .before .before .loop .n - 1) * 4) (c .before .before .before .before .args .t .now))) (omega arith)
     ∙ more-done (c .before .before .loop .inv .0) (c .before .before .before .before .args .at + (c .before .before .loop .n - 1) * 4) (drop ((c .before .before .loop .n - 1) * 4) (c .before .before .before .before .args .t .now))
-    ∙ ap (λ (k : ℕ). Refused (invalidEscape k)) (omega arith))
+    ∙ ap (λ (k : ℕ). Refused (invalidEscape NotByteEscaped k)) (omega arith))
 
 pub more-bytes-spec : {M : Type 1} → statement M
 more-bytes-spec =

@@ -16,7 +16,7 @@ invalid-requires-2 : tie.Need-invalid-requires-2
 invalid-requires-2 c κs = search needs
 
 returns-2 : tie.Need-returns-2
-returns-2 c = c .invalid2 .ensures ∙ sym (close-end (c .before .before .before .before .args .empty) (c .before .before .before .before .args .v) (c .before .before .before .before .args .at) (c .before .before .before .before .args .t .now) (c .before .if2 .taken))
+returns-2 c = c .invalid2 .ensures ∙ simp (c .before .before .if1 .left) (sym (close-end (c .before .before .before .before .args .v) (c .before .before .before .before .args .at) (c .before .before .before .before .args .t .now) (c .before .if2 .taken)))
 
 shared-slice-read-if3 : tie.Need-shared-slice-read-if3
 shared-slice-read-if3 c = search needs
@@ -24,8 +24,8 @@ shared-slice-read-if3 c = search needs
 is-scalar-requires : tie.Need-is-scalar-requires
 is-scalar-requires c κs = search needs
 
-add-t10 : tie.Need-add-t10
-add-t10 c = search needs
+add-t12 : tie.Need-add-t12
+add-t12 c = search needs
 
 returns-3 : tie.Need-returns-3
 returns-3 c = simp (c .before .before .before .before .before .if1 .left) (sym (close-at (c .before .before .before .before .before .before .before .args .v) (c .before .before .before .before .before .before .before .args .at) (c .before .before .before .before .before .before .before .args .t .now) (omega arith) ∙ simp (eq-eqb _ _ (c .before .before .if3 .taken), sym (c .before .is-scalar .ensures) ∙ c .if4 .taken)))
@@ -55,7 +55,7 @@ close-spec =
     returns-2
     shared-slice-read-if3
     is-scalar-requires
-    add-t10
+    add-t12
     returns-3
     add-invalid
     invalid-requires-3

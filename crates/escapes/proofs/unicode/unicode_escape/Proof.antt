@@ -11,6 +11,7 @@ use Rattle.escapes.specs.declared.answers.EscapeAnswer.the-variants.{Ref
 use Rattle.text.proofs.Lists.{tail-part}
 use Rattle.text.proofs.Utf8Agree.{charLen-le}
 use Rattle.text.specs.Refusals.{invalidEscape}
+use Rattle.text.specs.declared.reason.EscapeReason.the-variants.{DigitNotHex}
 use Rattle.escapes.proofs.unicode.unicode_escape.Tie as tie
 
 abbrev Inv-loop : tie.InvT-loop
@@ -99,7 +100,7 @@ invalid-requires-3 c κs = search needs
 
 returns-5 : tie.Need-returns-5 Inv-loop μ-loop
 returns-5 c = c .invalid3 .ensures
-    ∙ ap (λ (k : ℕ). Refused (invalidEscape (c .before .before .before .before .before .before .before .before .before .before .before .before .before .before .before .args .at + c .before .before .before .before .before .before .before .before .before .before .loop .i + k))) (simp tail-part at (c .before .char-len .ensures))
+    ∙ ap (λ (k : ℕ). Refused (invalidEscape DigitNotHex (c .before .before .before .before .before .before .before .before .before .before .before .before .before .before .before .args .at + c .before .before .before .before .before .before .before .before .before .before .loop .i + k))) (simp tail-part at (c .before .char-len .ensures))
     ∙ sym (c .before .before .before .before .before .before .before .before .before .before .loop .inv .3 ∙ digits-bad (c .before .before .before .before .before .before .before .before .before .before .loop .left) (c .before .before .before .before .before .before .before .before .before .before .loop .v) (c .before .before .before .before .before .before .before .before .before .before .before .before .before .before .before .args .at + c .before .before .before .before .before .before .before .before .before .before .loop .i) (c .before .before .before .before .before .before .before .before .before .before .loop .i) (c .before .before .before .before .before .before .before .before .before .before .before .before .before .before .before .args .s .now) (c .before .before .before .before .before .before .before .before .before .loop-test .taken) (c .before .before .before .before .before .before .before .before .if3 .left) (c .before .before .before .before .before .before .if4 .left) (no-digit (getD (c .before .before .before .before .before .before .before .before .before .before .before .before .before .before .before .args .s .now) (c .before .before .before .before .before .before .before .before .before .before .loop .i) 0) (sym (c .before .before .before .before .before .decode-hex .ensures) ∙ c .before .before .before .enum-told .given .1)))
 
 mul-v : tie.Need-mul-v Inv-loop μ-loop

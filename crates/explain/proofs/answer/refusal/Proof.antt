@@ -31,9 +31,9 @@ returns c =
     let s : List ℕ = c .before .before .before .before .before .before .before .before .before .before .before .before .before .before .before .args .s .now in
     let p : ℕ = c .before .before .before .before .before .before .before .before .before .before .before .before .within .result in
     let where-it-is : List ℕ = positionText s p in
-    let why : List ℕ = reasonText (c .before .before .before .before .before .before .before .before .before .before .before .before .before .before .before .args .number) in
+    let why : List ℕ = reasonText (c .before .before .before .before .before .before .before .before .before .before .before .before .before .before .before .args .f) in
     then out _ _ (where-it-is ++ why) (excerptText s p) (then out _ _ where-it-is why (c .before .before .before .before .before .before .before .before .before .before .position .ensures) (c .before .before .before .before .before .before .reason .ensures)) (c .before .before .excerpt .ensures)
-    ∙ ap (λ (k : ℕ). put out (refusedAt s (c .before .before .before .before .before .before .before .before .before .before .before .before .before .before .before .args .number) k)) (c .before .before .before .before .before .before .before .before .before .before .before .before .within .ensures)
+    ∙ ap (λ (k : ℕ). put out (refusedAt s (c .before .before .before .before .before .before .before .before .before .before .before .before .before .before .before .args .f) k)) (c .before .before .before .before .before .before .before .before .before .before .before .before .within .ensures)
 
 pub refusal-spec : {M : Type 1} → statement M
 refusal-spec =

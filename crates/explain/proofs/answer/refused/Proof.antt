@@ -20,7 +20,7 @@ unfolding refusalText
 returns c =
     let out : List ℕ × ℕ = (c .before .before .before .before .before .before .before .before .before .before .args .o .now, 0) in
     let s : List ℕ = c .before .before .before .before .before .before .before .before .before .before .args .s .now in
-    then out _ _ (refusedText s (c .before .before .before .before .before .before .before .before .before .before .args .number) (c .before .before .before .before .before .before .before .before .before .before .args .at)) (begunText s (c .before .before .before .before .before .before .before .before .before .before .args .b)) (c .before .before .before .before .before .before .refusal .ensures) (c .before .before .began .ensures)
+    then out _ _ (refusedText s (c .before .before .before .before .before .before .before .before .before .before .args .f) (c .before .before .before .before .before .before .before .before .before .before .args .at)) (begunText s (c .before .before .before .before .before .before .before .before .before .before .args .b)) (c .before .before .before .before .before .before .refusal .ensures) (c .before .before .began .ensures)
 
 pub refused-spec : {M : Type 1} → statement M
 refused-spec = tie.close (tie.spec refusal-requires began-requires same-length returns)

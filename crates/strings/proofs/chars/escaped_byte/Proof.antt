@@ -29,8 +29,8 @@ byte-ends-requires c κs = search needs
 enum-known-escaped-2 : tie.Need-enum-known-escaped-2
 enum-known-escaped-2 c = search needs
 
-invalid-escape-requires : tie.Need-invalid-escape-requires
-invalid-escape-requires c κs = search needs
+in-byte-literal-requires : tie.Need-in-byte-literal-requires
+in-byte-literal-requires c κs = search needs
 
 enum-known-escaped-3 : tie.Need-enum-known-escaped-3
 enum-known-escaped-3 c = search needs
@@ -39,7 +39,7 @@ returns : tie.Need-returns
 returns c = c .byte-ends .ensures ∙ read (c .before .before .before .before) (Ascii _ _) (c .before .before .escaped .given .1)
 
 returns-2 : tie.Need-returns-2
-returns-2 c = ap NoByte (c .invalid-escape .ensures) ∙ read (c .before .before .before .before) (Utf8 _ _) (c .before .before .escaped2 .given .1)
+returns-2 c = ap NoByte (c .in-byte-literal .ensures) ∙ read (c .before .before .before .before) (Utf8 _ _) (c .before .before .escaped2 .given .1)
 
 returns-3 : tie.Need-returns-3
 returns-3 c = read (c .before .before .before) (Refused _) (c .before .escaped3 .given .1)
@@ -52,7 +52,7 @@ escaped-byte-spec =
     enum-known-escaped
     byte-ends-requires
     enum-known-escaped-2
-    invalid-escape-requires
+    in-byte-literal-requires
     enum-known-escaped-3
     returns
     returns-2
