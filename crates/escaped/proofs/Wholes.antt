@@ -86,7 +86,7 @@ whole bs b z n = go (charLen (bs ++ b ∷ [])) refl (head-view (bs ++ b ∷ []))
 
 -- where the width is 0, no front is a character
 pub none-front : (bs : List ℕ) → charLen bs ≡ 0 → NoFront bs
-none-front bs z l t e ch = omega (arith, char-pos ch, charLen-char l t ch, ap charLen e)
+none-front bs z c t sc e = omega (arith, encode-some c sc, charLen-char (encode c) t (char-encode c sc), ap charLen e)
 
 -- and the other way round
 pub front-none : (bs : List ℕ) → NoFront bs → charLen bs ≡ 0
@@ -94,8 +94,8 @@ front-none bs n = go (charLen bs) refl (head-view bs)
   where
     go : (w : ℕ) → charLen bs ≡ w → Head bs w → charLen bs ≡ 0
     go w e no-char = e
-    go w e (a-char {l = k} t ch f q) = absurd (n k t q ch)
+    go w e (a-char {l = k} t ch f q) = let i = char-scalar k ch in absurd (n (codeOf k) t (i .0) (q ∙ ap (λ (x : List ℕ). x ++ t) (sym (i .1))))
 
 -- nor are fewer of the bytes one
 pub fewer : (bs cs : List ℕ) → NoFront (bs ++ cs) → NoFront bs
-fewer bs cs n l t e ch = n l (t ++ cs) (ap (λ (k : List ℕ). k ++ cs) e ∙ append-assoc l t cs) ch
+fewer bs cs n c t sc e = n c (t ++ cs) sc (ap (λ (k : List ℕ). k ++ cs) e ∙ append-assoc (encode c) t cs)

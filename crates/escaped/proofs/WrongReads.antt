@@ -4,7 +4,7 @@
 -- Assumes nothing.
 use Prim.Native.Nat.{ℕ, _+_, _-_, _*_, _≤_}
 use native.Mathlib.Omega.{arith}
-use mathlib.Core.List.{List, [], _∷_, append-nil}
+use mathlib.Core.List.{List, [], _∷_, _++_, append-nil}
 use mathlib.Core.Path.{_≡_, _∙_, ap, refl, subst, sym}
 use lib.ListN.{length}
 use borrow.Author.Tests.{le-ltb, ne-eqb}
@@ -16,7 +16,7 @@ use Rattle.escapes.specs.declared.answers.Mode.the-variants.{Char, Str}
 use Rattle.escaped.proofs.Exactly.{hex-is, unicode-is}
 use Rattle.escaped.proofs.Letters.{simple-letter}
 use Rattle.escaped.proofs.Pairs.{Lacks, same-place, two-lacks}
-use Rattle.escaped.proofs.Right.{taken-place}
+use Rattle.escaped.proofs.Right.{ascii-scalar, taken-place}
 use Rattle.escaped.proofs.Runs.{bytes-lack, bytes-other, bytes-pass, written-length}
 use Rattle.escaped.specs.Escape.{Letter, Written}
 use Rattle.escaped.specs.Escape.Written.{none, more}
@@ -25,9 +25,9 @@ use Rattle.escaped.specs.Wrong.Ends.{nothing, u-ends, x-ends}
 use Rattle.escaped.specs.Wrong.Taken.{first, next}
 use Rattle.escaped.specs.Wrong.Wrong.{bytes, high, letter, no-brace, no-digits, no-scalar, not-closed, u-digit, x-digit}
 use Rattle.text.proofs.Choices.{either, lt-or-le}
+use Rattle.text.proofs.Utf8Agree.{encode-1}
 use Rattle.text.specs.Refusals.{eof, invalidEscape}
 use Rattle.text.specs.Utf8.{charLen}
-use Rattle.text.specs.Utf8.Char.{utf8-1}
 use Rattle.text.specs.declared.reason.EscapeReason.{EscapeReason}
 use Rattle.text.specs.declared.reason.EscapeReason.the-variants.{MissingOpenBrace, NoClosingBrace, NotACharacter, UnknownLetter}
 use Rattle.text.specs.declared.refusal.Refusal.{Refusal}
@@ -40,7 +40,7 @@ use Rattle.escaped.specs.Escape as spec
 -- a first byte that is no character: more are taken
 more-taken : (b : ℕ) (bs u : List ℕ) → NoFront (b ∷ bs) → hexBy Str u b 3 ≡ moreBytes 3 (b ∷ []) 3 u
 more-taken b bs u n =
-    let h : 0x80 ≤ b = either (lt-or-le b 0x80) (λ k. absurd (n (b ∷ []) bs refl (utf8-1 (omega arith)))) (λ k. k) in
+    let h : 0x80 ≤ b = either (lt-or-le b 0x80) (λ k. absurd (n b bs (ascii-scalar b k) (ap (λ (x : List ℕ). x ++ bs) (sym (encode-1 b k))))) (λ k. k) in
     rw (le-ltb b 0x80 h)
 
 -- up to four bytes of a string that are no character: the reader stands behind them

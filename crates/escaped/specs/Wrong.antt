@@ -4,7 +4,7 @@ use Prim.Native.Nat.{ℕ, _+_, _-_, _*_, _<_, _≤_}
 use mathlib.Core.List.{List, [], _∷_, _++_}
 use mathlib.Core.Path.{_≡_}
 use lib.ListN.{length}
-use Rattle.text.specs.Utf8.{Char, Scalar, charLen}
+use Rattle.text.specs.Utf8.{Scalar, charLen, encode}
 use Rattle.text.specs.declared.reason.EscapeReason.{EscapeReason}
 use Rattle.text.specs.declared.reason.EscapeReason.the-variants.{DigitNotHex, UnknownLetter, NotByteEscaped, MissingOpenBrace}
 use Rattle.text.specs.declared.reason.EscapeReason.the-variants.{NoDigits, NoClosingBrace, NotACharacter}
@@ -15,7 +15,7 @@ use Rattle.escaped.specs.Escape.{Letter, Hex, Written}
 
 -- No front of these bytes is a character.
 abbrev pub NoFront : List ℕ → Type 0
-NoFront bs = (l t : List ℕ) → bs ≡ l ++ t → Char l → ⊥
+NoFront bs = (c : ℕ) (t : List ℕ) → Scalar c → bs ≡ encode c ++ t → ⊥
 
 -- t does not begin with the bytes l.
 abbrev pub NotAt : List ℕ → List ℕ → Type 0

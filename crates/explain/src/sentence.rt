@@ -1,5 +1,5 @@
-// Each refusal number of the paper as a sentence, and each reason of an invalid escape in words. One text with a line for each: a match of as many arms takes far longer to prove. 0 and 3 are given by
-// no call, so their lines are empty.
+// Each refusal number of the paper as a sentence, and each reason of an invalid escape in words. One text with a line for each: a match of as many arms
+// takes far longer to prove. 0 and 3 are given by no call, so their lines are empty.
 use lines::out;
 use lines::past;
 use lines::until;
