@@ -17,5 +17,5 @@ int main(void) {
     size_t count = sarridok_count(answer);
     answer = sarridok_walk(tape, ROOM, count, SARRIDOK_MAX_DEPTH, links, LEN);
     if (sarridok_is_refused(answer)) return refused(answer);
-    printf("%zu entries\n", count); /* tape: four numbers an entry; links[i]: the partner of bracket i */
+    printf("%zu entries\n", count); /* tape: SARRIDOK_ENTRY numbers an entry; links[i]: the partner of bracket i */
 }

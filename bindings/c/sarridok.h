@@ -34,7 +34,7 @@ _Static_assert(sizeof(size_t) == 8, "sarridok: the archive is for a size_t of 64
 
 /* ---- Version: major * 10000 + minor * 100 + patch */
 
-#define SARRIDOK_VERSION 300
+#define SARRIDOK_VERSION 400
 
 /* The version that the archive was built with: SARRIDOK_VERSION where the header belongs to it. */
 uint32_t sarridok_version(void);
@@ -43,9 +43,10 @@ uint32_t sarridok_version(void);
 
 #define SARRIDOK_MAX_TEXT 65536 /* bytes; a longer text is refused */
 #define SARRIDOK_MAX_DEPTH 128  /* the highest depth limit of a walk */
-#define SARRIDOK_ENTRY 4        /* numbers of a tape to an entry: kind, start, end, detail */
+#define SARRIDOK_ENTRY 5        /* numbers of a tape to an entry: kind, start, end, detail, gap */
 
-/* How many numbers a tape must have so that no text of so many bytes is refused for want of room: a text has at most as many entries as bytes. */
+/* How many numbers a tape must have so that no text of so many bytes is refused for want of room: a text has at most as many entries as bytes, and a tape has room for its
+ * length divided by SARRIDOK_ENTRY, rounded down. */
 #define SARRIDOK_TAPE_FOR(text_len) (SARRIDOK_ENTRY * (size_t)(text_len))
 
 /* ---- Kinds of entries */
@@ -293,32 +294,38 @@ struct sarridok_entry {
     uint32_t start;  /* the place of its first byte */
     uint32_t end;    /* the place behind its last byte */
     uint32_t detail; /* what its kind says of it, else 0 */
+    uint32_t gap;    /* how many bytes stand before it: from the former entry's end, or the text's start, to its start */
 };
+
+/* Entries are in order, as walk and repair want them (else 23), where each has a kind, starts below its end, and has exactly that distance for its gap.
+ * The bytes of a gap, from start - gap to start, are whitespace and comments. Those behind the last entry are in no gap. */
 
 /* Entry i of a tape, counted from 0. The tape has that entry: i is below the count that a read or a repair answered. */
 static inline struct sarridok_entry sarridok_entry(const uint32_t *tape, size_t i) {
     const uint32_t *row = tape + SARRIDOK_ENTRY * i;
-    struct sarridok_entry entry = {row[0], row[1], row[2], row[3]};
+    struct sarridok_entry entry = {row[0], row[1], row[2], row[3], row[4]};
     return entry;
 }
 
 /* ---- The calls */
 
-/* Reads a text into a tape, SARRIDOK_ENTRY numbers to an entry. Whitespace and comments make no entry; a text has at most as many entries as bytes.
+/* Reads a text into a tape, SARRIDOK_ENTRY numbers to an entry. Whitespace and comments make no entry, but the next one's gap; a text has at most as many entries as bytes.
  * Accepted: the number of entries (sarridok_count), which stand at the front of the tape; the rest of it is as it was.
  * Refused: 1, 2, then the first refusal of reading (4 to 21), and 22 last. */
 uint64_t sarridok_read(const uint8_t *text, size_t text_len, uint32_t *tape, size_t tape_len);
 
 /* Joins the brackets of a tape: one link to an entry. `limit` is how many brackets may be open at once, 0 to 128.
  * Accepted: 0. The first `count` links are written: an opening bracket's is the number of its closing one, and the other way round; any other entry's is its own.
- * Refused: 28 for a limit above 128, 23, 22, then 24 to 26. */
+ * Refused: 28 for a limit above 128, 23 for a count above the tape's room, or entries that are not in order or end behind SARRIDOK_MAX_TEXT, 22, then 24 to 26. */
 uint64_t sarridok_walk(const uint32_t *tape, size_t tape_len, size_t count, size_t limit, uint32_t *links, size_t links_len);
 
 /* Makes the tape of an old text that of `text`, which differs from it in one run of bytes: the old text had `old_len` bytes, and those from `a` to `b`
  * were replaced. `count` is the number of old entries.
  * Accepted: the number of entries now (sarridok_count); behind them the tape is zero up to the old count, and then as it was. *before and *behind are how many old entries
- * were kept before and behind the change. Where the tape is the old text's, all this is what a fresh reading gives.
- * Refused: 1, 2, 23, then the first refusal of reading, and 22 last. */
+ * were kept before and behind the change. One kept behind has its old gap too: the first behind the change is not kept where more or fewer bytes stand before it now.
+ * Where the tape is the old text's, all this is what a fresh reading gives.
+ * Refused: 1, 2, 23 for a cut or lengths that cannot be, a count above the tape's room, or entries that are not in order or end behind old_len, then the first refusal of
+ * reading, and 22 last. */
 uint64_t sarridok_repair(uint32_t *tape, size_t tape_len, size_t count, size_t old_len, size_t a, size_t b, const uint8_t *text, size_t text_len,
                          uint64_t *before, uint64_t *behind);
 
@@ -327,7 +334,7 @@ uint64_t sarridok_repair(uint32_t *tape, size_t tape_len, size_t count, size_t o
  * Refused: 1, 2, 28 for a place or a width that is unfit, 6 to 15 of reading, 27 for another suffix. */
 uint64_t sarridok_integer(const uint8_t *text, size_t text_len, size_t place, uint32_t width, uint64_t *magnitude);
 
-/* The bytes inside the string or byte string that an entry names, where nothing in it was escaped.
+/* The bytes inside the string or byte string that an entry names, where nothing in it was escaped. Of the entry only kind and start are looked at.
  * Accepted: start * 2^32 + end (sarridok_contents_start, _end), a part of the text.
  * Refused: 1, 2, 28, 23, 27, then the refusals of reading the string, 29. */
 uint64_t sarridok_contents(const uint8_t *text, size_t text_len, const uint32_t *tape, size_t tape_len, size_t count, size_t entry);

@@ -29,6 +29,8 @@ static int refused_escape(uint64_t answer, uint32_t reason, uint32_t place) {
 
 #define TEXT "Lock(id: -7, name: \"Foxton\")"
 #define EDIT "Lock(id: 512, name: \"Foxton\")"
+#define COUNT 10                         /* the entries of both */
+#define NUMBERS (SARRIDOK_ENTRY * COUNT) /* what their tapes hold */
 
 static const uint8_t *bytes(const char *s) { return (const uint8_t *)s; }
 
@@ -37,41 +39,45 @@ static const size_t text_len = sizeof TEXT - 1;
 static uint32_t tape[SARRIDOK_TAPE_FOR(sizeof EDIT)];
 static const size_t tape_len = sizeof tape / sizeof *tape;
 
-static void entry_is(size_t i, uint32_t kind, uint32_t start, uint32_t end, uint32_t detail) {
+static void entry_is(size_t i, uint32_t kind, uint32_t start, uint32_t end, uint32_t detail, uint32_t gap) {
     struct sarridok_entry entry = sarridok_entry(tape, i);
     HOLDS(entry.kind == kind);
     HOLDS(entry.start == start);
     HOLDS(entry.end == end);
     HOLDS(entry.detail == detail);
+    HOLDS(entry.gap == gap);
 }
+
+/* Where the gap of an entry stands: last of its numbers. */
+static uint32_t *gap_of(size_t i) { return tape + SARRIDOK_ENTRY * (i + 1) - 1; }
 
 static void test_read(void) {
     uint64_t answer = sarridok_read(text, text_len, tape, tape_len);
     HOLDS(!sarridok_is_refused(answer));
     HOLDS(sarridok_refusal_number(answer) == 0 && sarridok_refusal_reason(answer) == 0);
-    HOLDS(sarridok_count(answer) == 10);
-    entry_is(0, SARRIDOK_KIND_NAME, 0, 4, 0);
-    entry_is(1, SARRIDOK_KIND_OPEN_PAREN, 4, 5, 0);
-    entry_is(4, SARRIDOK_KIND_INTEGER, 9, 11, SARRIDOK_WIDTH_I8);
-    entry_is(8, SARRIDOK_KIND_STRING, 19, 27, 6);
-    entry_is(9, SARRIDOK_KIND_CLOSE_PAREN, 27, 28, 0);
+    HOLDS(sarridok_count(answer) == COUNT);
+    entry_is(0, SARRIDOK_KIND_NAME, 0, 4, 0, 0);
+    entry_is(1, SARRIDOK_KIND_OPEN_PAREN, 4, 5, 0, 0);
+    entry_is(4, SARRIDOK_KIND_INTEGER, 9, 11, SARRIDOK_WIDTH_I8, 1);
+    entry_is(8, SARRIDOK_KIND_STRING, 19, 27, 6, 1);
+    entry_is(9, SARRIDOK_KIND_CLOSE_PAREN, 27, 28, 0, 0);
     HOLDS(refused(sarridok_read(bytes("[1 /x]"), 6, tape, tape_len), SARRIDOK_REFUSED_UNEXPECTED_CHAR, 5));
-    HOLDS(refused(sarridok_read(text, text_len, tape, 39), SARRIDOK_REFUSED_NO_ROOM, 0));
+    HOLDS(refused(sarridok_read(text, text_len, tape, NUMBERS - 1), SARRIDOK_REFUSED_NO_ROOM, 0));
     HOLDS(refused(sarridok_read(text, text_len, NULL, 0), SARRIDOK_REFUSED_NO_ROOM, 0));
     HOLDS(sarridok_read(NULL, 0, NULL, 0) == 0);
     HOLDS(sarridok_read(NULL, 0, tape, tape_len) == 0);
     HOLDS(sarridok_read(bytes(" \n"), 2, NULL, 0) == 0);
-    HOLDS(sarridok_count(sarridok_read(text, text_len, tape, 40)) == 10);
+    HOLDS(sarridok_count(sarridok_read(text, text_len, tape, NUMBERS)) == COUNT);
 }
 
 static void test_walk(void) {
-    uint32_t links[10];
-    HOLDS(sarridok_walk(tape, 40, 10, 1, links, 10) == 0);
+    uint32_t links[COUNT];
+    HOLDS(sarridok_walk(tape, NUMBERS, COUNT, 1, links, COUNT) == 0);
     HOLDS(links[0] == 0 && links[1] == 9 && links[8] == 8 && links[9] == 1);
-    HOLDS(refused(sarridok_walk(tape, 40, 10, 0, links, 10), SARRIDOK_REFUSED_DEPTH_LIMIT_PASSED, 1));
-    HOLDS(refused(sarridok_walk(tape, 40, 10, SARRIDOK_MAX_DEPTH + 1, links, 10), SARRIDOK_REFUSED_UNFIT, 0));
-    HOLDS(refused(sarridok_walk(tape, 40, 10, 1, NULL, 0), SARRIDOK_REFUSED_NO_ROOM, 0));
-    HOLDS(refused(sarridok_walk(NULL, 0, 10, 1, links, 10), SARRIDOK_REFUSED_NOT_IN_ORDER, 0));
+    HOLDS(refused(sarridok_walk(tape, NUMBERS, COUNT, 0, links, COUNT), SARRIDOK_REFUSED_DEPTH_LIMIT_PASSED, 1));
+    HOLDS(refused(sarridok_walk(tape, NUMBERS, COUNT, SARRIDOK_MAX_DEPTH + 1, links, COUNT), SARRIDOK_REFUSED_UNFIT, 0));
+    HOLDS(refused(sarridok_walk(tape, NUMBERS, COUNT, 1, NULL, 0), SARRIDOK_REFUSED_NO_ROOM, 0));
+    HOLDS(refused(sarridok_walk(NULL, 0, COUNT, 1, links, COUNT), SARRIDOK_REFUSED_NOT_IN_ORDER, 0));
     HOLDS(refused(sarridok_walk(NULL, 0, 0, 1, NULL, 0), SARRIDOK_REFUSED_TAPE_ENDS_EARLY, 0));
 }
 
@@ -91,19 +97,19 @@ static void test_integer(void) {
 
 static void test_strings(void) {
     uint8_t out[7] = "------";
-    uint64_t answer = sarridok_contents(text, text_len, tape, 40, 10, 8);
+    uint64_t answer = sarridok_contents(text, text_len, tape, NUMBERS, COUNT, 8);
     HOLDS(sarridok_contents_start(answer) == 20);
     HOLDS(sarridok_contents_end(answer) == 26);
-    HOLDS(sarridok_count(sarridok_decoded(text, text_len, tape, 40, 10, 8, out, 7)) == 6);
+    HOLDS(sarridok_count(sarridok_decoded(text, text_len, tape, NUMBERS, COUNT, 8, out, 7)) == 6);
     HOLDS(memcmp(out, "Foxton", 7) == 0);
-    HOLDS(refused(sarridok_contents(text, text_len, tape, 40, 10, 0), SARRIDOK_REFUSED_OTHER_KIND, 0));
-    HOLDS(refused(sarridok_decoded(text, text_len, tape, 40, 10, 8, out, 5), SARRIDOK_REFUSED_NO_ROOM, 0));
-    HOLDS(refused(sarridok_decoded(text, text_len, tape, 40, 10, 8, NULL, 0), SARRIDOK_REFUSED_NO_ROOM, 0));
+    HOLDS(refused(sarridok_contents(text, text_len, tape, NUMBERS, COUNT, 0), SARRIDOK_REFUSED_OTHER_KIND, 0));
+    HOLDS(refused(sarridok_decoded(text, text_len, tape, NUMBERS, COUNT, 8, out, 5), SARRIDOK_REFUSED_NO_ROOM, 0));
+    HOLDS(refused(sarridok_decoded(text, text_len, tape, NUMBERS, COUNT, 8, NULL, 0), SARRIDOK_REFUSED_NO_ROOM, 0));
     HOLDS(refused(sarridok_contents(NULL, 0, NULL, 0, 0, 0), SARRIDOK_REFUSED_UNFIT, 0));
     HOLDS(refused(sarridok_decoded(NULL, 0, NULL, 0, 0, 0, NULL, 0), SARRIDOK_REFUSED_UNFIT, 0));
-    uint32_t empty[4];
-    HOLDS(sarridok_read(bytes("\"\""), 2, empty, 4) == 1);
-    HOLDS(sarridok_decoded(bytes("\"\""), 2, empty, 4, 1, 0, NULL, 0) == 0);
+    uint32_t empty[SARRIDOK_ENTRY];
+    HOLDS(sarridok_read(bytes("\"\""), 2, empty, SARRIDOK_ENTRY) == 1);
+    HOLDS(sarridok_decoded(bytes("\"\""), 2, empty, SARRIDOK_ENTRY, 1, 0, NULL, 0) == 0);
 }
 
 static void test_struct_kind(void) {
@@ -130,19 +136,106 @@ static void test_repair(void) {
     uint64_t before = 0, behind = 0;
     memset(fresh, 0, sizeof fresh);
     memset(tape, 0, sizeof tape);
-    HOLDS(sarridok_count(sarridok_read(text, text_len, tape, tape_len)) == 10);
-    HOLDS(sarridok_count(sarridok_read(bytes(EDIT), sizeof EDIT - 1, fresh, tape_len)) == 10);
-    uint64_t answer = sarridok_repair(tape, tape_len, 10, text_len, 9, 11, bytes(EDIT), sizeof EDIT - 1, &before, &behind);
-    HOLDS(sarridok_count(answer) == 10);
+    HOLDS(sarridok_count(sarridok_read(text, text_len, tape, tape_len)) == COUNT);
+    HOLDS(sarridok_count(sarridok_read(bytes(EDIT), sizeof EDIT - 1, fresh, tape_len)) == COUNT);
+    uint64_t answer = sarridok_repair(tape, tape_len, COUNT, text_len, 9, 11, bytes(EDIT), sizeof EDIT - 1, &before, &behind);
+    HOLDS(sarridok_count(answer) == COUNT);
     HOLDS(before == 4 && behind == 5);
     HOLDS(memcmp(tape, fresh, sizeof tape) == 0);
-    entry_is(4, SARRIDOK_KIND_INTEGER, 9, 12, SARRIDOK_WIDTH_U16);
-    HOLDS(refused(sarridok_repair(tape, tape_len, 10, 5, 9, 11, text, text_len, &before, &behind), SARRIDOK_REFUSED_NOT_IN_ORDER, 0));
+    entry_is(4, SARRIDOK_KIND_INTEGER, 9, 12, SARRIDOK_WIDTH_U16, 1);
+    HOLDS(refused(sarridok_repair(tape, tape_len, COUNT, 5, 9, 11, text, text_len, &before, &behind), SARRIDOK_REFUSED_NOT_IN_ORDER, 0));
     HOLDS(before == 4 && behind == 5);
     HOLDS(sarridok_repair(NULL, 0, 0, 0, 0, 0, NULL, 0, &before, &behind) == 0);
     HOLDS(before == 0 && behind == 0);
-    HOLDS(sarridok_repair(tape, tape_len, 10, sizeof EDIT - 1, 0, sizeof EDIT - 1, NULL, 0, &before, &behind) == 0);
-    entry_is(9, 0, 0, 0, 0);
+    HOLDS(sarridok_repair(tape, tape_len, COUNT, sizeof EDIT - 1, 0, sizeof EDIT - 1, NULL, 0, &before, &behind) == 0);
+    entry_is(COUNT - 1, 0, 0, 0, 0, 0);
+}
+
+/* What stands before an entry is in its gap: nothing between neighbours, else blanks and comments by their bytes. What stands behind the last is in none. */
+static void test_gaps(void) {
+    HOLDS(sarridok_count(sarridok_read(bytes("//ab\n7"), 6, tape, tape_len)) == 1);
+    entry_is(0, SARRIDOK_KIND_INTEGER, 5, 6, SARRIDOK_WIDTH_U8, 5);
+    HOLDS(sarridok_count(sarridok_read(bytes(" \t[7,/*\xC3\xA9*/ 8 ] // x"), 20, tape, tape_len)) == 5);
+    entry_is(0, SARRIDOK_KIND_OPEN_BRACKET, 2, 3, 0, 2);
+    entry_is(1, SARRIDOK_KIND_INTEGER, 3, 4, SARRIDOK_WIDTH_U8, 0);
+    entry_is(2, SARRIDOK_KIND_COMMA, 4, 5, 0, 0);
+    entry_is(3, SARRIDOK_KIND_INTEGER, 12, 13, SARRIDOK_WIDTH_U8, 7);
+    entry_is(4, SARRIDOK_KIND_CLOSE_BRACKET, 14, 15, 0, 1);
+}
+
+/* A tape of 2 * SARRIDOK_ENTRY numbers is the shortest with room for two entries: with less a read has no room, and a count of 2 is out of order for a walk. */
+static void test_room(void) {
+    uint32_t links[2];
+    for (size_t len = 0; len <= 3 * SARRIDOK_ENTRY; len++) {
+        int fits = len >= 2 * SARRIDOK_ENTRY;
+        uint64_t read = sarridok_read(bytes("[]"), 2, tape, len);
+        HOLDS(fits ? sarridok_count(read) == 2 : refused(read, SARRIDOK_REFUSED_NO_ROOM, 0));
+        uint64_t walked = sarridok_walk(tape, len, 2, 1, links, 2);
+        HOLDS(fits ? walked == 0 : refused(walked, SARRIDOK_REFUSED_NOT_IN_ORDER, 0));
+    }
+}
+
+/* A gap that is not the distance is out of order for walk and repair, which write nothing. */
+static void test_wrong_gap(size_t i, uint32_t wrong_gap) {
+    uint32_t links[COUNT] = {0}, left[NUMBERS];
+    uint64_t before = 7, behind = 7;
+    uint32_t right = *gap_of(i);
+    *gap_of(i) = wrong_gap;
+    memcpy(left, tape, sizeof left);
+    HOLDS(refused(sarridok_walk(tape, NUMBERS, COUNT, 1, links, COUNT), SARRIDOK_REFUSED_NOT_IN_ORDER, 0));
+    HOLDS(links[1] == 0);
+    HOLDS(refused(sarridok_repair(tape, NUMBERS, COUNT, text_len, 9, 11, bytes(EDIT), sizeof EDIT - 1, &before, &behind), SARRIDOK_REFUSED_NOT_IN_ORDER, 0));
+    HOLDS(before == 7 && behind == 7 && memcmp(tape, left, sizeof left) == 0);
+    *gap_of(i) = right;
+}
+
+/* It is so of every entry below the count. The calls that take one entry do not look at its gap. */
+static void test_wrong_gaps(void) {
+    uint32_t links[COUNT];
+    HOLDS(sarridok_count(sarridok_read(text, text_len, tape, tape_len)) == COUNT);
+    for (size_t i = 0; i < COUNT; i++) {
+        test_wrong_gap(i, *gap_of(i) + 1);
+        test_wrong_gap(i, *gap_of(i) - 1);
+    }
+    HOLDS(sarridok_walk(tape, NUMBERS, COUNT, 1, links, COUNT) == 0);
+    *gap_of(8) = 7;
+    HOLDS(sarridok_contents_start(sarridok_contents(text, text_len, tape, NUMBERS, COUNT, 8)) == 20);
+    HOLDS(sarridok_count(sarridok_read(bytes("[7] 8"), 5, tape, tape_len)) == 4);
+    *gap_of(3) = 7;
+    HOLDS(sarridok_walk(tape, tape_len, 3, 1, links, COUNT) == 0);
+    HOLDS(refused(sarridok_walk(tape, tape_len, 4, 1, links, COUNT), SARRIDOK_REFUSED_NOT_IN_ORDER, 0));
+}
+
+/* A run of bytes of an old text, from a to b, that was replaced, and what is kept: an entry right behind it only with the gap that it had. */
+static const struct {
+    const char *old_text, *new_text;
+    size_t a, b;
+    uint64_t before, behind;
+} edits[] = {
+    {"[7, 8, 9]", "[7, /*8,*/ 9]", 4, 6, 3, 1}, /* the gap of 9 is longer */
+    {"[7, 8, 9]", "[7, 5, 9]", 4, 5, 3, 3},
+    {"a b", "a  b", 2, 2, 1, 0},
+    {"a b", "a b", 2, 2, 1, 1},
+    {"a  b", "a b", 1, 2, 0, 0},
+    {" 1", "1", 0, 1, 0, 0},
+    {"1", " 1", 0, 0, 0, 0},
+    {"ab c", "b c", 0, 1, 0, 1},
+};
+
+static void test_kept(void) {
+    uint32_t fresh[SARRIDOK_TAPE_FOR(16)];
+    for (size_t i = 0; i < sizeof edits / sizeof *edits; i++) {
+        const char *now = edits[i].new_text;
+        size_t old_len = strlen(edits[i].old_text);
+        uint64_t before = 7, behind = 7;
+        memset(fresh, 0, sizeof fresh);
+        size_t count = sarridok_count(sarridok_read(bytes(edits[i].old_text), old_len, tape, tape_len));
+        size_t then = sarridok_count(sarridok_read(bytes(now), strlen(now), fresh, sizeof fresh / sizeof *fresh));
+        uint64_t answer = sarridok_repair(tape, tape_len, count, old_len, edits[i].a, edits[i].b, bytes(now), strlen(now), &before, &behind);
+        HOLDS(sarridok_count(answer) == then);
+        HOLDS(before == edits[i].before && behind == edits[i].behind);
+        HOLDS(memcmp(tape, fresh, SARRIDOK_ENTRY * then * sizeof *tape) == 0);
+    }
 }
 
 /* Texts whose escape is not valid, each with its reason and its place. */
@@ -185,7 +278,7 @@ static void test_escapes(void) {
     HOLDS(magnitude == 1);
     HOLDS(refused_escape(sarridok_struct_kind(bytes("(\"\\q\")"), 6, 0, 0, SARRIDOK_TUPLE_DIFFERENTIATE_NEWTYPE), SARRIDOK_REASON_UNKNOWN_LETTER, 4));
     /* No read gives the entry of such a string: the tape is made by hand. */
-    uint32_t made[SARRIDOK_ENTRY] = {SARRIDOK_KIND_STRING, 1, 7, 1};
+    uint32_t made[SARRIDOK_ENTRY] = {SARRIDOK_KIND_STRING, 1, 7, 1, 1};
     const uint8_t *const closed = bytes("[\"\\u{}\"]");
     uint8_t out[2] = "-";
     HOLDS(refused_escape(sarridok_contents(closed, 8, made, SARRIDOK_ENTRY, 1, 0), SARRIDOK_REASON_NO_DIGITS, 5));
@@ -193,7 +286,7 @@ static void test_escapes(void) {
     HOLDS(out[0] == '-');
     uint64_t before = 7, behind = 7;
     HOLDS(sarridok_read(bytes("\"a\""), 3, room, sizeof room / sizeof *room) == 1);
-    HOLDS(refused_escape(sarridok_repair(room, 4, 1, 3, 1, 2, bytes("\"\\u41\""), 6, &before, &behind), SARRIDOK_REASON_MISSING_OPEN_BRACE, 3));
+    HOLDS(refused_escape(sarridok_repair(room, SARRIDOK_ENTRY, 1, 3, 1, 2, bytes("\"\\u41\""), 6, &before, &behind), SARRIDOK_REASON_MISSING_OPEN_BRACE, 3));
     HOLDS(before == 7 && behind == 7 && room[0] == SARRIDOK_KIND_STRING && room[2] == 3);
 }
 
@@ -226,6 +319,10 @@ int main(void) {
     test_struct_kind();
     test_skip();
     test_repair();
+    test_gaps();
+    test_room();
+    test_wrong_gaps();
+    test_kept();
     test_refusals();
     test_escapes();
     test_reasons();

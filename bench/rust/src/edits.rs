@@ -1,7 +1,7 @@
 //! Edits of a text, repaired there and back.
 use crate::clock::Call;
 use crate::ours::{self, Cut};
-use crate::sides::{Sides, WIDTH};
+use crate::sides::{Sides, ENTRY};
 
 /// A text and its tape before an edit, and what was put in the place of which bytes.
 pub struct Edit {
@@ -19,7 +19,7 @@ impl Edit {
         let old = sides.text.clone();
         let new = [&old[..a], put, &old[b..]].concat();
         let mut tape = sides.tape.clone();
-        tape.resize(WIDTH * (sides.count + new.len()), 0);
+        tape.resize(ENTRY * (sides.count + new.len()), 0);
         Edit { old, new, tape, count: sides.count, a, b }
     }
 
@@ -60,7 +60,7 @@ impl Edit {
         let (answer, kept) = ours::repair(&mut tape, self.count, self.there(), &self.new);
         assert_eq!(answer, ours::read(&self.new, &mut fresh), "a repair differs from a fresh reading");
         if !ours::is_refused(answer) {
-            let numbers = WIDTH * answer as usize;
+            let numbers = ENTRY * answer as usize;
             assert!(tape[..numbers] == fresh[..numbers], "the repaired tape differs from the fresh one");
         }
         (answer, kept)

@@ -4,7 +4,7 @@ use crate::read::Entry;
 use crate::{ours, theirs};
 
 /// Numbers in one entry of a tape.
-pub const WIDTH: usize = 4;
+pub const ENTRY: usize = 5;
 
 /// A text, what it is read to, and how many entries it has (0 where it is refused).
 pub struct Sides {
@@ -16,7 +16,7 @@ pub struct Sides {
 impl Sides {
     /// Reads the text by all three ways, which must agree.
     pub fn of(text: Vec<u8>) -> Self {
-        let mut tape = vec![0; WIDTH * text.len()];
+        let mut tape = vec![0; ENTRY * text.len()];
         let answer = ours::read(&text, &mut tape);
         let mut entries = room(&text);
         for by in [theirs::read, theirs::lean] {
@@ -30,7 +30,7 @@ impl Sides {
     }
 
     pub fn ours(&self) -> Call<'_> {
-        let mut tape = vec![0; WIDTH * self.text.len()];
+        let mut tape = vec![0; ENTRY * self.text.len()];
         Box::new(move || {
             std::hint::black_box(ours::read(&self.text, &mut tape));
         })
@@ -58,6 +58,6 @@ fn room(text: &[u8]) -> Vec<Entry> {
 }
 
 fn same(tape: &[u32], entries: &[Entry]) -> bool {
-    let row = |e: &Entry| [e.kind, e.start as u32, e.end as u32, e.detail as u32];
-    tape.chunks_exact(WIDTH).zip(entries).all(|(ours, theirs)| ours == row(theirs))
+    let row = |e: &Entry| [e.kind, e.start as u32, e.end as u32, e.detail as u32, e.gap as u32];
+    tape.chunks_exact(ENTRY).zip(entries).all(|(ours, theirs)| ours == row(theirs))
 }

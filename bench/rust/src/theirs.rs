@@ -29,16 +29,19 @@ pub fn lean(bytes: &[u8], into: &mut Vec<Entry>) -> Result<(), u32> {
 
 fn lean_entries(text: &str, into: &mut Vec<Entry>) -> ron::error::Result<()> {
     let mut parser = parser_at(text, 0);
+    let mut former = 0;
     loop {
         parser.skip_ws()?;
         let start = cursor(&parser);
         let Some(&first) = text.as_bytes().get(start) else { return Ok(()) };
-        if first == b'#' {
-            into.push(attribute(&mut parser, start)?);
-            continue;
-        }
-        let (kind, detail) = token(&mut parser, first)?;
-        into.push(Entry { kind, start, end: cursor(&parser), detail });
+        let (kind, end, detail) = if first == b'#' {
+            attribute(&mut parser)?
+        } else {
+            let (kind, detail) = token(&mut parser, first)?;
+            (kind, cursor(&parser), detail)
+        };
+        into.push(Entry { kind, start, end, detail, gap: start - former });
+        former = end;
     }
 }
 
@@ -124,9 +127,10 @@ fn float_suffix(float: &[u8]) -> usize {
     }
 }
 
-fn attribute(parser: &mut Parser, start: usize) -> ron::error::Result<Entry> {
+/// Kind, end and detail of an attribute.
+fn attribute(parser: &mut Parser) -> ron::error::Result<(u32, usize, usize)> {
     let found = parser.document_attribute()?;
     let [cursor, pre, _] = parser.cursor_numbers();
     let end = if found.is_some() { pre } else { cursor };
-    Ok(Entry { kind: 16, start, end, detail: found.unwrap_or(0) })
+    Ok((16, end, found.unwrap_or(0)))
 }

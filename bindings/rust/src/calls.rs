@@ -5,27 +5,28 @@ use crate::raw;
 use crate::{NewtypeMode, ParserCursor, Refused, Repaired, StructType, TupleMode, Value, Width};
 use core::ops::Range;
 
-/// The version of the archive that was linked: major * 10,000 + minor * 100 + patch, so 300 is 0.3.0.
+/// The version of the archive that was linked: major * 10,000 + minor * 100 + patch, so 400 is 0.4.0.
 ///
 /// ```
-/// assert_eq!(sarridok::version(), 300);
+/// assert_eq!(sarridok::version(), 400);
 /// ```
 pub fn version() -> u32 {
     // Safety: it takes and writes nothing.
     unsafe { raw::sarridok_version() }
 }
 
-/// Reads a text into a tape, four numbers to an entry, and answers the number of entries; what stands behind them stays.
-/// A text has at most as many entries as bytes.
+/// Reads a text into a tape, [`ENTRY`](crate::ENTRY) numbers to an entry, and answers the number of entries; what stands behind them stays.
+/// A text has at most as many entries as bytes. Whitespace and comments make no entry, but the next one's gap.
 ///
 /// # Errors
 /// Refused as `TooLong`, `NotUtf8`, then by the first refusal of reading (4 to 21), and as `NoRoom` last.
 ///
 /// ```
-/// let mut tape = [0; 24];
-/// assert_eq!(sarridok::read(b"Lock(id: 7)", &mut tape), Ok(6));
-/// assert_eq!(tape[16..20], [11, 9, 10, 5]);
-/// let refused = sarridok::read(b"'\\xC3'", &mut tape).unwrap_err();
+/// use sarridok::{read, ENTRY};
+/// let mut tape = [0; ENTRY * 6];
+/// assert_eq!(read(b"Lock(id: 7)", &mut tape), Ok(6));
+/// assert_eq!(tape[ENTRY * 4..ENTRY * 5], [11, 9, 10, 5, 1]);
+/// let refused = read(b"'\\xC3'", &mut tape).unwrap_err();
 /// assert_eq!(refused.to_string(), "refused 13 at 5: the escape is not valid: not a byte-escaped character");
 /// ```
 pub fn read(text: &[u8], tape: &mut [u32]) -> Result<usize, Refused> {
@@ -37,16 +38,22 @@ pub fn read(text: &[u8], tape: &mut [u32]) -> Result<usize, Refused> {
 /// Joins the brackets of a tape, one link to an entry: a bracket's link is its partner, any other entry's its own number. `limit` is how many brackets may
 /// be open at once, 0 to 128.
 ///
+/// Entries are in order where each has a kind, starts below its end, and has a gap that leads from the former entry's end, or the text's start, to its start.
+///
 /// # Errors
-/// Refused as `Unfit` for a limit above 128, `NotInOrder`, `NoRoom`, then by 24 to 26.
+/// Refused as `Unfit` for a limit above 128, `NotInOrder` for a count above the tape's room, or entries that are not in order or end behind
+/// [`MAX_TEXT`](crate::MAX_TEXT), `NoRoom`, then by 24 to 26.
 ///
 /// ```
-/// let mut tape = [0; 16];
-/// let count = sarridok::read(b"[7]", &mut tape)?;
+/// use sarridok::{read, walk, Refusal, ENTRY};
+/// let mut tape = [0; ENTRY * 3];
+/// let count = read(b"[7]", &mut tape)?;
 /// let mut links = [0; 3];
-/// sarridok::walk(&tape, count, 128, &mut links)?;
+/// walk(&tape, count, 128, &mut links)?;
 /// assert_eq!(links, [2, 1, 0]);
-/// assert_eq!(sarridok::walk(&tape, count, 0, &mut links).unwrap_err().refusal, sarridok::Refusal::DepthLimitPassed);
+/// assert_eq!(walk(&tape, count, 0, &mut links).unwrap_err().refusal, Refusal::DepthLimitPassed);
+/// tape[ENTRY - 1] = 7; // the gap of the first entry, which is its start
+/// assert_eq!(walk(&tape, count, 128, &mut links).unwrap_err().refusal, Refusal::NotInOrder);
 /// # Ok::<(), sarridok::Refused>(())
 /// ```
 pub fn walk(tape: &[u32], count: usize, limit: usize, links: &mut [u32]) -> Result<(), Refused> {
@@ -59,13 +66,16 @@ pub fn walk(tape: &[u32], count: usize, limit: usize, links: &mut [u32]) -> Resu
 /// Makes the tape of an old text that of `text`: the old text had `old_len` bytes, and those of `cut` were replaced. `count` is the number of old entries.
 ///
 /// # Errors
-/// Refused as `TooLong`, `NotUtf8`, `NotInOrder`, then by the first refusal of reading (4 to 21), and as `NoRoom` last.
+/// Refused as `TooLong`, `NotUtf8`, `NotInOrder` for a cut or lengths that cannot be, a count above the tape's room, or entries that are not in order (as [`walk`] says) or end
+/// behind `old_len`, then by the first refusal of reading (4 to 21), and as `NoRoom` last.
 ///
 /// ```
-/// let mut tape = [0; 4 * 16];
-/// let count = sarridok::read(b"[7, 8, 9]", &mut tape)?;
-/// let repaired = sarridok::repair(&mut tape, count, 9, 4..6, b"[7, /*8,*/ 9]")?;
-/// assert_eq!((repaired.count, repaired.before, repaired.behind), (5, 3, 2));
+/// use sarridok::{read, repair, ENTRY};
+/// let mut tape = [0; ENTRY * 16];
+/// let count = read(b"[7, 8, 9]", &mut tape)?;
+/// let repaired = repair(&mut tape, count, 9, 4..6, b"[7, /*8,*/ 9]")?;
+/// // Kept behind is the bracket alone: more bytes stand before the 9 now.
+/// assert_eq!((repaired.count, repaired.before, repaired.behind), (5, 3, 1));
 /// # Ok::<(), sarridok::Refused>(())
 /// ```
 pub fn repair(tape: &mut [u32], count: usize, old_len: usize, cut: Range<usize>, text: &[u8]) -> Result<Repaired, Refused> {
@@ -115,14 +125,14 @@ pub fn integer(text: &[u8], place: usize, width: Width) -> Result<(Value, usize)
     Ok((Value::new(pair.high == 1, magnitude), pair.size()))
 }
 
-/// The bytes inside the string or byte string that an entry names, where nothing in it was escaped.
+/// The bytes inside the string or byte string that an entry names, where nothing in it was escaped. Of the entry only kind and start are looked at.
 ///
 /// # Errors
 /// Refused as `TooLong`, `NotUtf8`, `Unfit`, `NotInOrder`, `OtherKind`, then by those of reading the string, and as `HoldsEscape` last.
 ///
 /// ```
 /// let text = br#"["weir", "a\nb"]"#;
-/// let mut tape = [0; 4 * 16];
+/// let mut tape = [0; sarridok::ENTRY * 16];
 /// let count = sarridok::read(text, &mut tape)?;
 /// assert_eq!(sarridok::contents(text, &tape, count, 1)?, b"weir");
 /// assert_eq!(sarridok::contents(text, &tape, count, 3).unwrap_err().refusal, sarridok::Refusal::HoldsEscape);
@@ -142,7 +152,7 @@ pub fn contents<'a>(text: &'a [u8], tape: &[u32], count: usize, entry: usize) ->
 ///
 /// ```
 /// let text = br#""\xC3\xA9""#;
-/// let mut tape = [0; 4];
+/// let mut tape = [0; sarridok::ENTRY];
 /// let count = sarridok::read(text, &mut tape)?;
 /// let mut out = [0; 3];
 /// assert_eq!(sarridok::decoded(text, &tape, count, 0, &mut out), Ok(2));

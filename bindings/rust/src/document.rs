@@ -14,6 +14,7 @@ use core::ops::Range;
 /// assert_eq!(document.count(), 10);
 /// assert_eq!(document.entry(4).unwrap().kind, Kind::Integer);
 /// assert_eq!(document.text_of(2), Some(&b"id"[..]));
+/// assert_eq!(document.gap_of(4), Some(&b" "[..]));
 /// assert_eq!(u8::try_from(document.integer(4)?), Ok(7));
 /// assert_eq!(document.contents(8)?, b"weir");
 ///
@@ -85,6 +86,11 @@ impl<'a> Document<'a> {
     /// The bytes of the text that an entry stands for.
     pub fn text_of(&self, number: usize) -> Option<&'a [u8]> {
         self.text.get(self.entry(number)?.span())
+    }
+
+    /// The bytes of the text that stand before an entry, from the former one's end or the text's start: whitespace and comments.
+    pub fn gap_of(&self, number: usize) -> Option<&'a [u8]> {
+        self.text.get(self.entry(number)?.gap_span())
     }
 
     /// Joins the brackets, as [`walk`] does: one link to an entry, and at most `limit` brackets open at once.

@@ -17,25 +17,28 @@ pub struct Entry {
     pub end: usize,
     /// What its kind says of it, else 0.
     pub detail: u32,
+    /// How many bytes stand before it, from the former entry's end, or the text's start, to its start: whitespace and comments. Those behind the last entry are in no gap.
+    pub gap: usize,
 }
 
 impl Entry {
-    /// An entry of a kind over a part of the text.
-    pub const fn new(kind: Kind, span: Range<usize>, detail: u32) -> Entry {
+    /// An entry of a kind over a part of the text, behind a gap of so many bytes.
+    pub const fn new(kind: Kind, span: Range<usize>, detail: u32, gap: usize) -> Entry {
         Entry {
             kind,
             start: span.start,
             end: span.end,
             detail,
+            gap,
         }
     }
 
     /// The numbers of an entry, where the kind is one.
     fn of(row: &[u32]) -> Option<Entry> {
         match *row {
-            [kind, start, end, detail] => {
+            [kind, start, end, detail, gap] => {
                 let kind = Kind::try_from(kind).ok()?;
-                Some(Entry::new(kind, start as usize..end as usize, detail))
+                Some(Entry::new(kind, start as usize..end as usize, detail, gap as usize))
             }
             _ => None,
         }
@@ -44,6 +47,11 @@ impl Entry {
     /// From its first byte to behind its last.
     pub const fn span(&self) -> Range<usize> {
         self.start..self.end
+    }
+
+    /// The gap: from the former entry's end, or the text's start, to its first byte. One that is longer than its start, as no read writes it, begins at 0.
+    pub const fn gap_span(&self) -> Range<usize> {
+        self.start.saturating_sub(self.gap)..self.start
     }
 
     /// The width of an integer.
@@ -76,10 +84,11 @@ impl Entry {
 ///
 /// ```
 /// use sarridok::{entries, Entry, Kind, Width};
-/// let tape = [11, 9, 10, 5];
+/// let tape = [11, 9, 10, 5, 1];
 /// let integer = entries(&tape, 1).next().unwrap();
-/// assert_eq!(integer, Entry::new(Kind::Integer, 9..10, 5));
+/// assert_eq!(integer, Entry::new(Kind::Integer, 9..10, 5, 1));
 /// assert_eq!(integer.width(), Some(Width::U8));
+/// assert_eq!((integer.span(), integer.gap_span()), (9..10, 8..9));
 /// ```
 pub fn entries(tape: &[u32], count: usize) -> Entries<'_> {
     let numbers = count.saturating_mul(ENTRY).min(tape.len());

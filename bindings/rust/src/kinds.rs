@@ -120,7 +120,7 @@ pub struct Repaired {
     pub count: usize,
     /// How many old entries were kept before the change.
     pub before: usize,
-    /// How many were kept behind it, moved.
+    /// How many were kept behind it, moved. One that is kept has its old gap too: the first behind the change is not where more or fewer bytes stand before it now.
     pub behind: usize,
 }
 

@@ -60,8 +60,8 @@ pub const MAX_TEXT: usize = 65_536;
 /// The highest depth limit of a walk.
 pub const MAX_DEPTH: usize = 128;
 
-/// How many numbers of a tape an entry has: kind, start, end, detail. Later versions may have more.
-pub const ENTRY: usize = 4;
+/// How many numbers of a tape an entry has: kind, start, end, detail, gap. A tape has room for its length divided by it, rounded down. Later versions may have more.
+pub const ENTRY: usize = 5;
 
 /// The examples of the README are tests too.
 #[cfg(doctest)]

@@ -82,13 +82,83 @@ fn escapes_have_their_reasons() {
     let kind = struct_kind(br#"("\q")"#, 0, NewtypeMode::NoParensMeanUnit, TupleMode::DifferentiateNewtype);
     assert_eq!(kind.unwrap_err(), escape(UnknownLetter, 4));
     // No read gives the entry of such a string: the tape is made by hand.
-    let (closed, tape) = (br#"["\u{}"]"#, [Kind::String.number(), 1, 7, 1]);
+    let (closed, tape) = (br#"["\u{}"]"#, [Kind::String.number(), 1, 7, 1, 1]);
     assert_eq!(contents(closed, &tape, 1, 0).unwrap_err(), escape(NoDigits, 5));
     assert_eq!(decoded(closed, &tape, 1, 0, &mut [0]).unwrap_err(), escape(NoDigits, 5));
     let mut tape = [0; ENTRY];
     let mut document = Document::read(br#""a""#, &mut tape).unwrap();
     assert_eq!(document.repair(1..2, br#""\u41""#).unwrap_err(), escape(MissingOpenBrace, 3));
-    assert!(!checked_repair(br#"["a", 7]"#, 2..3, br"\xC3"));
+    assert_eq!(checked_repair(br#"["a", 7]"#, 2..3, br"\xC3"), None);
+}
+
+/// Blanks and comments before an entry are in its gap, by their bytes; neighbours have none, and what stands behind the last entry is in none.
+#[test]
+fn gaps_of_chosen_texts() {
+    for (text, gaps) in [
+        ("//ab\n7", &[5][..]),
+        ("Lock(id: 7)", &[0, 0, 0, 0, 1, 0]),
+        (" \t[7,/*é*/ 8 ] // x", &[2, 0, 0, 7, 1]),
+        ("#![enable(implicit_some)]\n\n(7)", &[0, 2, 0, 0]),
+        ("\u{2028}a\u{85}b", &[3, 2]),
+        ("/* /* */ */ // x", &[]),
+    ] {
+        let (tape, count) = checked_read(text.as_bytes()).unwrap();
+        let found: Vec<usize> = entries(&tape, count).map(|entry| entry.gap).collect();
+        assert_eq!(found, gaps, "{text}");
+    }
+}
+
+/// A gap that is not the distance is out of order for walk and repair, which write nothing, but only below the count; the other calls do not look at it.
+#[test]
+fn wrong_gaps() {
+    let (text, edit) = (br#"Lock(id: -7, name: "Foxton")"#, br#"Lock(id: 512, name: "Foxton")"#);
+    let (tape, count) = checked_read(text).unwrap();
+    for number in 0..count {
+        for off in [1, u32::MAX] {
+            let mut wrong = tape.clone();
+            let gap = &mut wrong[ENTRY * number + ENTRY - 1];
+            *gap = gap.wrapping_add(off);
+            let mut lent = wrong.clone();
+            let not_in_order = refused(Refusal::NotInOrder, 0);
+            assert_eq!(checked_walk(&wrong, count, MAX_DEPTH, count), Err(not_in_order));
+            assert_eq!(repair(&mut lent, count, text.len(), 9..11, edit), Err(not_in_order));
+            assert_eq!(lent, wrong);
+            checked_strings(text, &wrong, count);
+            assert_eq!(contents(text, &wrong, count, 8), Ok(&b"Foxton"[..]));
+            assert_ne!(checked_walk(&wrong, number, MAX_DEPTH, count), Err(not_in_order));
+        }
+    }
+}
+
+/// An entry right behind the change is kept only with the gap that it had.
+#[test]
+fn kept_with_their_gaps() {
+    for (old, cut, piece, before, behind) in [
+        ("[7, 8, 9]", 4..6, "/*8,*/", 3, 1),
+        ("[7, 8, 9]", 4..5, "5", 3, 3),
+        ("a b", 2..2, " ", 1, 0),
+        ("a b", 2..2, "", 1, 1),
+        ("a  b", 1..2, "", 0, 0),
+        (" 1", 0..1, "", 0, 0),
+        ("1", 0..0, " ", 0, 0),
+        ("ab c", 0..1, "", 0, 1),
+    ] {
+        let repaired = checked_repair(old.as_bytes(), cut, piece.as_bytes()).unwrap();
+        assert_eq!((repaired.before, repaired.behind), (before, behind), "{old}, {piece}");
+    }
+}
+
+/// A tape has room for its length divided by `ENTRY`, rounded down.
+#[test]
+fn room_of_every_length() {
+    for len in 0..=3 * ENTRY {
+        let fits = 2 * ENTRY <= len;
+        let mut tape = vec![0; len];
+        let read = read(b"[]", &mut tape);
+        assert_eq!(read, if fits { Ok(2) } else { Err(refused(Refusal::NoRoom, 0)) }, "{len}");
+        let walked = checked_walk(&tape, 2, MAX_DEPTH, 2).map(|_| ());
+        assert_eq!(walked, if fits { Ok(()) } else { Err(refused(Refusal::NotInOrder, 0)) }, "{len}");
+    }
 }
 
 #[test]

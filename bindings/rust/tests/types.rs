@@ -100,10 +100,23 @@ fn details_of_entries() {
     );
 }
 
+/// What stands before an entry, by its number of bytes and as a part of the text.
+#[test]
+fn gaps_of_entries() {
+    let mut tape = [0; ENTRY * 8];
+    let document = Document::read(b" [7, /* 8, */ 9] // x", &mut tape).unwrap();
+    let gaps: Vec<usize> = document.entries().map(|entry| entry.gap).collect();
+    assert_eq!(gaps, [1, 0, 0, 10, 0]);
+    assert_eq!(document.entry(3), Some(Entry::new(Kind::Integer, 14..15, Width::U8.number(), 10)));
+    assert_eq!(document.entry(3).unwrap().gap_span(), 4..14);
+    assert_eq!(document.gap_of(3), Some(&b" /* 8, */ "[..]));
+    assert_eq!((document.gap_of(4), document.gap_of(5)), (Some(&b""[..]), None));
+}
+
 /// Parts that do not belong together are refused or have no entry; nothing panics.
 #[test]
 fn parts_of_no_document() {
-    let mut tape = [9, 0, 90, 0, 77, 0, 1, 0, 11, 0, 1, 9];
+    let mut tape = [[9, 0, 90, 0, 0], [77, 0, 1, 0, 0], [11, 0, 1, 9, 0]].concat();
     let mut document = Document::from_parts(b"7", &mut tape, usize::MAX);
     let mut entries = document.entries();
     assert!(entries.next().is_some() && entries.next().is_none() && entries.next().is_none());
@@ -119,13 +132,15 @@ fn parts_of_no_document() {
     assert_eq!(document.walk(MAX_DEPTH, &mut []).unwrap_err().refusal, Refusal::NotInOrder);
     assert_eq!(document.repair(0..1, b"8").unwrap_err().refusal, Refusal::NotInOrder);
     let (text, tape, count) = document.into_parts();
-    assert_eq!((text, tape.len(), count), (&b"7"[..], 12, usize::MAX));
+    assert_eq!((text, tape.len(), count), (&b"7"[..], ENTRY * 3, usize::MAX));
+    let entry = Entry::new(Kind::Name, 2..3, 0, usize::MAX);
+    assert_eq!(entry.gap_span(), 0..2);
 }
 
 /// What stands behind the count is no entry, though it looks like one.
 #[test]
 fn entries_end_at_the_count() {
-    let mut tape = [9, 0, 1, 0, 9, 2, 3, 0];
+    let mut tape = [9, 0, 1, 0, 0, 9, 2, 3, 0, 1];
     let document = Document::from_parts(b"a b", &mut tape, 1);
     assert_eq!(document.entries().count(), 1);
     assert_eq!((document.text_of(0), document.entry(1)), (Some(&b"a"[..]), None));

@@ -184,8 +184,8 @@ fn run(
 fn lend(
     buf: &mut [u8; 3200001],
     text: &mut [u8; 1600000],
-    tape: &mut [u32; 262160],
-    links: &mut [u32; 262160],
+    tape: &mut [u32; 327696],
+    links: &mut [u32; 327696],
     spare: &mut [u8; 65552],
     o: &mut [u8; 65536],
 ) {
@@ -197,8 +197,8 @@ fn lend(
 fn main() {
     let mut buf = [0u8; 3200001];
     let mut text = [0u8; 1600000];
-    let mut tape = [0u32; 262160];
-    let mut links = [0u32; 262160];
+    let mut tape = [0u32; 327696];
+    let mut links = [0u32; 327696];
     let mut spare = [0u8; 65552];
     let mut o = [0u8; 65536];
     lend(

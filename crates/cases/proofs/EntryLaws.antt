@@ -43,7 +43,7 @@ module _ (words text spare : List ℕ) where
 
   -- what a decoding into the spare bytes says of one entry
   abbrev pub entryIn : ℕ → ℕ → List ℕ → List ℕ × List ℕ
-  entryIn kind start s = contentsIn s (kind ∷ start ∷ 0 ∷ 0 ∷ []) (asked 0 1 (2 ^ 64 - 1)) spare
+  entryIn kind start s = contentsIn s (kind ∷ start ∷ 0 ∷ 0 ∷ 0 ∷ []) (asked 0 1 (2 ^ 64 - 1)) spare
 
   abbrev ownOf : ℕ → ℕ → List ℕ → Three
   ownOf kind start s = (entryIn kind start s .0, left, entryIn kind start s .1)

@@ -68,7 +68,7 @@ contentsLine words text spare =
     bySmall (smallOf (firstWord two)) (badText, text, spare) (λ start.
     let left = over (pairs three) text in
     byBytes three (length text) (badText, left, spare) (λ s.
-    let both = contentsIn s (kind ∷ start ∷ 0 ∷ 0 ∷ []) (asked 0 1 (2 ^ 64 - 1)) spare in
+    let both = contentsIn s (kind ∷ start ∷ 0 ∷ 0 ∷ 0 ∷ []) (asked 0 1 (2 ^ 64 - 1)) spare in
     (both .0, left, both .1))))
 
 -- What the first three words of `C` say.

@@ -28,7 +28,7 @@ pub fn answer(words: &[u8], text: &mut [u8], spare: &mut [u8], o: &mut [u8], at:
     let Hex::Bytes(n) = last else {
         return show::bad(o, at);
     };
-    let tape = [kind, start, 0, 0];
+    let tape = [kind, start, 0, 0, 0];
     let q = Asked {
         entry: 0,
         count: 1,

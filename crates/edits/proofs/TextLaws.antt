@@ -39,11 +39,11 @@ module _ (n m k : ℕ) (e : k ≡ max n m) where
   unfolding changedOf
   changed-none h = sym (rw (lt-leb (max n m) 65536 (omega (arith, e))) refl)
 
-  pub room-some : k < 65536 → 4 * k + 16 ≡ roomFor n m
+  pub room-some : k < 65536 → width * k + 16 ≡ roomFor n m
   unfolding roomFor
   room-some h = omega (arith, e)
 
-  pub room-most : 65536 ≤ k → 262160 ≡ roomFor n m
+  pub room-most : 65536 ≤ k → width * 65536 + 16 ≡ roomFor n m
   unfolding roomFor
   room-most h = omega (arith, e)
 

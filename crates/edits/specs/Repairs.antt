@@ -113,7 +113,7 @@ readRepair old new a b tape aside =
 
 -- As many numbers as either text can fill, and a few behind them.
 unfoldable pub roomFor : ℕ → ℕ → ℕ
-roomFor n m = 4 * min (max n m) 65536 + 16
+roomFor n m = width * min (max n m) 65536 + 16
 
 -- The same with so many numbers, or all that are there.
 unfoldable pub editIn : List ℕ → List ℕ → ℕ → ℕ → List ℕ → List ℕ → List ℕ × List ℕ × List ℕ

@@ -127,9 +127,9 @@ fn room(n: usize, m: usize) -> usize
 {
     let longer = most(n, m);
     if longer < 65536 {
-        return 4 * longer + 16;
+        return row::begins(longer) + 16;
     }
-    262160
+    row::begins(65536) + 16
 }
 
 fn lent_to(

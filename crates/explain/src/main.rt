@@ -67,17 +67,17 @@ fn print(text: &mut [u8], tape: &mut [u32], links: &mut [u32], o: &mut [u8]) {
 // The arrays are lent as arrays first: then no proof computes their lengths.
 fn lend(
     text: &mut [u8; 65537],
-    tape: &mut [u32; 262144],
+    tape: &mut [u32; 327680],
     links: &mut [u32; 65536],
     o: &mut [u8; 16384],
 ) {
     print(text, tape, links, o);
 }
 
-// A text has at most an entry for each byte, so the tape has room for all; with the links, about 1.4 MB of stack.
+// A text has at most an entry for each byte, so the tape has room for all; with the links, about 1.7 MB of stack.
 fn main() {
     let mut text = [0u8; 65537];
-    let mut tape = [0u32; 262144];
+    let mut tape = [0u32; 327680];
     let mut links = [0u32; 65536];
     let mut o = [0u8; 16384];
     lend(&mut text, &mut tape, &mut links, &mut o);

@@ -45,7 +45,7 @@ scan : (old : List Entry) (b e n : ℕ) (r : Reading) → Inner-reading r → In
 unfolding scanOf
 scan old b e n complete h = tt
 scan old b e n (broken r) h = h
-scan old b e n (entry x r) h = both Inner-scan (joins old b e (x .start) (seekOf old b e (x .start))) tt (scan old b e (n + 1) r h)
+scan old b e n (entry x r) h = both Inner-scan (joins old b e (x .gap) (x .start) (seekOf old b e (x .start))) tt (scan old b e (n + 1) r h)
 
 answer-by : (room count j : ℕ) (a : Scan) → Inner-scan a → Own-told (answerBy room count j a)
 unfolding within

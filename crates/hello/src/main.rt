@@ -16,7 +16,7 @@ fn entries(text: &[u8], tape: &mut [u32], links: &mut [u32]) -> usize {
 }
 
 fn main() {
-    let mut tape = [0u32; 64];
+    let mut tape = [0u32; 80];
     let mut links = [0u32; 16];
     let n = entries(b"Lock(id: 7)", &mut tape, &mut links);
     let mut o = [0u8; 32];

@@ -1,6 +1,6 @@
 -- The mission's third demand: a repair of the tape of an old text answers what a fresh reading of the new text answers, and leaves its entries. Assumes
 -- nothing.
-use Prim.Native.Nat.{ℕ, _+_, _-_}
+use Prim.Native.Nat.{ℕ, suc, _+_, _-_, _≤_}
 use native.Mathlib.Omega.{arith}
 use mathlib.Core.Bool.{Bool, true, false, cond}
 use mathlib.Core.List.{List}
@@ -11,10 +11,13 @@ use Rattle.text.specs.Refusals.{Told, accepted, refused, noRoom, notInOrder}
 use Rattle.text.specs.declared.refusal.Refusal.{Refusal}
 use Rattle.rows.specs.Rows.{roomOf, entriesOf, laid}
 use Rattle.rows.specs.declared.Entry.{Entry}
-use Rattle.reading.proofs.Entries.{counted-complete, entries-complete}
+use Rattle.reading.proofs.Entries.{counted-accepted, counted-complete, entries-complete, read-in-order}
+use Rattle.reading.proofs.FallsByOne.{falls-by-one}
 use Rattle.reading.specs.Owed.{quietByte}
-use Rattle.reading.specs.Kept.{keptBefore, keptBehind}
-use Rattle.reading.specs.Readings.{counted, entries}
+use Rattle.reading.specs.Kept.{KeptThere, keptBefore, keptBehind}
+use Rattle.reading.specs.Readings.{complete, counted, entries}
+use Rattle.tokens.proofs.RonLaws.{kinds, laws}
+use Rattle.tokens.specs.Ron.{ronToken}
 use Rattle.read.specs.Read.{fitted, readAnswer, readingOf, roomFor}
 use Rattle.read.proofs.ReadLaws.{read-fit, read-refused}
 use Rattle.text.specs.Judged.{judgedOf}
@@ -124,7 +127,8 @@ module _ (old tape : List ℕ) (count a b e : ℕ) (new : List ℕ) (O : OldText
       go (Failed d) h = both-refused d h
       go (Found m i) h = by-room m i h (ltb room (together m i h)) refl
 
-  -- and what is kept behind reaches from the first new entry, at or behind the new bytes' end, that starts where a moved old entry starts, to the last
+  -- and what is kept behind reaches from the first new entry, at or behind the new bytes' end, that starts where a moved old entry starts, and whose gap agrees,
+  -- to the last
   pub reaches : (n : ℕ) → counted 0 (readingOf new) ≡ accepted n
       → keptBehind (length old) (length new) e (entriesOf count tape) (entries (readingOf new)) ≡ reaching (length old) (length new) e (entriesOf count tape) (entries (readingOf new))
   reaches n h = go found refl
@@ -135,6 +139,16 @@ module _ (old tape : List ℕ) (count a b e : ℕ) (new : List ℕ) (O : OldText
           let y : _≡_ {A = ℕ} 0 1 = cc in
           absurd (omega arith)
       go (Found m i) g = let w = whole old tape count a b e new O m i g in w .kept ∙ sym (w .reach)
+
+  -- no k that meets document 01's words, which know of no gap, is more than one above it
+  pub falls : (n : ℕ) → counted 0 (readingOf new) ≡ accepted n → (k : ℕ) → KeptThere (length old) (length new) e (entriesOf count tape) (entries (readingOf new)) k
+      → k ≤ suc (keptBehind (length old) (length new) e (entriesOf count tape) (entries (readingOf new)))
+  falls n h k t =
+      let now : List Entry = entries (readingOf new) in
+      falls-by-one o (length new) e was now (0 + o) (0 + length new) k
+      (read-in-order ronToken quietByte laws kinds was 0 old complete (O .holds))
+      (read-in-order ronToken quietByte laws kinds now 0 new complete (counted-accepted (readingOf new) 0 n h .reading-is))
+      t
 
   -- ---- the calls: 1 and 2 come first in both
   abbrev CallsAlike : Type 0

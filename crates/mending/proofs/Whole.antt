@@ -57,7 +57,7 @@ moved-alike o n b e (x ∷ l) h k =
     let s : x .start + e - b ≡ x .start + n - o = omega arith in
     let t : x .end + e - b ≡ x .end + n - o = omega arith in
     ap₂ {B = List Entry} {C = List Entry} (λ (y : Entry) (z : List Entry). y ∷ z)
-    (ap₂ (λ (u v : ℕ). record { kind = x .kind; start = u; end = v; detail = x .detail }) s t) (moved-alike o n b e l h k)
+    (ap₂ (λ (u v : ℕ). record { kind = x .kind; start = u; end = v; detail = x .detail; gap = x .gap }) s t) (moved-alike o n b e l h k)
 
 entries-front : (ns : List Entry) (r : Reading) (m : ℕ) → m ≡ length ns → take m (entries (ns ▸ r)) ≡ ns
 unfolding entries
@@ -132,7 +132,7 @@ module _ (old tape : List ℕ) (count a b e : ℕ) (new : List ℕ) (O : OldText
       let first : q ≤ getD was j noEntry .end =
       subst (λ (k : ℕ). q ≤ getD was k noEntry .end) (sym j-is) (ltb-false (getD was (leading (endsBefore q) was) noEntry .end) q (lead-not (endsBefore q) was (omega (arith, j-is)))) in
       either (lt-or-le j i)
-      (λ u. omega (arith, first, in-order-rise was 0 o sorted j i noEntry u l, in-order-row was 0 o sorted i noEntry l .orderly-there .some))
+      (λ u. omega (arith, first, in-order-rise was 0 o sorted j i noEntry u l, in-order-row was 0 o sorted i noEntry l .some))
       (λ u. let z : j ≡ i = omega arith in subst (λ (k : ℕ). q ≤ getD was k noEntry .end) z first)
 
   all-early : All (λ x. x .end < q) (take j was)
@@ -157,7 +157,7 @@ module _ (old tape : List ℕ) (count a b e : ℕ) (new : List ℕ) (O : OldText
   front-apart : All (Apart o n e was) (take j was)
   front-apart = all-take (Apart o n e was) was j j-le (λ i h at.
       let l : i < length was = omega (arith, j-le) in
-      absurd (omega (arith, early i h, q-le, R .bytes, in-order-row was 0 o sorted i noEntry l .orderly-there .some)))
+      absurd (omega (arith, early i h, q-le, R .bytes, in-order-row was 0 o sorted i noEntry l .some)))
 
   from-front : (ns : List Entry) (r : Reading) → readFrom ronToken new P ≡ ns ▸ r → readingOf new ≡ (take j was ++ ns) ▸ r
   from-front ns r h = goes-on ∙ ap (λ (x : Reading). take j was ▸ x) h ∙ sym (▸-append (take j was) ns r)
@@ -226,9 +226,9 @@ module _ (old tape : List ℕ) (count a b e : ℕ) (new : List ℕ) (O : OldText
         }
 
     at-join : (ns : List Entry) (x : Entry) (r : Reading) → readFrom ronToken new P ≡ ns ▸ entry x r → m ≡ length ns → All (Apart o n e was) ns
-        → e ≤ x .start → i < length was → getD was i noEntry .start + e ≡ x .start + b → Whole
+        → e ≤ x .start → i < length was → getD was i noEntry .start + e ≡ x .start + b → getD was i noEntry .gap ≡ x .gap → Whole
     unfolding leading
-    at-join ns x r h em al at lt eq =
+    at-join ns x r h em al at lt eq g =
         let y : Entry = getD was i noEntry in
         let ks : List Entry = drop (suc i) was in
         let dk : drop i was ≡ y ∷ ks = drop-cons was i noEntry lt in
@@ -237,11 +237,11 @@ module _ (old tape : List ℕ) (count a b e : ℕ) (new : List ℕ) (O : OldText
         let now : readPart ronToken 0 new ≡ (take j was ++ ns) ▸ entry x r = from-front ns (entry x r) h in
         let mt : x .start + length old ≡ y .start + length new = omega (arith, same) in
         let fa = all-append (Apart o n e was) (take j was) ns front-apart al in
-        let jn = joined ronToken quietByte laws old new a b e R (take i was) ks (take j was ++ ns) y x r held now at mt in
-        let jk = joined-kept ronToken quietByte laws old new a b e R (take i was) ks (take j was ++ ns) y x r held now at mt (subst (λ (l : List Entry). All (Apart o n e l) (take j was ++ ns)) split fa) in
+        let jn = joined ronToken quietByte laws old new a b e R (take i was) ks (take j was ++ ns) y x r held now at mt (sym g) in
+        let jk = joined-kept ronToken quietByte laws old new a b e R (take i was) ks (take j was ++ ns) y x r held now at mt (sym g) (subst (λ (l : List Entry). All (Apart o n e l) (take j was ++ ns)) split fa) in
         let tl : map (move o n) (y ∷ ks) ≡ tail = ap (map (move o n)) (sym dk) in
         let cnt : suc (length ks) ≡ count - i = omega (arith, length-drop (suc i) was, length-entries count tape) in
-        let first-off : leading (apart o n e was) (map (move o n) (y ∷ ks)) ≡ 0 = rw (apart-false o n e was (move o n y) i (omega (arith, mt, at)) lt (omega (arith, mt))) in
+        let first-off : leading (apart o n e was) (map (move o n) (y ∷ ks)) ≡ 0 = rw (apart-false o n e was (move o n y) i (omega (arith, mt, at)) lt (omega (arith, mt)) refl) in
         record {
           all = take j was ++ (ns ++ tail);
           reading-is = jn ∙ ap (λ (l : List Entry). (take j was ++ ns ++ l) ▸ complete) tl ∙ ap (λ (l : List Entry). l ▸ complete) (append-assoc (take j was) ns tail);
@@ -256,4 +256,4 @@ module _ (old tape : List ℕ) (count a b e : ℕ) (new : List ℕ) (O : OldText
       where
         go : Joined was o n b e sorted same (readFrom ronToken new P) 0 m i → Whole
         go (ends ns h em ei al) = at-end ns h (omega arith) ei al
-        go (meets ns x r h em al at lt eq) = at-join ns x r h (omega arith) al at lt eq
+        go (meets ns x r h em al at lt eq g) = at-join ns x r h (omega arith) al at lt eq g

@@ -1,4 +1,4 @@
--- The worked repair of document 01, computed from the definitions: `[7, 8, 9]`, cut 4 to 6, new bytes `/*8,*/`: accepted, kept 3 and 2. Assumes nothing.
+-- The worked repair of document 01, computed from the definitions: `[7, 8, 9]`, cut 4 to 6, new bytes `/*8,*/`: accepted, kept 3 and, since the 9 has another gap, 1. Assumes nothing.
 use Prim.Native.Nat.{ℕ}
 use mathlib.Core.List.{List, [], _∷_}
 use mathlib.Core.Path.{_≡_, refl}
@@ -35,7 +35,7 @@ list = 0x5b ∷ 0x37 ∷ 0x2c ∷ 0x20 ∷ 0x38 ∷ 0x2c ∷ 0x20 ∷ 0x39 ∷ 0
 
 abbrev tape : List ℕ
 tape =
-    3 ∷ 0 ∷ 1 ∷ 0 ∷ 11 ∷ 1 ∷ 2 ∷ 5 ∷ 7 ∷ 2 ∷ 3 ∷ 0 ∷ 11 ∷ 4 ∷ 5 ∷ 5 ∷ 7 ∷ 5 ∷ 6 ∷ 0 ∷ 11 ∷ 7 ∷ 8 ∷ 5 ∷ 4 ∷ 8 ∷ 9 ∷ 0 ∷ 1 ∷ 2 ∷ 3 ∷ 4 ∷ []
+    3 ∷ 0 ∷ 1 ∷ 0 ∷ 0 ∷ 11 ∷ 1 ∷ 2 ∷ 5 ∷ 0 ∷ 7 ∷ 2 ∷ 3 ∷ 0 ∷ 0 ∷ 11 ∷ 4 ∷ 5 ∷ 5 ∷ 1 ∷ 7 ∷ 5 ∷ 6 ∷ 0 ∷ 0 ∷ 11 ∷ 7 ∷ 8 ∷ 5 ∷ 1 ∷ 4 ∷ 8 ∷ 9 ∷ 0 ∷ 0 ∷ 1 ∷ 2 ∷ 3 ∷ 4 ∷ 5 ∷ []
 
 holds : readingOf list ≡ entriesOf 7 tape ▸ complete
 unfolding place tokensFrom ronToken gapOf gapFrom itemOf commentOf behindSlash blankWidth blank1 blank2 blank3 within run run2 tokenOf shapeOf markKind startsNumber behindB behindR numberOf floatAhead floatGoes floatChar digit hexDigit intChar letter anyOf numeralOf frontOf signOf prefixOf hexOf digitsFrom runOf turnOf firstFit limitAt suffixOf suffixWord widthAt firstOf identOf startsWith entriesOf
@@ -46,13 +46,14 @@ holds = refl
 abbrev changed : List ℕ
 changed = 0x5b ∷ 0x37 ∷ 0x2c ∷ 0x20 ∷ 0x2f ∷ 0x2a ∷ 0x38 ∷ 0x2c ∷ 0x2a ∷ 0x2f ∷ 0x20 ∷ 0x39 ∷ 0x5d ∷ []
 
--- five entries, three of them kept before and two behind
-pub worked : repairAnswerOf tape 7 9 4 6 changed ≡ accepted (record { count = 5; before = 3; behind = 2 })
+-- five entries, three of them kept before and one behind
+pub worked : repairAnswerOf tape 7 9 4 6 changed ≡ accepted (record { count = 5; before = 3; behind = 1 })
 unfolding repairAnswerOf repairFits cutFits leading joins scanOf inOrder inOrderFrom orderly lastQuiet quietByte endOf place tokensFrom ronToken gapOf gapFrom itemOf commentOf behindSlash blockEnd blockFrom markOf blankWidth blank1 blank2 blank3 within run run2 tokenOf shapeOf markKind startsNumber behindB behindR numberOf floatAhead floatGoes floatChar digit hexDigit intChar letter anyOf numeralOf frontOf signOf prefixOf hexOf digitsFrom runOf turnOf firstFit limitAt suffixOf suffixWord widthAt firstOf identOf startsWith entriesOf
 worked = refl
 
 -- zeros up to the old count, and beyond it what stood there
-pub worked-tape : repairTapeOf tape 7 9 4 6 changed ≡ 3 ∷ 0 ∷ 1 ∷ 0 ∷ 11 ∷ 1 ∷ 2 ∷ 5 ∷ 7 ∷ 2 ∷ 3 ∷ 0 ∷ 11 ∷ 11 ∷ 12 ∷ 5 ∷ 4 ∷ 12 ∷ 13 ∷ 0 ∷ 0 ∷ 0 ∷ 0 ∷ 0 ∷ 0 ∷ 0 ∷ 0 ∷ 0 ∷ 1 ∷ 2 ∷ 3 ∷ 4 ∷ []
+pub worked-tape : repairTapeOf tape 7 9 4 6 changed ≡
+    3 ∷ 0 ∷ 1 ∷ 0 ∷ 0 ∷ 11 ∷ 1 ∷ 2 ∷ 5 ∷ 0 ∷ 7 ∷ 2 ∷ 3 ∷ 0 ∷ 0 ∷ 11 ∷ 11 ∷ 12 ∷ 5 ∷ 8 ∷ 4 ∷ 12 ∷ 13 ∷ 0 ∷ 0 ∷ 0 ∷ 0 ∷ 0 ∷ 0 ∷ 0 ∷ 0 ∷ 0 ∷ 0 ∷ 0 ∷ 0 ∷ 1 ∷ 2 ∷ 3 ∷ 4 ∷ 5 ∷ []
 unfolding repairTapeOf repairAnswerOf cleared laid flat entries repairFits cutFits leading joins scanOf inOrder inOrderFrom orderly lastQuiet quietByte endOf place tokensFrom ronToken gapOf gapFrom itemOf commentOf behindSlash blockEnd blockFrom markOf blankWidth blank1 blank2 blank3 within run run2 tokenOf shapeOf markKind startsNumber behindB behindR numberOf floatAhead floatGoes floatChar digit hexDigit intChar letter anyOf numeralOf frontOf signOf prefixOf hexOf digitsFrom runOf turnOf firstFit limitAt suffixOf suffixWord widthAt firstOf identOf startsWith entriesOf
 worked-tape = refl
 

@@ -1,6 +1,7 @@
 -- The mission's third demand: for every old text whose accepted reading the tape holds, and every new text that differs in one run of bytes, a repair
 -- answers as a fresh reading of the new text with the same room does. Document 01: "Shown with it: k reaches from the first new entry, at or behind the
--- new bytes' end, that starts where a moved old entry starts, to the last; if none does, k is 0."
+-- new bytes' end, that starts where a moved old entry starts, to the last; if none does, k is 0." Document 02, CR 6: "the first new entry is then the
+-- first whose gap agrees too".
 use Prim.Native.Nat.{ℕ, _+_, _-_, _≤_}
 use mathlib.Core.Path.{_≡_}
 use mathlib.Core.Bool.{Bool, false, not, _&&_, _||_}
@@ -58,10 +59,10 @@ freshCallTape tape count new = freshBy (readAnswer new (length tape)) tape count
 
 -- ---- the sentence shown with the count
 
--- A moved old entry starts where x does, the old text having o bytes and the new one n.
+-- A moved old entry starts where x does, and its gap agrees, the old text having o bytes and the new one n.
 unfoldable pub startsMoved : ℕ → ℕ → List Entry → Entry → Bool
 startsMoved o n [] x = false
-startsMoved o n (y ∷ ys) x = eqb (x .start + o) (y .start + n) || startsMoved o n ys x
+startsMoved o n (y ∷ ys) x = (eqb (x .start + o) (y .start + n) && eqb (x .gap) (y .gap)) || startsMoved o n ys x
 
 -- x does not start so, at e or behind it.
 abbrev pub apart : ℕ → ℕ → ℕ → List Entry → Entry → Bool

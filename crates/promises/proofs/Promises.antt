@@ -24,9 +24,10 @@ use Rattle.fronts.proofs.Texts as texts-front
 use Rattle.given.specs.Given.{Given}
 use Rattle.given.proofs.Calls.{never-three}
 use Rattle.given.proofs.Calls as calls
+use Rattle.worked.specs.Gaps.{gapTexts}
 use Rattle.worked.specs.Reasons.{reasonTexts}
 use Rattle.worked.specs.Texts.{AllHold, texts}
-use Rattle.worked.proofs.Worked.{worked, worked-reasons}
+use Rattle.worked.proofs.Worked.{worked, worked-gaps, worked-reasons}
 
 -- ---- the front of every call with a text
 
@@ -83,3 +84,7 @@ texts-hold = worked
 -- Those of change request 1: each of the eight reasons is given by a text, and typed integer, decoded, struct kind and repair hand one on.
 pub reasons-hold : AllHold reasonTexts
 reasons-hold = worked-reasons
+
+-- Those of change request 6: gaps as they are read, kept behind where a gap changes, and 23 where one is no distance.
+pub gaps-hold : AllHold gapTexts
+gaps-hold = worked-gaps

@@ -48,8 +48,8 @@ use Rattle.shutout.proofs.ShutReaders as readers
 
 -- ---- what it reads
 
--- The entries of an accepted read and the gaps between them tile the text: gap, entry, gap, .. to the end, and each entry's bytes have the form of its
--- kind and detail.
+-- The entries of an accepted read and the gaps between them tile the text: gap, entry, gap, .. to the end, each gap as long as its entry says, and each entry's
+-- bytes have the form of its kind and detail.
 pub read-tiles : (text tape : List ℕ) (n : ℕ) → readAnswer text (length tape) ≡ accepted n → Tiles text 0 (entriesOf n (readTape text tape))
 read-tiles = tiles.read-tiles
 
@@ -125,7 +125,7 @@ raw-name-written = raw-agrees
 
 -- A character above U+007F, behind a gap, that starts a name is read as one; one that starts nothing is 5 at its place.
 pub name-read : (c : ℕ) (t : List ℕ) → Scalar c → 0x80 ≤ c → (text : List ℕ) (at g : ℕ) → gapOf (drop at text) ≡ Clear g → drop g (drop at text) ≡ encode c ++ t → xidStart c ≡ true
-    → (n : ℕ) × IsName (encode c ++ t) n × (readFrom ronToken text at ≡ then (record { kind = 9; start = at + g; end = at + (g + n); detail = 0 }) (readFrom ronToken text (at + (g + n))))
+    → (n : ℕ) × IsName (encode c ++ t) n × (readFrom ronToken text at ≡ then (record { kind = 9; start = at + g; end = at + (g + n); detail = 0; gap = g }) (readFrom ronToken text (at + (g + n))))
 name-read = starts-name
 
 pub nothing-read : (c : ℕ) (t : List ℕ) → Scalar c → 0x80 ≤ c → (text : List ℕ) (at g : ℕ) → gapOf (drop at text) ≡ Clear g → drop g (drop at text) ≡ encode c ++ t → (es : List Entry) (numbers : ℕ)

@@ -1,5 +1,5 @@
 -- What is promised of `repair`. Each line is a theorem's statement; its proof only says where it is proved. Assumes nothing.
-use Prim.Native.Nat.{ℕ, _<_, _≤_}
+use Prim.Native.Nat.{ℕ, suc, _<_, _≤_}
 use mathlib.Core.List.{List}
 use mathlib.Core.Path.{_≡_, refl}
 use lib.ListN.{length}
@@ -9,7 +9,8 @@ use Rattle.text.specs.declared.judge.Judged.{Judged}
 use Rattle.text.specs.declared.judge.Judged.the-variants.{Fit, Refused as NotFit}
 use Rattle.text.specs.declared.refusal.Refusal.{Refusal}
 use Rattle.rows.specs.Rows.{entriesOf, entryAt}
-use Rattle.reading.specs.Kept.{Replaced, keptBefore, keptBehind}
+use Rattle.reading.specs.Kept.{KeptThere, Replaced, keptBefore, keptBehind}
+use Rattle.reading.proofs.FallsByOne.{kept-there}
 use Rattle.reading.specs.Owed.{Laws, quietByte}
 use Rattle.reading.specs.Readings.{counted, entries}
 use Rattle.tokens.specs.Ron.{ronToken}
@@ -19,7 +20,7 @@ use Rattle.repair.specs.Repair.{Repaired, repairAnswerOf, repairOf, repairTapeO
 use Rattle.repair.specs.declared.repairer.RepairAnswer.{RepairAnswer}
 use Rattle.repair.specs.declared.repairer.RepairAnswer.the-variants.{Repaired as Mended}
 use Rattle.mending.specs.Fresh.{OldText, freshCall, freshCallTape, reaching}
-use Rattle.mending.proofs.Demand3.{demand3-call, reaches}
+use Rattle.mending.proofs.Demand3.{demand3-call, falls, reaches}
 use Rattle.mended.specs.Mended.{AsRead, Left}
 use Rattle.mended.proofs.Mends.{repairs-as-read}
 use Rattle.reread.specs.Strings.{IsString}
@@ -46,10 +47,19 @@ module _ (old tape : List ℕ) (count a b e : ℕ) (new : List ℕ) (O : OldText
   pub repair-fresh : (repairOf tape count (length old) a b new ≡ freshCall old tape count a e new) × (repairedTape tape count (length old) a b new ≡ freshCallTape tape count new)
   repair-fresh = demand3-call old tape count a b e new O
 
-  -- Kept behind reaches from the first new entry, at or behind the new bytes' end, that starts where a moved old entry starts, to the last.
+  -- Kept behind reaches from the first new entry, at or behind the new bytes' end, that starts where a moved old entry starts, and whose gap agrees, to the
+  -- last.
   pub repair-reaches : (n : ℕ) → counted 0 (readingOf new) ≡ accepted n
       → keptBehind (length old) (length new) e (entriesOf count tape) (entries (readingOf new)) ≡ reaching (length old) (length new) e (entriesOf count tape) (entries (readingOf new))
   repair-reaches n h = reaches old tape count a b e new O n h
+
+  -- It is a k that document 01's words allow, which know of no gap, and none that they allow is more than one above it.
+  pub repair-keeps-there : KeptThere (length old) (length new) e (entriesOf count tape) (entries (readingOf new)) (keptBehind (length old) (length new) e (entriesOf count tape) (entries (readingOf new)))
+  repair-keeps-there = kept-there (length old) (length new) e (entriesOf count tape) (entries (readingOf new))
+
+  pub repair-falls-by-one : (n : ℕ) → counted 0 (readingOf new) ≡ accepted n → (k : ℕ) → KeptThere (length old) (length new) e (entriesOf count tape) (entries (readingOf new)) k
+      → k ≤ suc (keptBehind (length old) (length new) e (entriesOf count tape) (entries (readingOf new)))
+  repair-falls-by-one n h k t = falls old tape count a b e new O n h k t
 
   -- The strings of an accepted repair can be decoded as those of a read.
   pub repair-decodes : (p : Repaired) → repairOf tape count (length old) a b new ≡ accepted p → (k room : ℕ) → k < p .count

@@ -10,12 +10,13 @@ use Rattle.text.specs.Classes.{blank1}
 use Rattle.text.specs.Refusals.{placedBehind}
 use Rattle.text.specs.Runs.{run}
 use Rattle.text.specs.declared.refusal.Refusal.{Refusal}
-use Rattle.plain.proofs.PlainBlanks.{from-blanks}
+use Rattle.plain.proofs.PlainBlanks.{from-blanks, widened}
 use Rattle.plain.proofs.PlainLaws.{plain-token}
 use Rattle.plain.specs.inner.Plain.{plainOf}
 use Rattle.reading.proofs.Steps.{from-token, from-stop, from-refuse}
 use Rattle.reading.specs.Owed.{quietByte}
-use Rattle.reading.specs.Readings.{broken, complete, entry, readFrom}
+use Rattle.reading.specs.Readings.{Reading, broken, complete, entry, readFrom}
+use Rattle.rows.specs.declared.Entry.{Entry}
 use Rattle.reading.specs.Tokens.{Token as Answered, token}
 use Rattle.tokens.proofs.RonLaws.{laws, lexed, refused-within}
 use Rattle.tokens.specs.Ron.{answerOf, ronToken}
@@ -32,11 +33,11 @@ module _ (text : List ℕ) (at : ℕ) (f : Following) (h : answerOf f ≡ ronTok
   here = sym (h ∙ ap ronToken (tail-part text at))
 
   module _ (g : ℕ) (l : Lexeme) (e : f ≡ Token g l) where
-    pub step-token : readFrom ronToken text at ≡ entry (record { kind = l .kind; start = at + g; end = at + g + l .len; detail = l .detail }) (readFrom ronToken text (at + g + l .len))
+    pub step-token : readFrom ronToken text at ≡ entry (record { kind = l .kind; start = at + g; end = at + g + l .len; detail = l .detail; gap = g }) (readFrom ronToken text (at + g + l .len))
     step-token =
         let z : at + (g + l .len) ≡ at + g + l .len = omega arith in
         from-token ronToken quietByte laws text at (tokenAt g l) (here ∙ ap answerOf e)
-        ∙ ap (λ (n : ℕ). entry (record { kind = l .kind; start = at + g; end = n; detail = l .detail }) (readFrom ronToken text n)) z
+        ∙ ap (λ (n : ℕ). entry (record { kind = l .kind; start = at + g; end = n; detail = l .detail; gap = g }) (readFrom ronToken text n)) z
 
     pub step-within : (0 < l .len) × (at + g + l .len ≤ length text) × (l .detail < length text + 0x110000)
     step-within =
@@ -61,12 +62,12 @@ module _ (text : List ℕ) (at : ℕ) (l : Lexeme) (e : l ≡ plainOf (take (len
       let is : l ≡ plainOf (drop at text) = e ∙ ap plainOf (tail-part text at) in
       subst (λ (x : Lexeme). 0 < x .len → ronToken (drop at text) ≡ token (tokenAt 0 x)) (sym is) (plain-token (drop at text)) h
 
-  pub step-plain : readFrom ronToken text at ≡ entry (record { kind = l .kind; start = at; end = at + l .len; detail = l .detail }) (readFrom ronToken text (at + l .len))
+  pub step-plain : readFrom ronToken text at ≡ entry (record { kind = l .kind; start = at; end = at + l .len; detail = l .detail; gap = 0 }) (readFrom ronToken text (at + l .len))
   step-plain =
       let start : at + 0 ≡ at = omega arith in
       let end : at + (0 + l .len) ≡ at + l .len = omega arith in
       from-token ronToken quietByte laws text at (tokenAt 0 l) stands
-      ∙ ap₂ (λ (b c : ℕ). entry (record { kind = l .kind; start = b; end = c; detail = l .detail }) (readFrom ronToken text c)) start end
+      ∙ ap₂ (λ (b c : ℕ). entry (record { kind = l .kind; start = b; end = c; detail = l .detail; gap = 0 }) (readFrom ronToken text c)) start end
 
   pub plain-within : (at + l .len ≤ length text) × (l .detail < length text + 0x110000)
   plain-within =
@@ -77,8 +78,22 @@ module _ (text : List ℕ) (at : ℕ) (l : Lexeme) (e : l ≡ plainOf (take (len
 -- ---- blanks there
 
 module _ (text : List ℕ) (at front : ℕ) (e : front ≡ at + run blank1 (drop at text)) where
-  pub step-blanks : readFrom ronToken text at ≡ readFrom ronToken text front
-  step-blanks = from-blanks text at ∙ ap (readFrom ronToken text) (sym e)
+  step-blanks : readFrom ronToken text at ≡ widened (front - at) (readFrom ronToken text front)
+  step-blanks = from-blanks text at ∙ ap₂ (λ (n k : ℕ). widened n (readFrom ronToken text k)) (omega arith) (sym e)
+
+  -- what is read behind them is read from in front of them, its gap counted from there
+  pub blanks-entry : (x : Entry) (r : Reading) → x .start ≡ front + x .gap → readFrom ronToken text front ≡ entry x r
+      → readFrom ronToken text at ≡ entry (record { kind = x .kind; start = x .start; end = x .end; detail = x .detail; gap = x .start - at }) r
+  blanks-entry x r s h =
+      step-blanks
+      ∙ ap (widened (front - at)) h
+      ∙ ap (λ (g : ℕ). entry (record { kind = x .kind; start = x .start; end = x .end; detail = x .detail; gap = g }) r) (omega arith)
+
+  pub blanks-complete : readFrom ronToken text front ≡ complete → readFrom ronToken text at ≡ complete
+  blanks-complete h = step-blanks ∙ ap (widened (front - at)) h
+
+  pub blanks-broken : (r : Refusal) → readFrom ronToken text front ≡ broken r → readFrom ronToken text at ≡ broken r
+  blanks-broken r h = step-blanks ∙ ap (widened (front - at)) h
 
   pub blanks-within : at ≤ length text → front ≤ length text
   blanks-within h = omega (arith, run-le blank1 (drop at text), length-drop at text)

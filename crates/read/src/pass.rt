@@ -11,7 +11,7 @@ use tokens::following::next_token;
 use tokens::lexeme::Lexeme;
 ghost use mathlib.Core.Bool.{true, cond};
 ghost use mathlib.Core.Path.{_≡_};
-ghost use Prim.Native.Nat.{_+_, _≤_, _<_, _^_};
+ghost use Prim.Native.Nat.{_+_, _-_, _≤_, _<_, _^_};
 ghost use lib.ListN.{length, drop};
 ghost use Rattle.reading.specs.Readings.{readFrom, counted};
 ghost use Rattle.rows.specs.Rows.{roomOf, written};
@@ -21,16 +21,18 @@ ghost use Rattle.tokens.specs.Ron.{ronToken};
 ghost use Rattle.read.specs.Read.{toldRead};
 ghost use Rattle.read.specs.inner.Pass.{upTo, passedTape};
 
-// A lexeme between two places.
-fn entry_of(l: Lexeme, start: usize, end: usize) -> Entry
-    requires { ⌜ (start < 2 ^ 32) × (end < 2 ^ 32) × (l .detail < 2 ^ 32) ⌝ }
-    ensures { λ r. ⌜ r ≡ record { kind = l .kind; start = start; end = end; detail = l .detail } ⌝ }
+// A lexeme between two places, the former entry ending at a third.
+fn entry_of(l: Lexeme, at: usize, start: usize, end: usize) -> Entry
+    requires { ⌜ (at ≤ start) × (start < 2 ^ 32) × (end < 2 ^ 32) × (l .detail < 2 ^ 32) ⌝ }
+    ensures { λ r. ⌜ r ≡ record { kind = l .kind; start = start; end = end; detail = l .detail; gap = start - at } ⌝ }
 {
+    let gap = start - at;
     Entry {
         kind: l.kind,
         start: start as u32,
         end: end as u32,
         detail: l.detail as u32,
+        gap: gap as u32,
     }
 }
 
@@ -76,7 +78,7 @@ pub fn pass(text: &[u8], from: usize, tape: &mut [u32], n: usize, on: bool) -> R
         let p = plain(&text[front..]);
         if 0 < p.len {
             let end = front + p.len;
-            put(tape, i, entry_of(p, front, end), on);
+            put(tape, i, entry_of(p, at, front, end), on);
             at = end;
             i += 1;
             continue;
@@ -86,7 +88,7 @@ pub fn pass(text: &[u8], from: usize, tape: &mut [u32], n: usize, on: bool) -> R
             Following::Token(g, l) => {
                 let start = front + g;
                 let end = start + l.len;
-                put(tape, i, entry_of(l, start, end), on);
+                put(tape, i, entry_of(l, at, start, end), on);
                 at = end;
                 i += 1;
             }

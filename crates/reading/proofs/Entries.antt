@@ -5,7 +5,7 @@ use mathlib.Core.Bool.{Bool, true}
 use mathlib.Core.List.{List, [], _++_, _∷_}
 use mathlib.Core.Path.{_∙_, _≡_, ap, ap₂, refl, sym}
 use lib.ListN.{drop, length, length-drop}
-use borrow.Author.Tests.{le-leb, lt-ltb}
+use borrow.Author.Tests.{eq-eqb, le-leb, lt-ltb}
 use Rattle.reading.proofs.Steps.{first}
 use Rattle.reading.specs.Owed.{Laws}
 use Rattle.reading.specs.Readings.{_▸_, Reading, counted, entries, readPart}
@@ -64,10 +64,17 @@ module _ (tok : List ℕ → Answer) (quiet : ℕ → Bool) (laws : Laws tok qui
       let t : Token = f .this in
       let k : e .kind ≡ t .kind = ap (λ (x : Entry). x .kind) (f .entry-is) in
       let b : e .start ≡ at + t .gap = ap (λ (x : Entry). x .start) (f .entry-is) in
+      let g : e .gap ≡ t .gap = ap (λ (x : Entry). x .gap) (f .entry-is) in
       let d : e .end ≡ at + reach t = ap (λ (x : Entry). x .end) (f .entry-is) in
       let pos = laws .grows s t (f .answer) in
       let fit = laws .inside s t (f .answer) in
       let l : at + reach t + length (drop (reach t) s) ≡ at + length s = omega (arith, length-drop (reach t) s) in
       let ih = read-in-order es (at + reach t) (drop (reach t) s) r (sym (f .rest-is)) in
       let rest : inOrderFrom es (e .end) (at + length s) ≡ true = ap₂ (inOrderFrom es) d (sym l) ∙ ih in
-      simp (ap (within 1 16) k ∙ kinds s t (f .answer), le-leb at (e .start) (omega arith), lt-ltb (e .start) (e .end) (omega arith), rest)
+      simp (
+        ap (within 1 16) k ∙ kinds s t (f .answer),
+        lt-ltb (e .start) (e .end) (omega arith),
+        le-leb at (e .start) (omega arith),
+        eq-eqb (at + e .gap) (e .start) (omega arith),
+        rest,
+      )

@@ -26,6 +26,7 @@ pub record Moved (o n : ℕ) (y x : Entry) : Type 0 where
   pub start-moved : x .start + o ≡ y .start + n
   pub end-moved : x .end + o ≡ y .end + n
   pub detail-same : x .detail ≡ y .detail
+  pub gap-same : x .gap ≡ y .gap
 
 module _ (o n : ℕ) (y x : Entry) where
   pub moved-test : Moved o n y x → isMoved o n y x ≡ true
@@ -36,38 +37,42 @@ module _ (o n : ℕ) (y x : Entry) where
         eq-eqb (x .start + o) (y .start + n) (m .start-moved),
         eq-eqb (x .end + o) (y .end + n) (m .end-moved),
         eq-eqb (x .detail) (y .detail) (m .detail-same),
+        eq-eqb (x .gap) (y .gap) (m .gap-same),
       )
 
   pub test-moved : isMoved o n y x ≡ true → Moved o n y x
   unfolding isMoved
   test-moved h =
-      let a = and-true (eqb (x .kind) (y .kind)) (eqb (x .start + o) (y .start + n) && (eqb (x .end + o) (y .end + n) && eqb (x .detail) (y .detail))) h in
-      let b = and-true (eqb (x .start + o) (y .start + n)) (eqb (x .end + o) (y .end + n) && eqb (x .detail) (y .detail)) (a .1) in
-      let c = and-true (eqb (x .end + o) (y .end + n)) (eqb (x .detail) (y .detail)) (b .1) in
+      let last : Bool = eqb (x .detail) (y .detail) && eqb (x .gap) (y .gap) in
+      let a = and-true (eqb (x .kind) (y .kind)) (eqb (x .start + o) (y .start + n) && (eqb (x .end + o) (y .end + n) && last)) h in
+      let b = and-true (eqb (x .start + o) (y .start + n)) (eqb (x .end + o) (y .end + n) && last) (a .1) in
+      let c = and-true (eqb (x .end + o) (y .end + n)) last (b .1) in
+      let d = and-true (eqb (x .detail) (y .detail)) (eqb (x .gap) (y .gap)) (c .1) in
       record {
         kind-same = eqb-true (x .kind) (y .kind) (a .0);
         start-moved = eqb-true (x .start + o) (y .start + n) (b .0);
         end-moved = eqb-true (x .end + o) (y .end + n) (c .0);
-        detail-same = eqb-true (x .detail) (y .detail) (c .1);
+        detail-same = eqb-true (x .detail) (y .detail) (d .0);
+        gap-same = eqb-true (x .gap) (y .gap) (d .1);
       }
 
 -- an old entry at its new place; its numbers are right where it starts late enough
 abbrev pub move : ℕ → ℕ → Entry → Entry
-move o n y = record { kind = y .kind; start = y .start + n - o; end = y .end + n - o; detail = y .detail }
+move o n y = record { kind = y .kind; start = y .start + n - o; end = y .end + n - o; detail = y .detail; gap = y .gap }
 
-fields : (k k′ s s′ e e′ d d′ : ℕ) → k ≡ k′ → s ≡ s′ → e ≡ e′ → d ≡ d′
-    → _≡_ {A = Entry} (record { kind = k; start = s; end = e; detail = d }) (record { kind = k′; start = s′; end = e′; detail = d′ })
-fields k k′ s s′ e e′ d d′ p q r z = cc
+fields : (k k′ s s′ e e′ d d′ g g′ : ℕ) → k ≡ k′ → s ≡ s′ → e ≡ e′ → d ≡ d′ → g ≡ g′
+    → _≡_ {A = Entry} (record { kind = k; start = s; end = e; detail = d; gap = g }) (record { kind = k′; start = s′; end = e′; detail = d′; gap = g′ })
+fields k k′ s s′ e e′ d d′ g g′ p q r z w = cc
 
 pub moved-is : (o n : ℕ) (y x : Entry) → Moved o n y x → x ≡ move o n y
 moved-is o n y x m =
-    fields (x .kind) (y .kind) (x .start) (y .start + n - o) (x .end) (y .end + n - o) (x .detail) (y .detail)
-    (m .kind-same) (omega (arith, m .start-moved)) (omega (arith, m .end-moved)) (m .detail-same)
+    fields (x .kind) (y .kind) (x .start) (y .start + n - o) (x .end) (y .end + n - o) (x .detail) (y .detail) (x .gap) (y .gap)
+    (m .kind-same) (omega (arith, m .start-moved)) (omega (arith, m .end-moved)) (m .detail-same) (m .gap-same)
 
 -- ---- tokens at another place
 
 placed-moved : (a a′ o n : ℕ) (t : Token) → a′ + o ≡ a + n → Moved o n (placed a t) (placed a′ t)
-placed-moved a a′ o n t h = record { kind-same = refl; start-moved = omega arith; end-moved = omega arith; detail-same = refl }
+placed-moved a a′ o n t h = record { kind-same = refl; start-moved = omega arith; end-moved = omega arith; detail-same = refl; gap-same = refl }
 
 -- entries that the same tokens have at two places
 pub record Shifted (o n a′ : ℕ) (ts : Tokens) (es : List Entry) : Type 0 where
@@ -162,12 +167,12 @@ module _ (tok : List ℕ → Answer) (quiet : ℕ → Bool) (laws : Laws tok qui
     pub old-rest : r ≡ place (y .end) behind
     pub new-rest : r′ ≡ place (x .end) behind
 
-  -- an old text and a new one, and an entry of each that starts at the same byte behind what was replaced
+  -- an old text and a new one, and an entry of each that starts at the same byte behind what was replaced, and behind the same gap
   pub join : (old new : List ℕ) (a b e : ℕ) → Replaced old new a b e → (os ns : List Entry) (y x : Entry) (r r′ : Reading)
       → readPart tok 0 old ≡ os ▸ entry y r → readPart tok 0 new ≡ ns ▸ entry x r′
-      → e ≤ x .start → x .start + length old ≡ y .start + length new
+      → e ≤ x .start → x .start + length old ≡ y .start + length new → x .gap ≡ y .gap
       → Join (length old) (length new) y x r r′
-  join old new a b e R os ns y x r r′ was now late same =
+  join old new a b e R os ns y x r r′ was now late same gaps =
       let ly = locate os 0 old y r was in
       let lx = locate ns 0 new x r′ now in
       let tails : length new - e ≡ length old - b = sym (length-drop e new) ∙ ap length (R .back) ∙ length-drop b old in
@@ -184,6 +189,7 @@ module _ (tok : List ℕ → Answer) (quiet : ℕ → Bool) (laws : Laws tok qui
           start-moved = same;
           end-moved = omega (arith, lx .end-is, ly .end-is, len);
           detail-same = lx .detail-is ∙ sym (ap (λ (t : Token). t .detail) toks) ∙ sym (ly .detail-is);
+          gap-same = gaps;
         };
         new-end = omega (arith, lx .end-is);
         behind = lx .behind;

@@ -22,7 +22,7 @@ All P [] = Unit {0}
 All P (e ∷ es) = P e × All P es
 
 abbrev pub no-entry : Entry
-no-entry = record { kind = 0; start = 0; end = 0; detail = 0 }
+no-entry = record { kind = 0; start = 0; end = 0; detail = 0; gap = 0 }
 
 pub all-at : (P : Entry → Type 0) (es : List Entry) (i : ℕ) → All P es → i < length es → P (getD es i no-entry)
 all-at P [] i a h = absurd (not-suc-le-zero h)
@@ -131,11 +131,11 @@ module _ (o n e : ℕ) (old new : List Entry) where
   pub kept-behind-is : (k : ℕ) → Behind k → ((j : ℕ) → Behind j → j ≤ k) → keptBehind o n e old new ≡ k
   kept-behind-is k b most = omega (arith, kept-behind-most k b, most (keptBehind o n e old new) kept-behind-holds)
 
--- ---- the sentence shown with the count: it reaches from the first new entry that starts where a moved old entry starts
+-- ---- the sentence shown with the count: it reaches from the first new entry that starts where a moved old entry starts, and whose gap agrees
 
--- x is no new entry, at e or behind it, that starts where a moved old entry starts
+-- x is no new entry, at e or behind it, that starts where a moved old entry does, and behind the same gap
 abbrev pub Apart : ℕ → ℕ → ℕ → List Entry → Entry → Type 0
-Apart o n e old x = e ≤ x .start → All (λ y. x .start + o ≡ y .start + n → ⊥) old
+Apart o n e old x = e ≤ x .start → All (λ y. x .start + o ≡ y .start + n → x .gap ≡ y .gap → ⊥) old
 
 last-back : (xs ys : List Entry) (k : ℕ) → length ys ≡ k → lastOf k (xs ++ ys) ≡ ys
 last-back xs ys k h =
@@ -176,9 +176,9 @@ module _ (o n e : ℕ) (os ns kept mv : List Entry) (apart : All (Apart o n e (o
       let mvd : isMoved o n y x && areMoved (drop (suc m) old) (drop (suc i) new) o n ≡ true =
       sym (ap₂ (λ (ys xs : List Entry). areMoved ys xs o n) dy dx) ∙ b .all-moved in
       let le = leb-true e (x .start) (and-true (leb e (x .start)) (allBehind e (drop (suc i) new)) late .0) in
-      let at = test-moved o n y x (and-true (isMoved o n y x) (areMoved (drop (suc m) old) (drop (suc i) new) o n) mvd .0) .start-moved in
+      let at = test-moved o n y x (and-true (isMoved o n y x) (areMoved (drop (suc m) old) (drop (suc i) new) o n) mvd .0) in
       let ax : Apart o n e old x = subst (Apart o n e old) (sym (List·getD-append ns mv no-entry i inNs)) (all-at (Apart o n e old) ns i apart inNs) in
-      all-at (λ y. x .start + o ≡ y .start + n → ⊥) old m (ax le) inOld at
+      all-at (λ y. x .start + o ≡ y .start + n → x .gap ≡ y .gap → ⊥) old m (ax le) inOld (at .start-moved) (at .gap-same)
 
   pub kept-behind : allBehind e mv ≡ true → keptBehind o n e old new ≡ length kept
   kept-behind late =

@@ -4,5 +4,6 @@ pub mod Entries
 pub mod Stable
 pub mod Joins
 pub mod KeptLaws
+pub mod FallsByOne
 pub mod Repairs
 pub mod Worked

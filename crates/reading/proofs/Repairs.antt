@@ -1,5 +1,5 @@
 -- What a repair goes by, over an old text and a new one: the entries kept before are read again, and the new reading joins the old one where an entry of it
--- starts where a moved old entry starts. Assumes nothing.
+-- starts where a moved old entry starts and its gap agrees. Assumes nothing.
 use Prim.Native.Nat.{_+_, _<_, _≤_, suc, ℕ, _-_}
 use native.Mathlib.Nat.{sub-zero}
 use native.Mathlib.Omega.{arith}
@@ -54,12 +54,13 @@ module _ (tok : List ℕ → Answer) (quiet : ℕ → Bool) (laws : Laws tok qui
         ∙ resume-behind (take a old) (drop a old) (drop a new) es r early (ap (readPart tok 0) (whole old) ∙ was)
         ∙ ap (λ (s : List ℕ). es ▸ readFrom tok s (endOf 0 es)) new-is
 
-    -- ---- kept behind: the new reading reaches, behind ns, an entry x that starts where the moved old entry y starts
+    -- ---- kept behind: the new reading reaches, behind ns, an entry x that starts where the moved old entry y starts, and behind the same gap
     module _ (os ks ns : List Entry) (y x : Entry) (r : Reading)
         (was : readPart tok 0 old ≡ (os ++ y ∷ ks) ▸ complete)
         (now : readPart tok 0 new ≡ ns ▸ entry x r)
         (late : e ≤ x .start)
-        (meets : x .start + length old ≡ y .start + length new) where
+        (meets : x .start + length old ≡ y .start + length new)
+        (gaps : x .gap ≡ y .gap) where
       abbrev o : ℕ
       o = length old
 
@@ -71,7 +72,7 @@ module _ (tok : List ℕ → Answer) (quiet : ℕ → Bool) (laws : Laws tok qui
       moved-rest = map (move (length old) (length new)) (y ∷ ks)
 
       here : Join tok quiet laws o n y x (ks ▸ complete) r
-      here = join tok quiet laws old new a b e R os ns y x (ks ▸ complete) r (was ∙ ▸-append os (y ∷ ks) complete) now late meets
+      here = join tok quiet laws old new a b e R os ns y x (ks ▸ complete) r (was ∙ ▸-append os (y ∷ ks) complete) now late meets gaps
 
       behind-here : Shifted o n (x .end) (here .behind) ks
       behind-here = place-moved (here .behind) ks (y .end) (x .end) o n (here .this-moved .end-moved) (sym (here .old-rest))
@@ -86,7 +87,7 @@ module _ (tok : List ℕ → Answer) (quiet : ℕ → Bool) (laws : Laws tok qui
       pub joined : readPart tok 0 new ≡ (ns ++ moved-rest) ▸ complete
       joined = now ∙ ap (λ (t : Reading). ns ▸ t) rest-is ∙ sym (▸-append ns moved-rest complete)
 
-      -- and they are those kept behind, where no entry of ns starts where a moved old entry starts
+      -- and they are those kept behind, where no entry of ns starts so
       pub joined-kept : All (Apart (length old) (length new) e (os ++ y ∷ ks)) ns
           → keptBehind (length old) (length new) e (os ++ y ∷ ks) (entries (readPart tok 0 new)) ≡ suc (length ks)
       unfolding areMoved allBehind

@@ -1,5 +1,6 @@
 -- What a repair keeps (document 01, "Repair"): "Kept before: the old entries with a quiet byte at or behind their end and before a. Kept behind: the largest k
--- such that the last k new entries start at or behind the new bytes' end and are the last k old ones, moved by the change of length."
+-- such that the last k new entries start at or behind the new bytes' end and are the last k old ones, moved by the change of length." Document 02, CR 6: "an
+-- entry kept behind must agree in its gap as well".
 use Prim.Native.Nat.{ℕ, zero, suc, _+_, _-_, _≤_}
 use mathlib.Core.Path.{_≡_}
 use mathlib.Core.Bool.{Bool, true, false, cond, _&&_, _||_}
@@ -42,7 +43,9 @@ lastQuiet quiet (b ∷ s) = let rest = lastQuiet quiet s in cond (ltb 0 rest) (s
 
 -- The new entry x is the old entry y moved by the change of length: told without a difference, which would be cut off at 0.
 unfoldable pub isMoved : ℕ → ℕ → Entry → Entry → Bool
-isMoved o n y x = eqb (x .kind) (y .kind) && (eqb (x .start + o) (y .start + n) && (eqb (x .end + o) (y .end + n) && eqb (x .detail) (y .detail)))
+isMoved o n y x =
+    eqb (x .kind) (y .kind)
+    && (eqb (x .start + o) (y .start + n) && (eqb (x .end + o) (y .end + n) && (eqb (x .detail) (y .detail) && eqb (x .gap) (y .gap))))
 
 -- The new entries are the old ones, moved.
 unfoldable pub areMoved : List Entry → List Entry → ℕ → ℕ → Bool
@@ -72,3 +75,24 @@ largest p (suc m) = let less = largest p m in cond (p (suc m)) (suc m) less
 -- How many entries are kept behind.
 unfoldable pub keptBehind : ℕ → ℕ → ℕ → List Entry → List Entry → ℕ
 keptBehind o n e old new = largest (areKept o n e old new) (length old)
+
+-- ---- what document 01 counted before entries had a gap
+
+-- The new entry x is the old entry y moved, whatever stands in front of it.
+pub record MovedThere (o n : ℕ) (y x : Entry) : Type 0 where
+  pub kind : x .kind ≡ y .kind
+  pub start : x .start + o ≡ y .start + n
+  pub end : x .end + o ≡ y .end + n
+  pub detail : x .detail ≡ y .detail
+
+-- The new entries are the old ones so.
+pub data AllThere (o n : ℕ) : List Entry → List Entry → Type 0 where
+  none : AllThere o n [] []
+  more : {y x : Entry} {ys xs : List Entry} → MovedThere o n y x → AllThere o n ys xs → AllThere o n (y ∷ ys) (x ∷ xs)
+
+-- Document 01's k: the last k new entries start at e or behind it, and are the last k old ones so.
+pub record KeptThere (o n e : ℕ) (old new : List Entry) (k : ℕ) : Type 0 where
+  pub inOld : k ≤ length old
+  pub inNew : k ≤ length new
+  pub late : allBehind e (lastOf k new) ≡ true
+  pub there : AllThere o n (lastOf k old) (lastOf k new)

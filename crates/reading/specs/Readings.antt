@@ -1,4 +1,4 @@
--- A reading: tokens with their places. Document 01: "kind, start, end, detail"; "places are byte offsets"; "the refusals of reading in text order". Room and
+-- A reading: tokens with their places. Document 01: "kind, start, end, detail"; document 02, CR 6: a "fifth number", the gap; "places are byte offsets"; "the refusals of reading in text order". Room and
 -- limits are no part of a reading: what has to do with them stands around it.
 use Prim.Native.Nat.{ℕ, _+_}
 use mathlib.Core.List.{List, [], _∷_}
@@ -16,7 +16,7 @@ pub data Reading : Type 0 where
 
 -- The entry of a token in a part that begins at the place `at`.
 abbrev pub placed : ℕ → Token → Entry
-placed at t = record { kind = t .kind; start = at + t .gap; end = at + reach t; detail = t .detail }
+placed at t = record { kind = t .kind; start = at + t .gap; end = at + reach t; detail = t .detail; gap = t .gap }
 
 -- Tokens placed from `at` on.
 unfoldable pub place : ℕ → Tokens → Reading

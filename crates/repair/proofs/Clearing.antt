@@ -1,28 +1,20 @@
 -- The part of the tape that is written anew, and the tape around it. Assumes nothing.
 use Prim.Native.Nat.{_*_, _+_, _-_, _≤_, suc, zero, ℕ}
-use native.Mathlib.Nat.{le-of-suc-le-suc, not-suc-le-zero}
 use native.Mathlib.Omega.{arith}
 use mathlib.Core.List.{[], _++_, _∷_, append-assoc, List}
 use mathlib.Core.Path.{_∙_, _≡_, ap, ap₂, refl, sym}
-use lib.ListN.{drop, length, length-append, length-drop, length-replicate, replicate, take}
+use lib.ListN.{drop, length, length-append, length-drop, length-replicate, replicate, replicate-append-replicate, take}
 use lib.Seq.{drop-append-add, drop-append-le, drop-at, drop-drop, take-add, take-at}
 use Rattle.repair.proofs.Laying.{drop-front}
 use Rattle.repair.specs.Repair.{cleared, noEntry}
 use Rattle.repair.specs.inner.Steps.{emptied, laidAt}
-use Rattle.rows.proofs.RowLaws.{flat-append, length-entries, length-flat}
-use Rattle.rows.specs.Rows.{cells, entriesOf, entryOf, flat, laid, width}
+use Rattle.rows.proofs.RowLaws.{cells-take, flat-append, length-entries, length-flat}
+use Rattle.rows.specs.Rows.{cells, entriesOf, flat, laid, width}
 use Rattle.rows.specs.declared.Entry.{Entry}
 use Rattle.text.proofs.Choices.{either, lt-or-le}
 use Rattle.text.proofs.Stops.{part}
 
 -- ---- rows are their numbers
-
-cells-take : (s : List ℕ) → width ≤ length s → cells (entryOf s) ≡ take width s
-cells-take [] h = absurd (not-suc-le-zero h)
-cells-take (a ∷ []) h = absurd (not-suc-le-zero (le-of-suc-le-suc h))
-cells-take (a ∷ b ∷ []) h = absurd (not-suc-le-zero (le-of-suc-le-suc (le-of-suc-le-suc h)))
-cells-take (a ∷ b ∷ c ∷ []) h = absurd (not-suc-le-zero (le-of-suc-le-suc (le-of-suc-le-suc (le-of-suc-le-suc h))))
-cells-take (a ∷ b ∷ c ∷ d ∷ s) h = refl
 
 pub flat-take : (n : ℕ) (t : List ℕ) → width * n ≤ length t → flat (entriesOf n t) ≡ take (width * n) t
 unfolding flat entriesOf
@@ -38,8 +30,8 @@ flat-zeros : (n : ℕ) → flat (replicate n noEntry) ≡ replicate (width * n) 
 unfolding flat
 flat-zeros zero = refl
 flat-zeros (suc n) =
-    let w : width * suc n ≡ suc (suc (suc (suc (width * n)))) = omega arith in
-    ap (λ (l : List ℕ). 0 ∷ 0 ∷ 0 ∷ 0 ∷ l) (flat-zeros n) ∙ ap (λ (k : ℕ). replicate {A = ℕ} k 0) (sym w)
+    let w : width + width * n ≡ width * suc n = omega arith in
+    ap (λ (l : List ℕ). cells noEntry ++ l) (flat-zeros n) ∙ replicate-append-replicate width (width * n) 0 ∙ ap (λ (k : ℕ). replicate {A = ℕ} k 0) w
 
 drop-zeros : (n k : ℕ) → drop {A = ℕ} k (replicate n 0) ≡ replicate (n - k) 0
 drop-zeros n zero = let z : n - 0 ≡ n = omega arith in ap (λ (m : ℕ). replicate {A = ℕ} m 0) (sym z)

@@ -4,9 +4,10 @@ use native.Mathlib.Omega.{arith}
 use mathlib.Core.Bool.{false, Bool, _&&_, cond, true}
 use mathlib.Core.List.{List, [], _∷_}
 use mathlib.Core.Path.{_≡_, ap, refl, subst, sym, _∙_}
-use lib.Dec.{leb, ltb}
+use lib.Dec.{eqb, leb, ltb}
 use lib.ListN.{drop, getD, length, length-drop, length-take, take}
-use borrow.Author.Tests.{eqb-true, le-leb, leb-true, lt-ltb, ltb-true}
+use lib.Seq.{getD-drop}
+use borrow.Author.Tests.{eqb-true, leb-true, lt-ltb, ltb-true}
 use Rattle.reading.proofs.Entries.{read-in-order}
 use Rattle.reading.proofs.QuietLaws.{last-le}
 use Rattle.reading.specs.Kept.{lastQuiet}
@@ -16,15 +17,14 @@ use Rattle.reading.specs.Readings.Reading.{broken, complete, entry}
 use Rattle.repair.proofs.Checks.{Fits}
 use Rattle.repair.proofs.Leading.{lead-at, lead-le}
 use Rattle.repair.specs.Repair.{endsBefore, foundOf, joins, keptOf, leading, movedAt, newEnd, noEntry, resumeAt, scanOf, seekOf}
-use Rattle.repair.specs.inner.Steps.{Movable, startsBefore}
+use Rattle.repair.specs.inner.Steps.{Movable, MovableRow, startsBefore}
 use Rattle.repair.specs.declared.join.Scan.the-variants.{Found}
-use Rattle.rows.proofs.OrderLaws.{in-order-first, in-order-row, in-order-short}
+use Rattle.rows.proofs.OrderLaws.{in-order-first, in-order-rise, in-order-row}
 use Rattle.rows.proofs.RowLaws.{length-entries}
-use Rattle.rows.specs.Order.{inOrder, inOrderFrom, orderly}
+use Rattle.rows.specs.Order.{inOrder, inOrderFrom}
 use Rattle.rows.specs.Rows.{entriesOf, width}
 use Rattle.rows.specs.declared.Entry.{Entry}
 use Rattle.text.proofs.Choices.{and-true, either, lt-or-le}
-use Rattle.text.specs.Classes.{within}
 use Rattle.tokens.proofs.RonLaws.{kinds, laws}
 use Rattle.tokens.specs.Ron.{ronToken}
 use Rattle.repair.proofs.Rows.{entries-drop, entries-take}
@@ -53,23 +53,20 @@ kept-starts q b (y ∷ l) at o k h = let p = in-order-first y l at o h in go (en
     go true e s r = rw (lt-ltb (y .start) b (omega (arith, ltb-true (y .end) q e))) (omega arith)
     go false e s r = omega arith
 
--- ---- entries in order from a place on
+-- ---- entries that may be moved
 
-order-behind : (x : Entry) (l : List Entry) (at b o : ℕ) → inOrderFrom (x ∷ l) at o ≡ true → b ≤ x .start → inOrderFrom (x ∷ l) b o ≡ true
-unfolding inOrderFrom orderly
-order-behind x l at b o h k =
-    let p = and-true (orderly at x) (inOrderFrom l (x .end) o) h in
-    let q = and-true (within 1 16 (x .kind)) (leb at (x .start) && ltb (x .start) (x .end)) (p .0) in
-    let r = and-true (leb at (x .start)) (ltb (x .start) (x .end)) (q .1) in
-    rw (q .0, le-leb b (x .start) k, r .1) (p .1)
-
--- those from row k on, where that one starts at b or behind it
-order-at : (l : List Entry) (at o b k : ℕ) → inOrderFrom l at o ≡ true → b ≤ o → (k < length l → b ≤ getD l k noEntry .start) → inOrderFrom (drop k l) b o ≡ true
-unfolding inOrderFrom
-order-at [] at o b zero h j f = le-leb b o j
-order-at [] at o b (suc k) h j f = le-leb b o j
-order-at (x ∷ l) at o b zero h j f = order-behind x l at b o h (f (omega arith))
-order-at (x ∷ l) at o b (suc k) h j f = order-at l (x .end) o b k (in-order-first x l at o h .1) j (λ q. f (omega arith))
+-- in order, those from row i on, where that one starts at b or behind it
+movable-from : (l : List Entry) (o b e i : ℕ) → inOrderFrom l 0 o ≡ true → o + e ≤ b + 65536 → (i < length l → b ≤ getD l i noEntry .start) → Movable b e (drop i l)
+movable-from l o b e i h short f k lt =
+    let n = length-drop i l in
+    let w : i + k < length l = omega arith in
+    let r = in-order-row l 0 o h (i + k) noEntry w in
+    let first = f (omega arith) in
+    let late : b ≤ getD l (i + k) noEntry .start =
+    either (lt-or-le 0 k)
+    (λ z. omega (arith, first, in-order-rise l 0 o h i (i + k) noEntry (omega arith) w, in-order-row l 0 o h i noEntry (omega arith) .some))
+    (λ z. let y : i ≡ i + k = omega arith in subst (λ (m : ℕ). b ≤ getD l m noEntry .start) y first) in
+    subst (MovableRow b e) (sym (getD-drop i l k noEntry)) (record { behind = late; some = omega (arith, r .some); inside = omega (arith, r .inside) })
 
 -- ---- the join
 
@@ -79,12 +76,26 @@ pub record Bounds (old : List Entry) (b n m k : ℕ) : Type 0 where
   pub inOld : k ≤ length old
   pub late : k < length old → b ≤ getD old k noEntry .start
 
-pub joins-true : (old : List Entry) (b e x k : ℕ) → joins old b e x k ≡ true → (e ≤ x) × (k < length old) × (getD old k noEntry .start + e ≡ x + b)
+-- what `joins` says
+pub record Joins (old : List Entry) (b e g x k : ℕ) : Type 0 where
+  pub late : e ≤ x
+  pub inOld : k < length old
+  pub starts : getD old k noEntry .start + e ≡ x + b
+  pub gaps : getD old k noEntry .gap ≡ g
+
+pub joins-true : (old : List Entry) (b e g x k : ℕ) → joins old b e g x k ≡ true → Joins old b e g x k
 unfolding joins
-joins-true old b e x k h =
-    let p = and-true (leb e x) (ltb k (length old) && movedAt b e x (getD old k noEntry)) h in
-    let q = and-true (ltb k (length old)) (movedAt b e x (getD old k noEntry)) (p .1) in
-    (leb-true e x (p .0), ltb-true k (length old) (q .0), eqb-true (getD old k noEntry .start + e) (x + b) (q .1))
+joins-true old b e g x k h =
+    let y : Entry = getD old k noEntry in
+    let p = and-true (leb e x) (ltb k (length old) && (movedAt b e x y && eqb (y .gap) g)) h in
+    let q = and-true (ltb k (length old)) (movedAt b e x y && eqb (y .gap) g) (p .1) in
+    let r = and-true (movedAt b e x y) (eqb (y .gap) g) (q .1) in
+    record {
+      late = leb-true e x (p .0);
+      inOld = ltb-true k (length old) (q .0);
+      starts = eqb-true (y .start + e) (x + b) (r .0);
+      gaps = eqb-true (y .gap) g (r .1);
+    }
 
 pub found-bounds : (old : List Entry) (b e : ℕ) (r : Reading) (n m k : ℕ) → scanOf old b e n r ≡ Found m k → Bounds old b (n + length (entries r)) m k
 unfolding scanOf entries
@@ -93,16 +104,16 @@ found-bounds old b e complete n m k h =
     let v : length old ≡ k = cc in
     record { few = omega arith; inOld = omega arith; late = λ l. absurd (omega arith) }
 found-bounds old b e (broken d) n m k h = let z : _≡_ {A = ℕ} 0 1 = cc in absurd (omega arith)
-found-bounds old b e (entry x r) n m k h = go (joins old b e (x .start) (seekOf old b e (x .start))) refl h (λ p. found-bounds old b e r (n + 1) m k p)
+found-bounds old b e (entry x r) n m k h = go (joins old b e (x .gap) (x .start) (seekOf old b e (x .start))) refl h (λ p. found-bounds old b e r (n + 1) m k p)
   where
-    go : (t : Bool) → joins old b e (x .start) (seekOf old b e (x .start)) ≡ t
+    go : (t : Bool) → joins old b e (x .gap) (x .start) (seekOf old b e (x .start)) ≡ t
         → cond t (Found n (seekOf old b e (x .start))) (scanOf old b e (n + 1) r) ≡ Found m k
         → (scanOf old b e (n + 1) r ≡ Found m k → Bounds old b (n + 1 + length (entries r)) m k) → Bounds old b (n + suc (length (entries r))) m k
     go true j h f =
         let u : n ≡ m = cc in
         let v : seekOf old b e (x .start) ≡ k = cc in
-        let w = joins-true old b e (x .start) (seekOf old b e (x .start)) j in
-        record { few = omega arith; inOld = omega (arith, w .1); late = λ l. subst (λ (i : ℕ). b ≤ getD old i noEntry .start) v (omega (arith, w .0, w .2)) }
+        let w = joins-true old b e (x .gap) (x .start) (seekOf old b e (x .start)) j in
+        record { few = omega arith; inOld = omega (arith, w .inOld); late = λ l. subst (λ (i : ℕ). b ≤ getD old i noEntry .start) v (omega (arith, w .late, w .starts)) }
     go false j h f = let w = f h in record { few = omega (arith, w .few); inOld = w .inOld; late = w .late }
 
 -- ---- all of it, from the checks on
@@ -153,7 +164,7 @@ module _ (t : List ℕ) (count o a b : ℕ) (text : List ℕ) (F : Fits t count 
         let lt : i < length old = omega (arith, lead-le (endsBefore q) old) in
         let early = ltb-true (getD old i noEntry .end) q (lead-at (endsBefore q) old i h) in
         let row = in-order-row old 0 o (F .sorted) i noEntry lt in
-        omega (arith, early, quiet-le, F .cuts .cut, bounds .late lt, row .orderly-there .some)
+        omega (arith, early, quiet-le, F .cuts .cut, bounds .late lt, row .some)
 
     pub join-behind : keptOf (entriesOf count t) a text ≤ i
     join-behind = either (lt-or-le i j) (λ h. absurd (clash h)) (λ h. h)
@@ -164,7 +175,7 @@ module _ (t : List ℕ) (count o a b : ℕ) (text : List ℕ) (F : Fits t count 
     behind-movable short j′ h =
         let z : j′ + (i - j′) ≡ i = omega (arith, join-behind) in
         let rows : entriesOf (count - i) (drop (width * (j′ + (i - j′))) t) ≡ drop i old = ap (λ (k : ℕ). entriesOf (count - i) (drop (width * k) t)) z ∙ sym (entries-drop count i t join-le) in
-        (o, ap (λ (l : List Entry). inOrderFrom l b o) rows ∙ order-at old 0 o b i (F .sorted) (F .cuts .inOld) (bounds .late), omega (arith, F .cuts .inOld, F .cuts .lengths))
+        subst (Movable b e) (sym rows) (movable-from old o b e i (F .sorted) (omega (arith, F .cuts .inOld, F .cuts .lengths)) (bounds .late))
 
     pub few-new : (p : ℕ) → p ≡ resumeAt (entriesOf count t) (keptOf (entriesOf count t) a text) → m ≤ length (entries (readFrom ronToken text p))
     few-new p h = subst (λ (x : ℕ). m ≤ length (entries (readFrom ronToken text x))) (sym h) new-few

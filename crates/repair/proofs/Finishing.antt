@@ -18,7 +18,7 @@ use Rattle.repair.specs.inner.Steps.{Movable, clipped, clippedFrom, fini
 use Rattle.repair.specs.declared.join.Scan.{Scan}
 use Rattle.repair.specs.declared.join.Scan.the-variants.{Found, Refused as Failed}
 use Rattle.repair.specs.declared.rewrite.Rest.{Rest}
-use Rattle.rows.proofs.OrderLaws.{in-order-first, in-order-within}
+use Rattle.rows.proofs.OrderLaws.{in-order-drop, in-order-first, in-order-within}
 use Rattle.rows.specs.Order.{inOrder, inOrderFrom}
 use Rattle.rows.specs.Rows.{entriesOf, laid, roomOf, width}
 use Rattle.rows.specs.declared.Entry.{Entry}
@@ -74,13 +74,8 @@ clip-fits b e (x ∷ l) at o h k =
     let s : clipped b e (x .start) ≡ x .start + e - b = omega (arith, p .0 .some) in
     let n : clipped b e (x .end) ≡ x .end + e - b = omega arith in
     ap₂ {B = List Entry} {C = List Entry} (λ (y : Entry) (z : List Entry). y ∷ z)
-    (ap₂ (λ (u v : ℕ). record { kind = x .kind; start = u; end = v; detail = x .detail }) s n)
+    (ap₂ (λ (u v : ℕ). record { kind = x .kind; start = u; end = v; detail = x .detail; gap = x .gap }) s n)
     (clip-fits b e l (x .end) o (p .1) k)
-
-order-drop : (l : List Entry) (at o k : ℕ) → inOrderFrom l at o ≡ true → (n : ℕ) × (inOrderFrom (drop k l) n o ≡ true)
-order-drop l at o zero h = (at, h)
-order-drop [] at o (suc k) h = (at, h)
-order-drop (x ∷ l) at o (suc k) h = order-drop l (x .end) o k (in-order-first x l at o h .1)
 
 -- ---- the ways out of the whole
 
@@ -140,7 +135,7 @@ module _ (t : List ℕ) (count o a b : ℕ) (text : List ℕ) where
       moved-same : map (clippedFrom b e) (drop i old) ≡ map (movedFrom b e) (drop i old)
       unfolding inOrder
       moved-same =
-          let d = order-drop old 0 o i (F .sorted) in
+          let d = in-order-drop old 0 o i (F .sorted) in
           clip-fits b e (drop i old) (d .0) o (d .1) (omega (arith, F .cuts .inOld, F .cuts .lengths, short))
 
       rows-same : (p : ℕ) → p ≡ resumeAt old j

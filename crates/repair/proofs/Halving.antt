@@ -21,7 +21,7 @@ module _ (old : List Entry) (sorted : InOrder old) where
   unfolding inOrder
   ends-rise j k h l =
       either (lt-or-le j k)
-      (λ less. omega (arith, in-order-rise old 0 (sorted .0) (sorted .1) j k noEntry less l, in-order-row old 0 (sorted .0) (sorted .1) k noEntry l .orderly-there .some))
+      (λ less. omega (arith, in-order-rise old 0 (sorted .0) (sorted .1) j k noEntry less l, in-order-row old 0 (sorted .0) (sorted .1) k noEntry l .some))
       (λ same. let z : j ≡ k = omega arith in omega (arith, ap (λ (n : ℕ). getD old n noEntry .end) z))
 
 module _ (t : List ℕ) (count q k : ℕ) (x : Entry) (is : x ≡ entryAt t k) (inside : k < count) where

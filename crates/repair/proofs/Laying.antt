@@ -8,7 +8,6 @@ use lib.ListN.{drop, drop-of-length-le, length, length-append, length-drop, leng
 use lib.Seq.{drop-at, drop-cons, drop-drop, length-take-le, take-append-le, take-at, take-take}
 use Rattle.repair.specs.Repair.{noEntry}
 use Rattle.repair.specs.inner.Steps.{Movable, MovableRow, clipped, clippedFrom, emptied, laidAt, shifted}
-use Rattle.rows.proofs.OrderLaws.{in-order-row}
 use Rattle.rows.proofs.RowLaws.{entries-at, entries-last, entry-agree, entry-part, flat-append, length-entries, length-flat}
 use Rattle.rows.specs.Rows.{cells, entriesOf, entryAt, entryOf, flat, width, written}
 use Rattle.rows.specs.declared.Entry.{Entry}
@@ -87,9 +86,9 @@ map-last f [] x = refl
 map-last f (y ∷ l) x = ap {B = List Entry} (λ (z : List Entry). f y ∷ z) (map-last f l x)
 
 pub row-moved : (b e f g : ℕ) (t t′ : List ℕ) (x : Entry) (s n : ℕ) → x ≡ entryAt t f → s ≡ clipped b e (x .start) → n ≡ clipped b e (x .end)
-    → t′ ≡ written t g (record { kind = x .kind; start = s; end = n; detail = x .detail }) → t′ ≡ written t g (clippedFrom b e (entryAt t f))
+    → t′ ≡ written t g (record { kind = x .kind; start = s; end = n; detail = x .detail; gap = x .gap }) → t′ ≡ written t g (clippedFrom b e (entryAt t f))
 row-moved b e f g t t′ x s n is es en w =
-    w ∙ ap₂ (λ (u v : ℕ). written t g (record { kind = x .kind; start = u; end = v; detail = x .detail })) es en
+    w ∙ ap₂ (λ (u v : ℕ). written t g (record { kind = x .kind; start = u; end = v; detail = x .detail; gap = x .gap })) es en
     ∙ ap (λ (y : Entry). written t g (clippedFrom b e y)) is
 
 module _ (b e m f g : ℕ) (t : List ℕ) where
@@ -116,10 +115,7 @@ module _ (b e m f g : ℕ) (t : List ℕ) where
   -- and may be moved
   row-movable : (k : ℕ) (x : Entry) → k < m → x ≡ entryAt (drop (width * f) t) k → Movable b e (entriesOf m (drop (width * f) t)) → MovableRow b e x
   row-movable k x h is v =
-      let rows : List Entry = entriesOf m (drop (width * f) t) in
-      let r = in-order-row rows b (v .0) (v .1) k noEntry (omega (arith, length-entries m (drop (width * f) t))) in
-      subst (MovableRow b e) (entries-at m k (drop (width * f) t) noEntry h ∙ sym is)
-      (record { behind = r .orderly-there .behind; some = omega (arith, r .orderly-there .some); inside = omega (arith, r .inside, v .2) })
+      subst (MovableRow b e) (entries-at m k (drop (width * f) t) noEntry h ∙ sym is) (v k (omega (arith, length-entries m (drop (width * f) t))))
 
   pub up-movable : (k : ℕ) (s : List ℕ) → k < m → g ≤ f → width * (f + k + 1) ≤ length t → Movable b e (entriesOf m (drop (width * f) t)) → Up k s → MovableRow b e (entryAt s (f + k))
   up-movable k s l gf h v inv = row-movable k (entryAt s (f + k)) l (up-here k s gf h inv) v

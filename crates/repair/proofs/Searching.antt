@@ -50,61 +50,70 @@ module _ (old : List Entry) (b e : ℕ) where
 
   -- ---- the ways out of a meeting
 
-  pub meet-early : (i x : ℕ) → x < e → Next i ≡ metOf old b e i x
-  meet-early i x h = rw (lt-leb e x h)
+  pub meet-early : (i g x : ℕ) → x < e → Next i ≡ metOf old b e i g x
+  meet-early i g x h = rw (lt-leb e x h)
 
-  module _ (i x k : ℕ) (late : e ≤ x) (is : k ≡ seekOf old b e x) where
-    by-join : (t : Bool) → joins old b e x k ≡ t → cond t (At k) (Next k) ≡ metOf old b e i x
+  module _ (i g x k : ℕ) (late : e ≤ x) (is : k ≡ seekOf old b e x) where
+    by-join : (t : Bool) → joins old b e g x k ≡ t → cond t (At k) (Next k) ≡ metOf old b e i g x
     by-join t h =
-        sym (ap (λ (c : Bool). cond c (cond (joins old b e x (seekOf old b e x)) (At (seekOf old b e x)) (Next (seekOf old b e x))) (Next i)) (le-leb e x late)
-        ∙ ap (λ (n : ℕ). cond (joins old b e x n) (At n) (Next n)) (sym is)
+        sym (ap (λ (c : Bool). cond c (cond (joins old b e g x (seekOf old b e x)) (At (seekOf old b e x)) (Next (seekOf old b e x))) (Next i)) (le-leb e x late)
+        ∙ ap (λ (n : ℕ). cond (joins old b e g x n) (At n) (Next n)) (sym is)
         ∙ ap (λ (c : Bool). cond c (At k) (Next k)) h)
 
-    pub meet-none : length old ≤ k → Next k ≡ metOf old b e i x
+    pub meet-none : length old ≤ k → Next k ≡ metOf old b e i g x
     unfolding joins
     meet-none h = by-join false (simp (le-leb e x late, le-ltb k (length old) h))
 
-    pub meet-at : k < length old → getD old k noEntry .start ≡ x - e + b → At k ≡ metOf old b e i x
+    pub meet-at : k < length old → getD old k noEntry .start ≡ x - e + b → getD old k noEntry .gap ≡ g → At k ≡ metOf old b e i g x
     unfolding joins
-    meet-at h at = by-join true (simp (le-leb e x late, lt-ltb k (length old) h, eq-eqb (getD old k noEntry .start + e) (x + b) (omega arith)))
+    meet-at h at gaps =
+        by-join true
+        (simp (le-leb e x late, lt-ltb k (length old) h, eq-eqb (getD old k noEntry .start + e) (x + b) (omega arith), eq-eqb (getD old k noEntry .gap) g gaps))
 
-    pub meet-past : k < length old → (getD old k noEntry .start ≡ x - e + b → ⊥) → Next k ≡ metOf old b e i x
+    pub meet-past : k < length old → (getD old k noEntry .start ≡ x - e + b → ⊥) → Next k ≡ metOf old b e i g x
     unfolding joins
     meet-past h off = by-join false (simp (le-leb e x late, lt-ltb k (length old) h, ne-eqb (getD old k noEntry .start + e) (x + b) (λ w. off (omega arith))))
 
+    -- where the starts meet and the gaps differ
+    pub meet-gapped : k < length old → getD old k noEntry .start ≡ x - e + b → (getD old k noEntry .gap ≡ g → ⊥) → Next k ≡ metOf old b e i g x
+    unfolding joins
+    meet-gapped h at off =
+        by-join false
+        (simp (le-leb e x late, lt-ltb k (length old) h, eq-eqb (getD old k noEntry .start + e) (x + b) (omega arith), ne-eqb (getD old k noEntry .gap) g off))
+
   -- ---- what a meeting says
 
-  pub met-next : (i x k : ℕ) → metOf old b e i x ≡ Next k → (joins old b e x (seekOf old b e x) ≡ false) × ((y : ℕ) → x ≤ y → i ≤ seekOf old b e y → k ≤ seekOf old b e y)
+  pub met-next : (i g x k : ℕ) → metOf old b e i g x ≡ Next k → (joins old b e g x (seekOf old b e x) ≡ false) × ((y : ℕ) → x ≤ y → i ≤ seekOf old b e y → k ≤ seekOf old b e y)
   unfolding joins
-  met-next i x k m =
+  met-next i g x k m =
       either (lt-or-le x e)
-      (λ l. let z : i ≡ k = (let w : Next i ≡ Next k = meet-early i x l ∙ m in cc) in (rw (lt-leb e x l), λ y h f. omega arith))
-      (λ l. go l (joins old b e x (seekOf old b e x)) refl)
+      (λ l. let z : i ≡ k = (let w : Next i ≡ Next k = meet-early i g x l ∙ m in cc) in (rw (lt-leb e x l), λ y h f. omega arith))
+      (λ l. go l (joins old b e g x (seekOf old b e x)) refl)
     where
-      go : e ≤ x → (t : Bool) → joins old b e x (seekOf old b e x) ≡ t → (joins old b e x (seekOf old b e x) ≡ false) × ((y : ℕ) → x ≤ y → i ≤ seekOf old b e y → k ≤ seekOf old b e y)
-      go l false j = let z : seekOf old b e x ≡ k = (let w : Next (seekOf old b e x) ≡ Next k = by-join i x (seekOf old b e x) l refl false j ∙ m in cc) in (j, λ y h f. omega (arith, seek-grows x y h))
-      go l true j = let w : At (seekOf old b e x) ≡ Next k = by-join i x (seekOf old b e x) l refl true j ∙ m in let y : _≡_ {A = ℕ} 0 1 = cc in absurd (omega arith)
+      go : e ≤ x → (t : Bool) → joins old b e g x (seekOf old b e x) ≡ t → (joins old b e g x (seekOf old b e x) ≡ false) × ((y : ℕ) → x ≤ y → i ≤ seekOf old b e y → k ≤ seekOf old b e y)
+      go l false j = let z : seekOf old b e x ≡ k = (let w : Next (seekOf old b e x) ≡ Next k = by-join i g x (seekOf old b e x) l refl false j ∙ m in cc) in (j, λ y h f. omega (arith, seek-grows x y h))
+      go l true j = let w : At (seekOf old b e x) ≡ Next k = by-join i g x (seekOf old b e x) l refl true j ∙ m in let y : _≡_ {A = ℕ} 0 1 = cc in absurd (omega arith)
 
-  pub met-at : (i x k : ℕ) → metOf old b e i x ≡ At k → (joins old b e x (seekOf old b e x) ≡ true) × (seekOf old b e x ≡ k)
-  met-at i x k m =
+  pub met-at : (i g x k : ℕ) → metOf old b e i g x ≡ At k → (joins old b e g x (seekOf old b e x) ≡ true) × (seekOf old b e x ≡ k)
+  met-at i g x k m =
       either (lt-or-le x e)
-      (λ l. let w : Next i ≡ At k = meet-early i x l ∙ m in let y : _≡_ {A = ℕ} 0 1 = cc in absurd (omega arith))
-      (λ l. go l (joins old b e x (seekOf old b e x)) refl)
+      (λ l. let w : Next i ≡ At k = meet-early i g x l ∙ m in let y : _≡_ {A = ℕ} 0 1 = cc in absurd (omega arith))
+      (λ l. go l (joins old b e g x (seekOf old b e x)) refl)
     where
-      go : e ≤ x → (t : Bool) → joins old b e x (seekOf old b e x) ≡ t → (joins old b e x (seekOf old b e x) ≡ true) × (seekOf old b e x ≡ k)
-      go l true j = let z : seekOf old b e x ≡ k = (let w : At (seekOf old b e x) ≡ At k = by-join i x (seekOf old b e x) l refl true j ∙ m in cc) in (j, z)
-      go l false j = let w : Next (seekOf old b e x) ≡ At k = by-join i x (seekOf old b e x) l refl false j ∙ m in let y : _≡_ {A = ℕ} 0 1 = cc in absurd (omega arith)
+      go : e ≤ x → (t : Bool) → joins old b e g x (seekOf old b e x) ≡ t → (joins old b e g x (seekOf old b e x) ≡ true) × (seekOf old b e x ≡ k)
+      go l true j = let z : seekOf old b e x ≡ k = (let w : At (seekOf old b e x) ≡ At k = by-join i g x (seekOf old b e x) l refl true j ∙ m in cc) in (j, z)
+      go l false j = let w : Next (seekOf old b e x) ≡ At k = by-join i g x (seekOf old b e x) l refl false j ∙ m in let y : _≡_ {A = ℕ} 0 1 = cc in absurd (omega arith)
 
   -- ---- one entry of the new reading
 
-  pub scan-on : (n i k : ℕ) (x : Entry) (r : Reading) → metOf old b e i (x .start) ≡ Next k → scanOf old b e n (entry x r) ≡ scanOf old b e (n + 1) r
+  pub scan-on : (n i k : ℕ) (x : Entry) (r : Reading) → metOf old b e i (x .gap) (x .start) ≡ Next k → scanOf old b e n (entry x r) ≡ scanOf old b e (n + 1) r
   unfolding scanOf
-  scan-on n i k x r m = ap (λ (c : Bool). cond c (Found n (seekOf old b e (x .start))) (scanOf old b e (n + 1) r)) (met-next i (x .start) k m .0)
+  scan-on n i k x r m = ap (λ (c : Bool). cond c (Found n (seekOf old b e (x .start))) (scanOf old b e (n + 1) r)) (met-next i (x .gap) (x .start) k m .0)
 
-  pub scan-at : (n i k : ℕ) (x : Entry) (r : Reading) → metOf old b e i (x .start) ≡ At k → scanOf old b e n (entry x r) ≡ Found n k
+  pub scan-at : (n i k : ℕ) (x : Entry) (r : Reading) → metOf old b e i (x .gap) (x .start) ≡ At k → scanOf old b e n (entry x r) ≡ Found n k
   unfolding scanOf
   scan-at n i k x r m =
-      let j = met-at i (x .start) k m in
+      let j = met-at i (x .gap) (x .start) k m in
       ap (λ (c : Bool). cond c (Found n (seekOf old b e (x .start))) (scanOf old b e (n + 1) r)) (j .0) ∙ ap (Found n) (j .1)
 
   pub scan-end : (n : ℕ) → scanOf old b e n complete ≡ Found n (length old)

@@ -68,18 +68,18 @@ seekOf old b e x = leading (movedBefore b e x) old
 
 -- No entry.
 abbrev pub noEntry : Entry
-noEntry = record { kind = 0; start = 0; end = 0; detail = 0 }
+noEntry = record { kind = 0; start = 0; end = 0; detail = 0; gap = 0 }
 
--- A new entry that starts at x, at e or behind it, starts where the old entry k, moved, does.
-unfoldable pub joins : List Entry → ℕ → ℕ → ℕ → ℕ → Bool
-joins old b e x k = leb e x && (ltb k (length old) && movedAt b e x (getD old k noEntry))
+-- A new entry that starts at x, at e or behind it, behind a gap of g bytes, starts where the old entry k, moved, does, and behind the same gap.
+unfoldable pub joins : List Entry → ℕ → ℕ → ℕ → ℕ → ℕ → Bool
+joins old b e g x k = let y = getD old k noEntry in leb e x && (ltb k (length old) && (movedAt b e x y && eqb (y .gap) g))
 
 -- The new reading behind n entries, up to the first entry that joins: how many stand before it, and the old entry's number, which is the count where none
 -- joins.
 unfoldable pub scanOf : List Entry → ℕ → ℕ → ℕ → Reading → Scan
 scanOf old b e n complete = scan.Found n (length old)
 scanOf old b e n (broken r) = scan.Refused r
-scanOf old b e n (entry x r) = let k = seekOf old b e (x .start) in let on = scanOf old b e (n + 1) r in cond (joins old b e (x .start) k) (scan.Found n k) on
+scanOf old b e n (entry x r) = let k = seekOf old b e (x .start) in let on = scanOf old b e (n + 1) r in cond (joins old b e (x .gap) (x .start) k) (scan.Found n k) on
 
 -- ---- the answer
 
@@ -119,7 +119,7 @@ repairAnswerOf tape count o a b text =
 
 -- An entry moved from b to e.
 abbrev pub movedFrom : ℕ → ℕ → Entry → Entry
-movedFrom b e y = record { kind = y .kind; start = y .start + e - b; end = y .end + e - b; detail = y .detail }
+movedFrom b e y = record { kind = y .kind; start = y .start + e - b; end = y .end + e - b; detail = y .detail; gap = y .gap }
 
 -- The tape with zeros in its first rows.
 unfoldable pub cleared : ℕ → List ℕ → List ℕ

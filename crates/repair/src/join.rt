@@ -44,7 +44,7 @@ pub fn find_join(
         match found {
             Following::Token(g, l) => {
                 let start = at + g;
-                let met = meet(tape, count, i, start, b, e);
+                let met = meet(tape, count, i, g, start, b, e);
                 match met {
                     Met::At(k) => {
                         return Scan::Found(n, k);

@@ -20,6 +20,7 @@ fn shift_row(tape: &mut [u32], f: usize, g: usize, b: usize, e: usize)
         start: moved_place(old.start, b, e),
         end: moved_place(old.end, b, e),
         detail: old.detail,
+        gap: old.gap,
     };
     row::write(tape, g, new);
 }
@@ -85,6 +86,7 @@ pub fn clear(tape: &mut [u32], x: usize, y: usize)
         start: 0,
         end: 0,
         detail: 0,
+        gap: 0,
     };
     let mut i = x;
     while i < y {

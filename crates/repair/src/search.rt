@@ -62,10 +62,18 @@ fn seek(tape: &[u32], count: usize, from: usize, q: usize) -> usize
     i
 }
 
-// Whether a new entry that starts at a place joins the old ones, the search standing at row i.
-pub fn meet(tape: &[u32], count: usize, i: usize, start: usize, b: usize, e: usize) -> Met
+// Whether a new entry that starts at a place, behind a gap, joins the old ones, the search standing at row i.
+pub fn meet(
+    tape: &[u32],
+    count: usize,
+    i: usize,
+    gap: usize,
+    start: usize,
+    b: usize,
+    e: usize,
+) -> Met
     requires { ⌜ (count ≤ roomOf (length (now tape))) × (e ≤ start → i ≤ seekOf (entriesOf count (now tape)) b e start) × (start - e + b < 2 ^ 64) ⌝ }
-    ensures { λ r. ⌜ r ≡ metOf (entriesOf count (now (tape .entry))) b e i start ⌝ }
+    ensures { λ r. ⌜ r ≡ metOf (entriesOf count (now (tape .entry))) b e i gap start ⌝ }
 {
     if start < e {
         return Met::Next(i);
@@ -76,8 +84,11 @@ pub fn meet(tape: &[u32], count: usize, i: usize, start: usize, b: usize, e: usi
         return Met::Next(k);
     }
     let old = row::entry(tape, k);
-    if wide(old.start) == q {
-        return Met::At(k);
+    if wide(old.start) != q {
+        return Met::Next(k);
     }
-    Met::Next(k)
+    if wide(old.gap) != gap {
+        return Met::Next(k);
+    }
+    Met::At(k)
 }

@@ -76,7 +76,7 @@ module _ (c : ℕ) (t : List ℕ) (scalar : Scalar c) (wide : 0x80 ≤ c) where
         ∙ ap (λ (p : ℕ). broken (unexpectedChar (at + p))) (omega arith)
 
     pub starts-name : xidStart c ≡ true
-        → (n : ℕ) × IsName (encode c ++ t) n × (readFrom ronToken text at ≡ entry (record { kind = 9; start = at + g; end = at + (g + n); detail = 0 }) (readFrom ronToken text (at + (g + n))))
+        → (n : ℕ) × IsName (encode c ++ t) n × (readFrom ronToken text at ≡ entry (record { kind = 9; start = at + g; end = at + (g + n); detail = 0; gap = g }) (readFrom ronToken text (at + (g + n))))
     starts-name e =
         let w = wide-name c t scalar wide e in
         (w .0, w .2, from-token ronToken quietByte laws text at _ (first-is ∙ ap (λ x. lexemeBehind g (lexemeOf (ofWord x))) (w .1)))

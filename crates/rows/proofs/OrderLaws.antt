@@ -5,9 +5,9 @@ use native.Mathlib.Omega.{arith}
 use mathlib.Core.Bool.{Bool, _&&_, false, true}
 use mathlib.Core.List.{List, [], _∷_}
 use mathlib.Core.Path.{_∙_, _≡_, ap, refl, subst, sym}
-use lib.Dec.{leb, ltb}
+use lib.Dec.{eqb, leb, ltb}
 use lib.ListN.{drop, getD, length}
-use borrow.Author.Tests.{le-leb, leb-true, ltb-true}
+use borrow.Author.Tests.{eq-eqb, eqb-true, le-leb, leb-true, ltb-true, ne-eqb}
 use Rattle.rows.proofs.RowLaws.{entries-next}
 use Rattle.rows.specs.Order.{fourOrderly, inOrder, inOrderFrom, orderly}
 use Rattle.rows.specs.Rows.{entriesOf, entryAt, width}
@@ -24,14 +24,29 @@ pub record Orderly (at : ℕ) (e : Entry) : Type 0 where
   pub high : e .kind ≤ 16
   pub behind : at ≤ e .start
   pub some : e .start < e .end
+  pub distance : at + e .gap ≡ e .start
 
 pub orderly-true : (at : ℕ) (e : Entry) → orderly at e ≡ true → Orderly at e
 unfolding orderly
 orderly-true at e h =
-    let p = and-true (within 1 16 (e .kind)) (leb at (e .start) && ltb (e .start) (e .end)) h in
-    let q = and-true (leb at (e .start)) (ltb (e .start) (e .end)) (p .1) in
+    let p = and-true (within 1 16 (e .kind)) (ltb (e .start) (e .end) && (leb at (e .start) && eqb (at + e .gap) (e .start))) h in
+    let q = and-true (ltb (e .start) (e .end)) (leb at (e .start) && eqb (at + e .gap) (e .start)) (p .1) in
+    let r = and-true (leb at (e .start)) (eqb (at + e .gap) (e .start)) (q .1) in
     let k = within-true 1 16 (e .kind) (p .0) in
-    record { low = k .0; high = k .1; behind = leb-true at (e .start) (q .0); some = ltb-true (e .start) (e .end) (q .1) }
+    record {
+      low = k .0;
+      high = k .1;
+      behind = leb-true at (e .start) (r .0);
+      some = ltb-true (e .start) (e .end) (q .0);
+      distance = eqb-true (at + e .gap) (e .start) (r .1);
+    }
+
+-- the distance, as the code tells it
+pub distance-on : (at g s : ℕ) → at ≤ s → s - at ≡ g → eqb (at + g) s ≡ true
+distance-on at g s h e = eq-eqb (at + g) s (omega arith)
+
+pub distance-off : (at g s : ℕ) → at ≤ s → (s - at ≡ g → ⊥) → eqb (at + g) s ≡ false
+distance-off at g s h n = ne-eqb (at + g) s (λ e. n (omega arith))
 
 -- the first entry, and those behind it
 pub in-order-first : (e : Entry) (es : List Entry) (at limit : ℕ) → inOrderFrom (e ∷ es) at limit ≡ true → Orderly at e × (inOrderFrom es (e .end) limit ≡ true)
@@ -49,6 +64,12 @@ in-order-within (e ∷ es) at limit h =
     let p = in-order-first e es at limit h in
     omega (arith, p .0 .behind, p .0 .some, in-order-within es (e .end) limit (p .1))
 
+-- those from row k on
+pub in-order-drop : (es : List Entry) (at limit k : ℕ) → inOrderFrom es at limit ≡ true → (n : ℕ) × (inOrderFrom (drop k es) n limit ≡ true)
+in-order-drop es at limit zero h = (at, h)
+in-order-drop [] at limit (suc k) h = (at, h)
+in-order-drop (e ∷ es) at limit (suc k) h = in-order-drop es (e .end) limit k (in-order-first e es at limit h .1)
+
 -- there are no more of them than places
 pub in-order-short : (es : List Entry) (at limit : ℕ) → inOrderFrom es at limit ≡ true → at + length es ≤ limit
 in-order-short [] at limit h = omega (arith, in-order-within [] at limit h)
@@ -58,29 +79,26 @@ in-order-short (e ∷ es) at limit h =
 
 -- each of them
 pub record Row (at limit : ℕ) (e : Entry) : Type 0 where
-  pub orderly-there : Orderly at e
+  pub behind : at ≤ e .start
+  pub some : e .start < e .end
   pub inside : e .end ≤ limit
 
 pub in-order-row : (es : List Entry) (at limit : ℕ) → inOrderFrom es at limit ≡ true → (k : ℕ) (d : Entry) → k < length es → Row at limit (getD es k d)
 in-order-row [] at limit h k d l = absurd (not-suc-le-zero l)
 in-order-row (e ∷ es) at limit h zero d l =
     let p = in-order-first e es at limit h in
-    record { orderly-there = p .0; inside = in-order-within es (e .end) limit (p .1) }
+    record { behind = p .0 .behind; some = p .0 .some; inside = in-order-within es (e .end) limit (p .1) }
 in-order-row (e ∷ es) at limit h (suc k) d l =
     let p = in-order-first e es at limit h in
     let q = in-order-row es (e .end) limit (p .1) k d (le-of-suc-le-suc l) in
-    let r = q .orderly-there in
-    record {
-      orderly-there = record { low = r .low; high = r .high; behind = omega (arith, p .0 .behind, p .0 .some, r .behind); some = r .some };
-      inside = q .inside;
-    }
+    record { behind = omega (arith, p .0 .behind, p .0 .some, q .behind); some = q .some; inside = q .inside }
 
 -- any two of them
 pub in-order-rise : (es : List Entry) (at limit : ℕ) → inOrderFrom es at limit ≡ true → (j k : ℕ) (d : Entry) → j < k → k < length es → getD es j d .end ≤ getD es k d .start
 in-order-rise [] at limit h j k d jk l = absurd (not-suc-le-zero l)
 in-order-rise (e ∷ es) at limit h j zero d jk l = absurd (not-suc-le-zero jk)
 in-order-rise (e ∷ es) at limit h zero (suc k) d jk l =
-    in-order-row es (e .end) limit (in-order-first e es at limit h .1) k d (le-of-suc-le-suc l) .orderly-there .behind
+    in-order-row es (e .end) limit (in-order-first e es at limit h .1) k d (le-of-suc-le-suc l) .behind
 in-order-rise (e ∷ es) at limit h (suc j) (suc k) d jk l =
     in-order-rise es (e .end) limit (in-order-first e es at limit h .1) j k d (le-of-suc-le-suc jk) (le-of-suc-le-suc l)
 

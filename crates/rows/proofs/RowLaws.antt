@@ -1,6 +1,6 @@
 -- Laws of rows: how entries and the numbers of a tape go together. Assumes nothing.
 use Prim.Native.Nat.{_*_, _+_, _-_, _<_, _≤_, suc, zero, ℕ}
-use native.Mathlib.Numerals.{add-one, add-three, add-two}
+use native.Mathlib.Numerals.{add-four, add-one, add-three, add-two}
 use native.Mathlib.Omega.{arith}
 use mathlib.Core.List.{List, [], _++_, _∷_, append-assoc, append-nil}
 use mathlib.Core.Path.{_∙_, _≡_, ap, refl, sym, ap₂}
@@ -21,6 +21,15 @@ row-fits i numbers h = omega arith
 
 pub entry-cells : (e : Entry) (s : List ℕ) → entryOf (cells e ++ s) ≡ e
 entry-cells e s = refl
+
+-- a whole row's numbers are its entry's
+pub cells-take : (s : List ℕ) → width ≤ length s → cells (entryOf s) ≡ take width s
+cells-take [] h = absurd (omega arith)
+cells-take (a ∷ []) h = absurd (omega arith)
+cells-take (a ∷ b ∷ []) h = absurd (omega arith)
+cells-take (a ∷ b ∷ c ∷ []) h = absurd (omega arith)
+cells-take (a ∷ b ∷ c ∷ d ∷ []) h = absurd (omega arith)
+cells-take (a ∷ b ∷ c ∷ d ∷ g ∷ s) h = refl
 
 pub length-flat : (es : List Entry) → length (flat es) ≡ width * length es
 unfolding flat
@@ -50,9 +59,9 @@ drop-row i t = let e : width * i + width ≡ width * (i + 1) = omega arith in dr
 
 -- what the reads of an entry's numbers come to
 pub reads : (t : List ℕ) (i : ℕ)
-    → record { kind = getD t (width * i) 0; start = getD t (width * i + 1) 0; end = getD t (width * i + 2) 0; detail = getD t (width * i + 3) 0 } ≡ entryAt t i
+    → record { kind = getD t (width * i) 0; start = getD t (width * i + 1) 0; end = getD t (width * i + 2) 0; detail = getD t (width * i + 3) 0; gap = getD t (width * i + 4) 0 } ≡ entryAt t i
 unfolding entryAt
-reads t i = rw (head-at t (width * i), getD-drop (width * i) t 1 0, getD-drop (width * i) t 2 0, getD-drop (width * i) t 3 0)
+reads t i = rw (head-at t (width * i), getD-drop (width * i) t 1 0, getD-drop (width * i) t 2 0, getD-drop (width * i) t 3 0, getD-drop (width * i) t 4 0)
 
 pub entry-part : (j i : ℕ) (t : List ℕ) → entryAt (drop (width * j) t) i ≡ entryAt t (j + i)
 unfolding entryAt
@@ -95,11 +104,12 @@ entries-at n i t d h =
 
 module _ (t : List ℕ) (i : ℕ) (e : Entry) (h : width * (i + 1) ≤ length t) where
   -- what the stores of an entry's numbers, one after the other, come to
-  pub stores : set (set (set (set t (width * i) (e .kind)) (width * i + 1) (e .start)) (width * i + 2) (e .end)) (width * i + 3) (e .detail) ≡ written t i e
+  pub stores : set (set (set (set (set t (width * i) (e .kind)) (width * i + 1) (e .start)) (width * i + 2) (e .end)) (width * i + 3) (e .detail)) (width * i + 4) (e .gap)
+      ≡ written t i e
   unfolding written
   stores =
       let w : width * i + width ≡ width * (i + 1) = omega arith in
-      rw (add-one (width * i), add-two (width * i), add-three (width * i))
+      rw (add-one (width * i), add-two (width * i), add-three (width * i), add-four (width * i))
       (sets-eq (cells e) t (width * i) (omega arith) ∙ ap (λ (n : ℕ). take (width * i) t ++ cells e ++ drop n t) w)
 
   front-length : length (take (width * i) t) ≡ width * i
@@ -151,7 +161,8 @@ entry-take [] = refl
 entry-take (a ∷ []) = refl
 entry-take (a ∷ b ∷ []) = refl
 entry-take (a ∷ b ∷ c ∷ []) = refl
-entry-take (a ∷ b ∷ c ∷ d ∷ s) = refl
+entry-take (a ∷ b ∷ c ∷ d ∷ []) = refl
+entry-take (a ∷ b ∷ c ∷ d ∷ g ∷ s) = refl
 
 row-slice : (n m : ℕ) (l : List ℕ) → take m (drop n l) ≡ drop n (take (n + m) l)
 row-slice zero m l = let e : 0 + m ≡ m = omega arith in ap (λ (k : ℕ). take k l) (sym e)

@@ -1,15 +1,16 @@
 -- A tape in order (document 01, refusal 23): "kinds are 1 to 16, each start is below its end, no entry starts before the former's end,
--- and the last ends within the old length (walk: within 65,536)."
-use Prim.Native.Nat.{ℕ}
+-- and the last ends within the old length (walk: within 65,536)." Document 02, CR 6: "23 also where a gap does not equal that distance", from the former
+-- entry's end, or the text's start, to its own start.
+use Prim.Native.Nat.{ℕ, _+_}
 use mathlib.Core.List.{List, [], _∷_}
 use mathlib.Core.Bool.{Bool, _&&_}
-use lib.Dec.{ltb, leb}
+use lib.Dec.{ltb, leb, eqb}
 use Rattle.text.specs.Classes.{within}
 use Rattle.rows.specs.declared.Entry.{Entry}
 
--- An entry may stand behind the place `at`.
+-- An entry may stand behind the place `at`; the distance is told by a sum, since a difference would be cut off at 0.
 unfoldable pub orderly : ℕ → Entry → Bool
-orderly at e = within 1 16 (e .kind) && (leb at (e .start) && ltb (e .start) (e .end))
+orderly at e = within 1 16 (e .kind) && (ltb (e .start) (e .end) && (leb at (e .start) && eqb (at + e .gap) (e .start)))
 
 -- Four entries, one behind the other, may: what is asked at once of four rows.
 unfoldable pub fourOrderly : ℕ → Entry → Entry → Entry → Entry → Bool

@@ -1,5 +1,5 @@
--- Entries on a tape (document 01): "a tape, a lent slice of 32-bit numbers, four to an entry: kind, start, end, detail.
--- Room is the slice's length divided by 4, rounded down."
+-- Entries on a tape (document 01): "a tape, a lent slice of 32-bit numbers, four to an entry: kind, start, end, detail." Document 02, CR 6: "Each entry gets a
+-- fifth number, the bytes between the former entry's end, or the text's start, and its own start. Room is then the length divided by 5."
 use Prim.Native.Nat.{ℕ, zero, suc, _+_, _*_, _/_}
 use mathlib.Core.List.{List, [], _∷_, _++_}
 use lib.ListN.{length, getD, take, drop}
@@ -7,7 +7,7 @@ use Rattle.rows.specs.declared.Entry.{Entry}
 
 -- How many numbers an entry has.
 abbrev pub width : ℕ
-width = 4
+width = 5
 
 -- How many entries a slice of so many numbers has room for.
 abbrev pub roomOf : ℕ → ℕ
@@ -15,11 +15,11 @@ roomOf numbers = numbers / width
 
 -- The numbers of an entry.
 abbrev pub cells : Entry → List ℕ
-cells e = e .kind ∷ e .start ∷ e .end ∷ e .detail ∷ []
+cells e = e .kind ∷ e .start ∷ e .end ∷ e .detail ∷ e .gap ∷ []
 
 -- The entry that the numbers at the front are; past the end stands 0.
 abbrev pub entryOf : List ℕ → Entry
-entryOf s = record { kind = getD s 0 0; start = getD s 1 0; end = getD s 2 0; detail = getD s 3 0 }
+entryOf s = record { kind = getD s 0 0; start = getD s 1 0; end = getD s 2 0; detail = getD s 3 0; gap = getD s 4 0 }
 
 -- The entry in row i.
 unfoldable pub entryAt : List ℕ → ℕ → Entry

@@ -19,10 +19,17 @@ fn is_orderly(at: u32, e: Entry) -> bool
     if kinds::ATTRIBUTE < e.kind {
         return false;
     }
+    if e.end <= e.start {
+        return false;
+    }
     if e.start < at {
         return false;
     }
-    e.start < e.end
+    let distance = e.start - at;
+    if distance != e.gap {
+        return false;
+    }
+    true
 }
 
 fn ends_within(at: u32, limit: usize) -> bool

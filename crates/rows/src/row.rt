@@ -6,7 +6,7 @@ ghost use lib.ListN.{length};
 ghost use Rattle.rows.specs.Rows.{width, roomOf, entryAt, written};
 
 // How many numbers an entry has.
-const WIDTH: usize = 4;
+const WIDTH: usize = 5;
 
 // How many entries a tape has room for.
 pub fn room(tape: &[u32]) -> usize
@@ -34,6 +34,7 @@ pub fn entry(tape: &[u32], i: usize) -> Entry
         start: tape[at + 1],
         end: tape[at + 2],
         detail: tape[at + 3],
+        gap: tape[at + 4],
     }
 }
 
@@ -47,4 +48,5 @@ pub fn write(tape: &mut [u32], i: usize, e: Entry)
     tape[at + 1] = e.start;
     tape[at + 2] = e.end;
     tape[at + 3] = e.detail;
+    tape[at + 4] = e.gap;
 }

@@ -25,7 +25,7 @@ abbrev list : List ℕ
 list = 0x5B ∷ 0x22 ∷ 0x61 ∷ 0x22 ∷ 0x5D ∷ []
 
 abbrev tape : List ℕ
-tape = 3 ∷ 0 ∷ 1 ∷ 0 ∷ 14 ∷ 1 ∷ 4 ∷ 1 ∷ 4 ∷ 4 ∷ 5 ∷ 0 ∷ []
+tape = 3 ∷ 0 ∷ 1 ∷ 0 ∷ 0 ∷ 14 ∷ 1 ∷ 4 ∷ 1 ∷ 0 ∷ 4 ∷ 4 ∷ 5 ∷ 0 ∷ 0 ∷ []
 
 -- its second entry has the contents 2 to 3, which are `a`
 plain-string : contentsOf list tape 3 1 ≡ accepted (span 2 3)
@@ -40,12 +40,12 @@ bracket : contentsOf list tape 3 0 ≡ refused otherKind
 unfolding contentsOf judgedOf utf8Of utf8From charLen widthOf behindThree behindFour secondByte within placeFits namedOf insideOf byKind entryAt
 bracket = refl
 
--- `"\xC3\xA9"` and its tape
+-- `"\xC3\xA9"` and its tape, with a gap that is no distance: it is not asked
 abbrev escaped : List ℕ
 escaped = 0x22 ∷ 0x5C ∷ 0x78 ∷ 0x43 ∷ 0x33 ∷ 0x5C ∷ 0x78 ∷ 0x41 ∷ 0x39 ∷ 0x22 ∷ []
 
 abbrev row : List ℕ
-row = 14 ∷ 0 ∷ 10 ∷ 2 ∷ []
+row = 14 ∷ 0 ∷ 10 ∷ 2 ∷ 7 ∷ []
 
 -- its contents hold an escape
 held : contentsOf escaped row 1 0 ≡ refused holdsEscape
@@ -67,7 +67,7 @@ unfolding decodedAnswer judgedOf utf8Of utf8From charLen widthOf behindThree beh
 no-room = refl
 
 -- over `""`: a start past the end is 28 though the count does not fit; an entry outside the slice is 23; one not below the count is 28
-past-the-end : contentsOf (0x22 ∷ 0x22 ∷ []) (14 ∷ 3 ∷ 2 ∷ 0 ∷ []) 2 0 ≡ refused unfit
+past-the-end : contentsOf (0x22 ∷ 0x22 ∷ []) (14 ∷ 3 ∷ 2 ∷ 0 ∷ 0 ∷ []) 2 0 ≡ refused unfit
 unfolding contentsOf judgedOf utf8Of utf8From charLen widthOf behindThree behindFour secondByte within placeFits namedOf insideOf byKind entryAt
 past-the-end = refl
 

@@ -105,7 +105,7 @@ scan-stops : (old : List Entry) (b e n m : ℕ) (r : Reading) (d : Refusal) → 
 unfolding scanOf
 scan-stops old b e n m complete d h q = let y : _≡_ {A = ℕ} 0 1 = cc in absurd (omega arith)
 scan-stops old b e n m (broken x) d h q = let y : x ≡ d = cc in omega (arith, ap (λ (r : Refusal). r .place) y)
-scan-stops old b e n m (entry x r) d h q = go (joins old b e (x .start) (seekOf old b e (x .start))) q (scan-stops old b e (n + 1) m r d h)
+scan-stops old b e n m (entry x r) d h q = go (joins old b e (x .gap) (x .start) (seekOf old b e (x .start))) q (scan-stops old b e (n + 1) m r d h)
   where
     go : (t : Bool) → cond t (Found n (seekOf old b e (x .start))) (scanOf old b e (n + 1) r) ≡ Refused d → (scanOf old b e (n + 1) r ≡ Refused d → d .place ≤ m) → d .place ≤ m
     go true q f = let y : _≡_ {A = ℕ} 0 1 = cc in absurd (omega arith)

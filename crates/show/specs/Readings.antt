@@ -7,9 +7,9 @@ use Rattle.lines.specs.Decimal.{decimal, wordOf}
 use Rattle.rows.specs.declared.Entry.{Entry}
 use Rattle.rows.specs.Rows.{roomOf, entriesOf}
 
--- An entry's four numbers behind a separator.
+-- An entry's numbers behind a separator (document 02, CR 6: the gap last).
 unfoldable pub entryText : ℕ → Entry → List ℕ
-entryText between e = between ∷ decimal (e .kind) ++ wordOf (e .start) ++ wordOf (e .end) ++ wordOf (e .detail)
+entryText between e = between ∷ decimal (e .kind) ++ wordOf (e .start) ++ wordOf (e .end) ++ wordOf (e .detail) ++ wordOf (e .gap)
 
 -- Entries one after another.
 unfoldable pub entriesText : ℕ → List Entry → List ℕ

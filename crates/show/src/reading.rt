@@ -13,7 +13,7 @@ use lines::out;
 use rows::row;
 use sarridok::ReadAnswer;
 
-// An entry's four numbers behind a separator.
+// An entry's numbers behind a separator, the gap last.
 fn entry(o: &mut [u8], at: usize, tape: &[u32], i: usize, between: u8) -> usize
     ensures { λ r. ⌜ (now (o .exit), r) ≡ put (now (o .entry), at)
         (cond (ltb i (roomOf (length (now (tape .entry))))) (entryText between (entryAt (now (tape .entry)) i)) []) ⌝ }
@@ -26,7 +26,8 @@ fn entry(o: &mut [u8], at: usize, tape: &[u32], i: usize, between: u8) -> usize
     let b = out::number(o, a, e.kind as u64);
     let c = out::word(o, b, e.start as u64);
     let d = out::word(o, c, e.end as u64);
-    out::word(o, d, e.detail as u64)
+    let f = out::word(o, d, e.detail as u64);
+    out::word(o, f, e.gap as u64)
 }
 
 // The first n entries of the tape.

@@ -54,7 +54,7 @@ unfolding flat
 one-flat none none r r′ z z′ e = refl
 one-flat none (more p x) r r′ z z′ e = absurd (omega (arith, plain-kind p, ap (λ (l : List ℕ). getD l 0 0) e))
 one-flat (more p x) none r r′ z z′ e = absurd (omega (arith, plain-kind p, ap (λ (l : List ℕ). getD l 0 0) e))
-one-flat (more p x) (more q y) r r′ z z′ e = ap₂ {C = List Entry} (λ (h : Entry) (l : List Entry). h ∷ l) (ap entryOf e) (one-flat x y r r′ z z′ (ap (drop 4) e))
+one-flat (more p x) (more q y) r r′ z z′ e = ap₂ {C = List Entry} (λ (h : Entry) (l : List Entry). h ∷ l) (ap entryOf e) (one-flat x y r r′ z z′ (ap (drop width) e))
 
 -- ---- what a reader does that meets the promise
 
@@ -96,7 +96,7 @@ abbrev opens : List ℕ
 opens = 0x28 ∷ 0x20 ∷ []
 
 abbrev opened : List Entry
-opened = record { kind = 1; start = 0; end = 1; detail = 0 } ∷ []
+opened = record { kind = 1; start = 0; end = 1; detail = 0; gap = 0 } ∷ []
 
 opens-spelt : Spelt 0 opens opened
 opens-spelt = more (mark round) none
@@ -105,14 +105,14 @@ abbrev closes : List ℕ
 closes = 0x29 ∷ 0x20 ∷ []
 
 abbrev closed : List Entry
-closed = record { kind = 2; start = 0; end = 1; detail = 0 } ∷ []
+closed = record { kind = 2; start = 0; end = 1; detail = 0; gap = 0 } ∷ []
 
 closes-spelt : Spelt 0 closes closed
 closes-spelt = more (mark round-end) none
 
 -- a tape with room for one entry
 abbrev zeros : List ℕ
-zeros = 0 ∷ 0 ∷ 0 ∷ 0 ∷ []
+zeros = 0 ∷ 0 ∷ 0 ∷ 0 ∷ 0 ∷ []
 
 module _ (f : Reader) (meets : Meets-read f) where
   -- a reader that refuses everything

@@ -85,7 +85,7 @@ abbrev pair : List ℕ
 pair = 0x28 ∷ 0x20 ∷ 0x29 ∷ 0x20 ∷ []
 
 abbrev pair-tape : List ℕ
-pair-tape = 1 ∷ 0 ∷ 1 ∷ 0 ∷ 2 ∷ 2 ∷ 3 ∷ 0 ∷ []
+pair-tape = 1 ∷ 0 ∷ 1 ∷ 0 ∷ 0 ∷ 2 ∷ 2 ∷ 3 ∷ 0 ∷ 1 ∷ []
 
 pair-holds : readingOf pair ≡ entriesOf 2 pair-tape ▸ complete
 unfolding entriesOf
@@ -96,7 +96,7 @@ abbrev last-new : List ℕ
 last-new = 0x28 ∷ 0x20 ∷ 0x5D ∷ 0x20 ∷ []
 
 abbrev last-entries : List Entry
-last-entries = record { kind = 1; start = 0; end = 1; detail = 0 } ∷ record { kind = 4; start = 2; end = 3; detail = 0 } ∷ []
+last-entries = record { kind = 1; start = 0; end = 1; detail = 0; gap = 0 } ∷ record { kind = 4; start = 2; end = 3; detail = 0; gap = 1 } ∷ []
 
 last-spelt : Spelt 0 last-new last-entries
 last-spelt = more (mark round) (more (mark square-end) none)
@@ -113,7 +113,7 @@ abbrev first-new : List ℕ
 first-new = 0x5B ∷ 0x20 ∷ 0x29 ∷ 0x20 ∷ []
 
 abbrev first-entries : List Entry
-first-entries = record { kind = 3; start = 0; end = 1; detail = 0 } ∷ record { kind = 2; start = 2; end = 3; detail = 0 } ∷ []
+first-entries = record { kind = 3; start = 0; end = 1; detail = 0; gap = 0 } ∷ record { kind = 2; start = 2; end = 3; detail = 0; gap = 1 } ∷ []
 
 first-spelt : Spelt 0 first-new first-entries
 first-spelt = more (mark square) (more (mark round-end) none)

@@ -58,17 +58,17 @@ text = 0x5F ∷ 0x31 ∷ 0x20 ∷ 0x28 ∷ 0x20 ∷ 0x37 ∷ 0x20 ∷ 0x22 ∷ 0
 
 abbrev told : List Entry
 told =
-    record { kind = 9; start = 0; end = 2; detail = 0 }
-    ∷ record { kind = 1; start = 3; end = 4; detail = 0 }
-    ∷ record { kind = 11; start = 5; end = 6; detail = 5 }
-    ∷ record { kind = 14; start = 7; end = 10; detail = 1 }
-    ∷ record { kind = 2; start = 11; end = 12; detail = 0 }
+    record { kind = 9; start = 0; end = 2; detail = 0; gap = 0 }
+    ∷ record { kind = 1; start = 3; end = 4; detail = 0; gap = 1 }
+    ∷ record { kind = 11; start = 5; end = 6; detail = 5; gap = 1 }
+    ∷ record { kind = 14; start = 7; end = 10; detail = 1; gap = 1 }
+    ∷ record { kind = 2; start = 11; end = 12; detail = 0; gap = 1 }
     ∷ []
 
 is-spelt : Spelt 0 text told
 is-spelt =
     spelt.Spelt.more name (spelt.Spelt.more (spelt.Plain.mark form.Mark.round) (spelt.Spelt.more seven (spelt.Spelt.more letter-a (spelt.Spelt.more (spelt.Plain.mark form.Mark.round-end) spelt.Spelt.none))))
 
--- a tape of twenty numbers holds it
-pub worked-spelt : (tape : List ℕ) → length tape ≡ 20 → (readAnswer text (length tape) ≡ accepted 5) × (entriesOf 5 (readTape text tape) ≡ told)
+-- a tape of twenty-five numbers holds it
+pub worked-spelt : (tape : List ℕ) → length tape ≡ 25 → (readAnswer text (length tape) ≡ accepted 5) × (entriesOf 5 (readTape text tape) ≡ told)
 worked-spelt tape e = spelt-read text tape told is-spelt (omega arith) (omega arith)

@@ -1,6 +1,6 @@
 -- Plain tokens written with a blank behind each: marks, names, decimal integers that fit, strings without quote or backslash (document 01, module 9;
 -- demand 2 "shuts out a reader that refuses everything, one that gives one tape to all texts, and one that accepts and writes nothing").
-use Prim.Native.Nat.{ℕ, _+_, _<_}
+use Prim.Native.Nat.{ℕ, _+_, _<_, min}
 use mathlib.Core.Bool.{true, false}
 use mathlib.Core.List.{List, [], _∷_, _++_}
 use mathlib.Core.Path.{_≡_}
@@ -31,8 +31,9 @@ pub data Plain : ℕ → ℕ → List ℕ → Type 0 where
   integer : {ds : List ℕ} → Decimal ds → valueOf 10 ds < 18446744073709551616 → Plain 11 (codeOf (firstFit false (valueOf 10 ds))) ds
   string : {w : List ℕ} → Encoded w → Unescaped w → Plain 14 (length w) (0x22 ∷ (w ++ 0x22 ∷ []))
 
--- `Spelt at s es`: from the place `at` on s is plain tokens with a blank behind each, and es are their entries.
+-- `Spelt at s es`: from the place `at` on s is plain tokens with a blank behind each, and es are their entries; in front of each stands one blank, and nothing
+-- where the text starts.
 pub data Spelt : ℕ → List ℕ → List Entry → Type 0 where
   none : {at : ℕ} → Spelt at [] []
   more : {at k d : ℕ} {w s : List ℕ} {es : List Entry} → Plain k d w → Spelt (at + length w + 1) s es
-      → Spelt at (w ++ 0x20 ∷ s) (record { kind = k; start = at; end = at + length w; detail = d } ∷ es)
+      → Spelt at (w ++ 0x20 ∷ s) (record { kind = k; start = at; end = at + length w; detail = d; gap = min 1 at } ∷ es)

@@ -59,11 +59,11 @@ module _ (text tape before left : List ℕ) (m : before ≡ marked markAt (lengt
 
 -- ---- `r HEX`
 
-pub room-some : (n : ℕ) → n < 65536 → 4 * n + 16 ≡ roomFor n
+pub room-some : (n : ℕ) → n < 65536 → width * n + 16 ≡ roomFor n
 unfolding roomFor
 room-some n h = omega arith
 
-pub room-most : (n : ℕ) → 65536 ≤ n → 262160 ≡ roomFor n
+pub room-most : (n : ℕ) → 65536 ≤ n → width * 65536 + 16 ≡ roomFor n
 unfolding roomFor
 room-most n h = omega arith
 

@@ -38,7 +38,7 @@ readIn text room tape = (readsText text (take room tape), tapeAfter text (take r
 
 -- As many numbers as a text can fill, and a few behind them.
 unfoldable pub roomFor : ℕ → ℕ
-roomFor bytes = 4 * min bytes 65536 + 16
+roomFor bytes = width * min bytes 65536 + 16
 
 -- `r HEX`: room enough. What is said, and the rooms for the text and the tape afterwards.
 unfoldable pub readLine : List ℕ → List ℕ → List ℕ → List ℕ × List ℕ × List ℕ

@@ -3,6 +3,7 @@ ghost use mathlib.Core.Path.{_≡_};
 ghost use Rattle.lines.specs.Out.{put};
 ghost use Rattle.tapes.specs.Reads.{roomFor, readLine};
 use crate::reads;
+use rows::row;
 use words::hex;
 use words::hex::Hex;
 
@@ -11,9 +12,9 @@ fn room(bytes: usize) -> usize
     ensures { λ r. ⌜ r ≡ roomFor bytes ⌝ }
 {
     if bytes < 65536 {
-        return 4 * bytes + 16;
+        return row::begins(bytes) + 16;
     }
-    262160
+    row::begins(65536) + 16
 }
 
 // `bad` where the line is no case, else the entries or the refusal.

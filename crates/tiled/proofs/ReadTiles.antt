@@ -78,6 +78,7 @@ token-tile text at t h =
     let r : drop (reach t) (drop at text) ≡ drop (at + reach t) text = drop-on at (reach t) (at + reach t) text refl in
     record {
       behind = omega arith;
+      distance = refl;
       some = omega arith;
       within = omega (arith, length-drop at text);
       gap = subst (Gap (drop at text)) g (f .0);

@@ -1,7 +1,8 @@
 -- Entries that tile a text (document 01): "Whitespace and comments make no entry." Gap, entry, gap, entry, .. to the end of the text.
-use Prim.Native.Nat.{ℕ, _<_, _≤_}
+use Prim.Native.Nat.{ℕ, _+_, _<_, _≤_}
 use mathlib.Core.List.{List, [], _∷_}
 use mathlib.Core.Logic.{_⊎_}
+use mathlib.Core.Path.{_≡_}
 use lib.ListN.{drop, length}
 use Rattle.rows.specs.declared.Entry.{Entry}
 use Rattle.gapped.specs.Gap.{Gap, OpenLine}
@@ -11,9 +12,10 @@ use Rattle.tiled.specs.Forms.{Form}
 abbrev pub LastGap : List ℕ → Type 0
 LastGap s = Gap s [] ⊎ OpenLine s
 
--- One entry at its places: behind the place `at` a gap, then bytes of its kind and detail, up to its end.
+-- One entry at its places: behind the place `at` a gap, as long as the entry says (document 02, CR 6), then bytes of its kind and detail, up to its end.
 pub record Tile (text : List ℕ) (at : ℕ) (e : Entry) : Type 0 where
   pub behind : at ≤ e .start
+  pub distance : at + e .gap ≡ e .start
   pub some : e .start < e .end
   pub within : e .end ≤ length text
   pub gap : Gap (drop at text) (drop (e .start) text)

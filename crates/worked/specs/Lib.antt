@@ -1,2 +1,3 @@
 pub mod Texts
 pub mod Reasons
+pub mod Gaps

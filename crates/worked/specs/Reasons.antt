@@ -22,8 +22,8 @@ reasonTexts =
     ∷ reads (0x22 ∷ 0x5c ∷ 0x75 ∷ 0x7b ∷ 0x44 ∷ 0x38 ∷ 0x30 ∷ 0x30 ∷ 0x7d ∷ 0x22 ∷ []) (77 ∷ []) (refused (invalidEscape NotACharacter 9)) (77 ∷ [])
     ∷ reads (0x62 ∷ 0x27 ∷ 0x5c ∷ 0x75 ∷ 0x7b ∷ 0x34 ∷ 0x31 ∷ 0x7d ∷ 0x27 ∷ []) (77 ∷ []) (refused (invalidEscape UnicodeInByteLiteral 8)) (77 ∷ [])
     ∷ types (0x62 ∷ 0x27 ∷ 0x5c ∷ 0x75 ∷ 0x7b ∷ 0x34 ∷ 0x31 ∷ 0x7d ∷ 0x27 ∷ []) U8 (refused (invalidEscape UnicodeInByteLiteral 8))
-    ∷ decodes (0x22 ∷ 0x5c ∷ 0x71 ∷ 0x22 ∷ []) (14 ∷ 0 ∷ 4 ∷ 1 ∷ []) (77 ∷ []) (refused (invalidEscape UnknownLetter 3)) (77 ∷ [])
+    ∷ decodes (0x22 ∷ 0x5c ∷ 0x71 ∷ 0x22 ∷ []) (14 ∷ 0 ∷ 4 ∷ 1 ∷ 0 ∷ []) (77 ∷ []) (refused (invalidEscape UnknownLetter 3)) (77 ∷ [])
     ∷ struct-is (0x28 ∷ 0x22 ∷ 0x5c ∷ 0x71 ∷ 0x22 ∷ 0x29 ∷ []) NoParensMeanUnit DifferentiateNewtype (refused (invalidEscape UnknownLetter 4))
-    ∷ repairs (3 ∷ 0 ∷ 1 ∷ 0 ∷ 14 ∷ 1 ∷ 4 ∷ 1 ∷ 4 ∷ 4 ∷ 5 ∷ 0 ∷ 77 ∷ []) 3 5 2 3 (0x5b ∷ 0x22 ∷ 0x5c ∷ 0x71 ∷ 0x22 ∷ 0x5d ∷ []) (refused (invalidEscape UnknownLetter 4))
-    (3 ∷ 0 ∷ 1 ∷ 0 ∷ 14 ∷ 1 ∷ 4 ∷ 1 ∷ 4 ∷ 4 ∷ 5 ∷ 0 ∷ 77 ∷ [])
+    ∷ repairs (3 ∷ 0 ∷ 1 ∷ 0 ∷ 0 ∷ 14 ∷ 1 ∷ 4 ∷ 1 ∷ 0 ∷ 4 ∷ 4 ∷ 5 ∷ 0 ∷ 0 ∷ 77 ∷ []) 3 5 2 3 (0x5b ∷ 0x22 ∷ 0x5c ∷ 0x71 ∷ 0x22 ∷ 0x5d ∷ []) (refused (invalidEscape UnknownLetter 4))
+    (3 ∷ 0 ∷ 1 ∷ 0 ∷ 0 ∷ 14 ∷ 1 ∷ 4 ∷ 1 ∷ 0 ∷ 4 ∷ 4 ∷ 5 ∷ 0 ∷ 0 ∷ 77 ∷ [])
     ∷ []

@@ -107,12 +107,13 @@ pub fn of_short_text(r: &mut Random, number: u64) -> Edit {
 }
 
 /// An edit of this text; one in sixteen may part characters, one in eight is at a character above U+007F,
-/// one in 32 puts an escape behind a quote.
+/// one in 32 puts an escape behind a quote, three in sixteen are in the gap before an entry.
 pub fn of_text(r: &mut Random, text: Vec<u8>) -> Edit {
     let special = match r.below(16) {
         0 => inside_characters(r, &text),
         1 | 2 => at_wide_character(r, &text),
         3 if r.once_in(2) => at_quote(r, &text),
+        4..=6 => in_gap(r, &text),
         _ => None,
     };
     if let Some((from, to, put)) = special {
@@ -266,4 +267,36 @@ fn at_quote(r: &mut Random, text: &[u8]) -> Option<(usize, usize, Vec<u8>)> {
     let mut put = Vec::new();
     strings::escape(r, &mut put);
     Some((from, to, put))
+}
+
+/// What is put into a gap and leaves it one.
+const GAPS: &[&str] = &[
+    " ", " ", " ", "  ", "\n", "\n    ", "\t", "\r\n", "\u{b}", "\u{85}", "\u{200e}", "\u{2028}", "/**/", "/*,*/",
+    "/*/*é*/*/", "/* \" */ ", "//\n", "//, '\n", " // é\n",
+];
+
+/// What stands in the place of one blank: as long, or longer.
+const FOR_A_BLANK: &[&str] = &["\n", "\t", "\u{c}", "  ", "\u{85}", "\u{2029}", "/**/", "//\n"];
+
+/// A change of nothing but the bytes before an entry: put in right before it or behind the former one, taken out, one or all of them,
+/// or others in their place.
+fn in_gap(r: &mut Random, text: &[u8]) -> Option<(usize, usize, Vec<u8>)> {
+    let place = if r.once_in(6) { 0 } else { r.below(text.len() + 1) };
+    let entry = (place..text.len()).find(|at| may_start(text, *at))?;
+    let gap = (0..entry).rev().find(|at| class(text[*at]) != b' ').map_or(0, |at| at + 1);
+    let put = r.pick(GAPS).as_bytes().to_vec();
+    Some(match r.below(8) {
+        3 => (gap, gap, put),
+        4 if gap < entry => (entry - 1, entry, Vec::new()),
+        5 if gap < entry => (gap, entry, Vec::new()),
+        6 if gap < entry => (gap, entry, put),
+        7 if gap < entry => (entry - 1, entry, r.pick(FOR_A_BLANK).as_bytes().to_vec()),
+        _ => (entry, entry, put),
+    })
+}
+
+/// Something that is no blank stands here behind a blank, a mark or nothing: mostly an entry's start.
+fn may_start(text: &[u8], place: usize) -> bool {
+    class(text[place]) != b' '
+        && (place == 0 || class(text[place - 1]) == b' ' || b",:()[]{}".contains(&text[place - 1]))
 }

@@ -2,6 +2,7 @@
 use crate::documents::Draft;
 use crate::edits::Edit;
 use crate::random::Random;
+use crate::tapes::WIDTH;
 use crate::{alphabet, damage, edits, entries, gaps, limits, line, names, numbers, places, repairs, strings, tapes};
 
 /// One case in so many that have no short text has one at the size limit: one in 20,000 of all.
@@ -201,10 +202,10 @@ fn buffer(r: &mut Random) -> u64 {
 /// Numbers of a tape: about as many as the entries need, or a few.
 fn room(r: &mut Random, entries: usize) -> u64 {
     match r.below(6) {
-        0 => r.below(12) as u64,
-        1 => 4 * 65_536,
-        2 => (4 * entries + r.below(12)).saturating_sub(6) as u64,
-        _ => (4 * entries + r.below(4)) as u64,
+        0 => r.below(3 * WIDTH) as u64,
+        1 => (WIDTH * 65_536) as u64,
+        2 => (WIDTH * entries + r.below(12)).saturating_sub(6) as u64,
+        _ => (WIDTH * entries + r.below(WIDTH)) as u64,
     }
 }
 

@@ -1,5 +1,6 @@
 //! Texts that are read without refusal, laid out together with their tape.
 use crate::random::Random;
+use crate::tapes::WIDTH;
 use crate::wide;
 
 /// Kind, detail and bytes of tokens.
@@ -80,7 +81,7 @@ pub fn text(r: &mut Random, entries: usize) -> Laid {
     if r.once_in(4) {
         laid.gap(r);
     }
-    while laid.tape.len() < 4 * entries {
+    while laid.tape.len() < WIDTH * entries {
         laid.step(r);
     }
     if r.once_in(12) {
@@ -135,16 +136,17 @@ impl Laid {
     }
 
     fn entry(&mut self, kind: u32, detail: u32, token: &[u8]) {
+        let former_end = self.tape.last_chunk::<WIDTH>().map_or(0, |row| row[2]);
         let start = self.text.len() as u32;
         self.text.extend_from_slice(token);
-        self.tape.extend_from_slice(&[kind, start, self.text.len() as u32, detail]);
+        self.tape.extend_from_slice(&[kind, start, self.text.len() as u32, detail, start - former_end]);
     }
 
     /// The text ends with a name or a number, which what follows could join.
     fn is_open(&self) -> bool {
-        match *self.tape {
-            [.., kind, _, end, _] => end as usize == self.text.len() && (9..=12).contains(&kind),
-            _ => false,
+        match self.tape.last_chunk::<WIDTH>() {
+            Some(&[kind, _, end, _, _]) => end as usize == self.text.len() && (9..=12).contains(&kind),
+            None => false,
         }
     }
 }

@@ -3,10 +3,7 @@
 use crate::edits::{self, Edit};
 use crate::laid;
 use crate::random::Random;
-use crate::tapes;
-
-/// Numbers in one entry.
-const WIDTH: usize = 4;
+use crate::tapes::{self, PAST_64_BITS, WIDTH};
 
 pub struct Repair {
     pub count: u64,
@@ -17,24 +14,27 @@ pub struct Repair {
     pub tape: Vec<u32>,
 }
 
-const EDGES: &[u64] = &[65_536, 65_537, (1 << 32) - 1, 1 << 32, 1 << 62, 1 << 63, u64::MAX - 1, u64::MAX];
+const EDGES: &[u64] = &[65_536, 65_537, (1 << 32) - 1, 1 << 32, PAST_64_BITS, 1 << 63, u64::MAX - 1, u64::MAX];
 
-/// Most are of a text's reading; one in eight of them has no repair (23).
+/// Most are of a text's reading; one in eight of them has no repair (23), and three in sixteen have a wrong gap, which is 23 too.
 pub fn any(r: &mut Random) -> Repair {
     match r.below(16) {
         0 => of_whole_text(r),
         1 => of_no_entries(r),
         _ => {
-            let mut repair = of_reading(r);
-            if r.once_in(8) {
-                unfit(r, &mut repair);
+            let (mut repair, old) = of_reading(r);
+            match r.below(16) {
+                0 | 1 => unfit(r, &mut repair),
+                2..=4 => unfit_gap(r, &mut repair, &old),
+                _ => {}
             }
             repair
         }
     }
 }
 
-fn of_reading(r: &mut Random) -> Repair {
+/// A repair, and the text that its tape is the reading of.
+fn of_reading(r: &mut Random) -> (Repair, Vec<u8>) {
     let entries = match r.below(400) {
         0 => r.from(100, 3_000),
         1..=40 => r.below(2),
@@ -45,7 +45,7 @@ fn of_reading(r: &mut Random) -> Repair {
     let edit = edits::of_text(r, laid.text);
     let mut tape = laid.tape;
     more_room(r, &mut tape);
-    of_edit(&edit, count, tape)
+    (of_edit(&edit, count, tape), edit.text)
 }
 
 fn of_edit(edit: &Edit, count: usize, tape: Vec<u32>) -> Repair {
@@ -91,7 +91,11 @@ fn of_whole_text(r: &mut Random) -> Repair {
     };
     more_room(r, &mut tape);
     let new = edits::any(r).edited();
-    Repair { count: kinds.len() as u64, old_length, from: 0, to: old_length, new, tape }
+    let mut repair = Repair { count: kinds.len() as u64, old_length, from: 0, to: old_length, new, tape };
+    if r.once_in(5) {
+        unfit_gap(r, &mut repair, &[]);
+    }
+    repair
 }
 
 /// There is no old entry to keep: any cut.
@@ -130,8 +134,32 @@ fn unfit(r: &mut Random, repair: &mut Repair) {
         _ => {
             let entry = r.below(entries);
             unfit_entry(r, &mut repair.tape[..WIDTH * (entry + 1)], entry);
+            if entry + 1 < entries {
+                mend_gap(&mut repair.tape, entry + 1);
+            }
         }
     }
+}
+
+/// The gap behind an entry whose end was changed, so that nothing else is wrong.
+fn mend_gap(tape: &mut [u32], entry: usize) {
+    let former_end = tape[WIDTH * entry - WIDTH + 2];
+    let row = tapes::row(tape, entry);
+    row[4] = row[1] - former_end;
+}
+
+/// One gap that is not the distance.
+fn unfit_gap(r: &mut Random, repair: &mut Repair, old: &[u8]) {
+    if repair.count > 0 {
+        let entry = tapes::one_of(r, repair.count as usize);
+        let row = tapes::row(&mut repair.tape, entry);
+        tapes::wrong_gap(r, row, line_start(old, row[1] as usize) as u32);
+    }
+}
+
+/// Where the line of a place begins.
+fn line_start(text: &[u8], place: usize) -> usize {
+    (1..=place).rev().find(|at| text.get(at - 1) == Some(&b'\n')).unwrap_or(0)
 }
 
 fn more(r: &mut Random, than: u64) -> u64 {
@@ -156,13 +184,17 @@ fn unfit_last(r: &mut Random, repair: &mut Repair, last: usize) {
     }
 }
 
-/// A kind that is none, an empty entry or one that ends before it starts, or a start before the former's end.
+/// A kind that is none, an empty entry or one that ends before it starts, or a start before the former's end
+/// behind a gap of none, or of as many bytes as 2^32 leave for it.
 fn unfit_entry(r: &mut Random, tape: &mut [u32], entry: usize) {
     let (former, row) = tape.split_at_mut(WIDTH * entry);
     match (r.below(4), former) {
         (0, _) => row[0] = r.number(&[0, 17, 18, 256, u64::from(u32::MAX)]) as u32,
         (1, _) => row[2] = row[1],
-        (2, [.., end, _]) => row[1] = *end - 1,
+        (2, [.., end, _, _]) => {
+            row[1] = *end - 1;
+            row[4] = r.number(&[0, u64::from(u32::MAX)]) as u32;
+        }
         _ => row[2] = r.below(row[1] as usize + 1) as u32,
     }
 }

@@ -1,8 +1,12 @@
 //! Small tapes for contents, walks and repairs, in order or not.
 use crate::random::Random;
 
-/// Numbers in one entry.
-const WIDTH: usize = 4;
+/// Numbers in one entry, kind, start, end, detail and gap: the one place of the makers that says how many.
+pub const WIDTH: usize = 5;
+
+/// The least counts whose entries have more numbers than 32 bits, and 64, can say.
+pub const PAST_32_BITS: u64 = (1 << 32) / WIDTH as u64 + 1;
+pub const PAST_64_BITS: u64 = u64::MAX / WIDTH as u64 + 1;
 
 pub struct Asked {
     pub entry: u64,
@@ -17,8 +21,8 @@ pub fn around(r: &mut Random, kind: u32, start: u32) -> Asked {
     let mut tape = Vec::new();
     for n in 0..entries {
         match n == entry {
-            true => tape.extend_from_slice(&[kind, start, any(r), any(r)]),
-            false => tape.extend_from_slice(&[any(r), any(r), any(r), any(r)]),
+            true => tape.extend_from_slice(&[kind, start, any(r), any(r), any(r)]),
+            false => tape.extend_from_slice(&[any(r), any(r), any(r), any(r), any(r)]),
         }
     }
     if r.once_in(6) {
@@ -42,7 +46,7 @@ fn off(r: &mut Random, n: usize) -> u64 {
     match r.below(16) {
         0 => n as u64 + 1,
         1 => n.saturating_sub(1) as u64,
-        2 => r.number(&[0, 1 << 32, 1 << 62, 1 << 63, u64::MAX]),
+        2 => r.number(&[0, 1 << 32, PAST_64_BITS, 1 << 63, u64::MAX]),
         _ => n as u64,
     }
 }
@@ -55,7 +59,7 @@ pub struct Walk {
     pub tape: Vec<u32>,
 }
 
-/// A walk over entries of these kinds, mostly with all in order.
+/// A walk over entries of these kinds, mostly with all in order; in one of five a gap is wrong.
 pub fn walk(r: &mut Random, kinds: &[u32]) -> Walk {
     let mut tape = laid(r, kinds);
     let entries = kinds.len();
@@ -66,6 +70,11 @@ pub fn walk(r: &mut Random, kinds: &[u32]) -> Walk {
             tape[at] = any(r);
         }
         2 => tape.resize(tape.len() + r.below(2 * WIDTH), 7),
+        3..=7 if entries > 0 => {
+            let entry = one_of(r, entries);
+            let line = r.below(tape[WIDTH * entry + 1] as usize + 1) as u32;
+            wrong_gap(r, row(&mut tape, entry), line);
+        }
         _ => {}
     }
     let count = off(r, entries);
@@ -94,14 +103,52 @@ pub fn limit(r: &mut Random) -> u64 {
 /// Entries of these kinds one behind the other, with and without a gap between.
 pub fn laid(r: &mut Random, kinds: &[u32]) -> Vec<u32> {
     let mut tape = Vec::new();
-    let mut end = match r.below(16) {
+    let mut gap = match r.below(16) {
         0 => 65_536 - kinds.len().min(100) as u32,
         _ => r.below(3) as u32,
     };
+    let mut end = 0;
     for &kind in kinds {
-        let start = end + u32::from(r.once_in(3));
+        let start = end + gap;
         end = start + 1 + r.below(3) as u32;
-        tape.extend_from_slice(&[kind, start, end, any(r)]);
+        tape.extend_from_slice(&[kind, start, end, any(r), gap]);
+        gap = some_gap(r);
     }
     tape
+}
+
+fn some_gap(r: &mut Random) -> u32 {
+    match r.below(9) {
+        0 => r.from(2, 9) as u32,
+        1 | 2 => 1,
+        _ => 0,
+    }
+}
+
+/// An entry's numbers.
+pub fn row(tape: &mut [u32], entry: usize) -> &mut [u32] {
+    &mut tape[WIDTH * entry..WIDTH * (entry + 1)]
+}
+
+/// One of so many entries: the first and the last come as often as all others.
+pub fn one_of(r: &mut Random, entries: usize) -> usize {
+    match r.below(4) {
+        0 => 0,
+        1 => entries - 1,
+        _ => r.below(entries),
+    }
+}
+
+/// A gap that is not the distance: by one, none, the largest number, the entry's start, or counted from its line's start.
+pub fn wrong_gap(r: &mut Random, row: &mut [u32], line: u32) {
+    let (start, distance) = (row[1], row[4]);
+    let gap = match r.below(7) {
+        0 | 1 => distance + 1,
+        2 => distance.wrapping_sub(1),
+        3 => 0,
+        4 => u32::MAX,
+        5 => start,
+        _ => start - line,
+    };
+    row[4] = if gap == distance { distance + 1 } else { gap };
 }

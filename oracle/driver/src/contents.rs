@@ -5,12 +5,11 @@ use std::io::Write;
 use ron::parse::{ParsedByteStr, ParsedStr};
 
 use crate::line::{Line, Store};
+use crate::read::WIDTH;
 use crate::refusal::{Answer, Refusal};
 use crate::run::{parser_at, run};
 use crate::text::{fit, is_place, text};
 
-/// Numbers in one entry of a tape.
-const WIDTH: usize = 4;
 const STRING: u32 = 14;
 const BYTE_STRING: u32 = 15;
 
@@ -18,7 +17,7 @@ pub fn of_one_entry(words: &mut Line, store: &mut Store, out: &mut Vec<u8>) -> O
     let (kind, start) = (words.tape_number()?, words.tape_number()?);
     words.bytes(&mut store.text)?;
     words.end()?;
-    let found = contents(0, 1, &[kind, start, 0, 0], &store.text);
+    let found = contents(0, 1, &[kind, start, 0, 0, 0], &store.text);
     print(&found, usize::MAX, out);
     Some(Ok(()))
 }

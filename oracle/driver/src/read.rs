@@ -9,8 +9,8 @@ use crate::refusal::{Answer, Refusal};
 use crate::run::{cursor, parser_at, run};
 use crate::text::text;
 
-/// Numbers in one entry of a tape.
-const WIDTH: usize = 4;
+/// Numbers in one entry of a tape: the one place that says how many.
+pub const WIDTH: usize = 5;
 
 pub fn with_room_enough(words: &mut Line, store: &mut Store, out: &mut Vec<u8>) -> Option<Answer> {
     words.bytes(&mut store.text)?;
@@ -25,11 +25,33 @@ pub fn with_numbers(words: &mut Line, store: &mut Store, out: &mut Vec<u8>) -> O
     Some(read(numbers / WIDTH, &store.text, out))
 }
 
+/// "Kind, start, end, detail", and the gap: "the bytes between the former entry's end, or the text's start, and its own start".
 pub struct Entry {
     pub kind: u32,
     pub start: usize,
     pub end: usize,
     pub detail: usize,
+    pub gap: usize,
+}
+
+impl Entry {
+    /// From its numbers on a tape.
+    pub fn of(row: &[u32]) -> Self {
+        let place = |n: usize| row[n] as usize;
+        Entry { kind: row[0], start: place(1), end: place(2), detail: place(3), gap: place(4) }
+    }
+
+    /// Its numbers on a tape.
+    pub fn row(&self) -> [u32; WIDTH] {
+        [self.kind, self.start as u32, self.end as u32, self.detail as u32, self.gap as u32]
+    }
+}
+
+/// As an answer lists them.
+pub fn print_entries(entries: &[Entry], out: &mut Vec<u8>) {
+    for e in entries {
+        let _ = write!(out, ";{} {} {} {} {}", e.kind, e.start, e.end, e.detail, e.gap);
+    }
 }
 
 fn read(room: usize, bytes: &[u8], out: &mut Vec<u8>) -> Answer {
@@ -38,9 +60,7 @@ fn read(room: usize, bytes: &[u8], out: &mut Vec<u8>) -> Answer {
         return Err(Refusal::new(22, 0));
     }
     let _ = write!(out, "ok {}", entries.len());
-    for e in &entries {
-        let _ = write!(out, ";{} {} {} {}", e.kind, e.start, e.end, e.detail);
-    }
+    print_entries(&entries, out);
     Ok(())
 }
 
@@ -54,23 +74,29 @@ pub fn entries(text: &str) -> Answer<Vec<Entry>> {
 /// The same, put behind what a lent vector holds.
 pub fn entries_into(text: &str, entries: &mut Vec<Entry>) -> Answer {
     let mut parser = parser_at(text, 0);
+    let mut former = 0;
     loop {
         run(&mut parser, |p| p.skip_ws())?;
         if parser.src().is_empty() {
             return Ok(());
         }
-        entries.push(entry(&mut parser)?);
+        let entry = entry(&mut parser, former)?;
+        former = entry.end;
+        entries.push(entry);
     }
 }
 
-fn entry(parser: &mut Parser) -> Answer<Entry> {
+/// The entry where the parser stands; `former` is the end of the one before it, or the text's start.
+fn entry(parser: &mut Parser, former: usize) -> Answer<Entry> {
     let start = cursor(parser);
+    let gap = start - former;
     if parser.check_char('#') {
-        return attribute(parser, start);
+        let (end, detail) = attribute(parser, start)?;
+        return Ok(Entry { kind: 16, start, end, detail, gap });
     }
     let (kind, detail) = token(parser, start)?;
     let end = cursor(parser);
-    Ok(Entry { kind, start, end, detail })
+    Ok(Entry { kind, start, end, detail, gap })
 }
 
 /// Kind and detail of a token that is no attribute; the parser then stands behind it.
@@ -150,9 +176,9 @@ fn name(parser: &mut Parser, start: usize) -> Answer<(u32, usize)> {
     }
 }
 
-/// 19 to 21 stand at the `#`. The crate skips whitespace behind the `]` of an `enable`,
+/// End and detail of an attribute. 19 to 21 stand at the `#`. The crate skips whitespace behind the `]` of an `enable`,
 /// and notes in its cursor where that began.
-fn attribute(parser: &mut Parser, start: usize) -> Answer<Entry> {
+fn attribute(parser: &mut Parser, start: usize) -> Answer<(usize, usize)> {
     let found = run(parser, |p| p.document_attribute()).map_err(|refusal| match refusal.number {
         19..=21 => Refusal::new(refusal.number, start),
         _ => refusal,
@@ -160,5 +186,5 @@ fn attribute(parser: &mut Parser, start: usize) -> Answer<Entry> {
     let [cursor, pre, _] = parser.cursor_numbers();
     let end = if found.is_some() { pre } else { cursor };
     let detail = found.unwrap_or(0);
-    Ok(Entry { kind: 16, start, end, detail })
+    Ok((end, detail))
 }

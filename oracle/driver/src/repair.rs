@@ -1,15 +1,12 @@
 //! `p A B NEWHEX HEX` and `P COUNT OLDLEN A B HEX N,N,..`: repair is the port's addition, of which the crate knows nothing.
-//! A plain model of document 01's sentences: the crate reads the new text from its front, and what was kept is counted over
-//! the two lists of entries. It takes no step that an implementation would take.
+//! A plain model of document 01's sentences, with document 02's on the gap: the crate reads the new text from its front, and what
+//! was kept is counted over the two lists of entries. It takes no step that an implementation would take.
 use std::io::Write;
 
 use crate::line::{Line, Store};
-use crate::read::{entries, Entry};
+use crate::read::{entries, print_entries, Entry, WIDTH};
 use crate::refusal::{Answer, Refusal};
 use crate::text::text;
-
-/// Numbers in one entry of a tape.
-const WIDTH: usize = 4;
 
 /// The old text's length, and the cut in it.
 struct Cut {
@@ -59,9 +56,7 @@ fn read_and_repair(old: &[u8], cut: &Cut, new: &[u8], out: &mut Vec<u8>) -> Answ
     };
     let found = repaired(&old, cut, text(new)?)?;
     print_counts(&found, out);
-    for e in &found.entries {
-        let _ = write!(out, ";{} {} {} {}", e.kind, e.start, e.end, e.detail);
-    }
+    print_entries(&found.entries, out);
     Ok(())
 }
 
@@ -72,7 +67,7 @@ fn repair(count: usize, tape: &[u32], cut: &Cut, new: &[u8], out: &mut Vec<u8>) 
     if !lengths_agree(cut, new.len()) || count > room {
         return Err(Refusal::new(23, 0));
     }
-    let old: Vec<Entry> = tape[..WIDTH * count].chunks_exact(WIDTH).map(entry).collect();
+    let old: Vec<Entry> = tape.chunks_exact(WIDTH).take(count).map(Entry::of).collect();
     if !in_order(&old, cut.old_length) {
         return Err(Refusal::new(23, 0));
     }
@@ -96,21 +91,25 @@ fn lengths_agree(cut: &Cut, new_length: usize) -> bool {
         && wide(new_length) + wide(cut.to) >= wide(cut.old_length) + wide(cut.from)
 }
 
-fn entry(row: &[u32]) -> Entry {
-    Entry { kind: row[0], start: row[1] as usize, end: row[2] as usize, detail: row[3] as usize }
-}
-
-/// "kinds are 1 to 16, each start is below its end, no entry starts before the former's end, and the last ends within the old length".
+/// "kinds are 1 to 16, each start is below its end, no entry starts before the former's end, and the last ends within the old length";
+/// "23 also where a gap does not equal that distance".
 fn in_order(entries: &[Entry], length: usize) -> bool {
     entries.iter().all(|e| (1..=16).contains(&e.kind))
         && entries.iter().all(|e| e.start < e.end)
         && entries.windows(2).all(|two| two[0].end <= two[1].start)
         && entries.last().is_none_or(|e| e.end <= length)
+        && gaps_agree(entries)
+}
+
+/// "The bytes between the former entry's end, or the text's start, and its own start", of entries that start in order.
+fn gaps_agree(entries: &[Entry]) -> bool {
+    let former_ends = [0].into_iter().chain(entries.iter().map(|e| e.end));
+    entries.iter().zip(former_ends).all(|(e, former_end)| e.gap == e.start - former_end)
 }
 
 /// Kept before: "the old entries with a quiet byte at or behind their end and before a".
 /// Kept behind: "the largest k such that the last k new entries start at or behind the new bytes' end and are the last k old ones,
-/// moved by the change of length"; what holds of the last k holds of fewer.
+/// moved by the change of length", where "an entry kept behind must agree in its gap as well"; what holds of the last k holds of fewer.
 fn repaired(old: &[Entry], cut: &Cut, new: &str) -> Answer<Repaired> {
     let entries = entries(new)?;
     let quiet_before = |place: usize| new.as_bytes().get(place..cut.from).is_some_and(|b| b.iter().any(is_quiet));
@@ -131,6 +130,7 @@ fn is_moved(old: &Entry, change: i128, new: &Entry) -> bool {
     let moved = |place: usize| place as i128 + change;
     old.kind == new.kind
         && old.detail == new.detail
+        && old.gap == new.gap
         && moved(old.start) == new.start as i128
         && moved(old.end) == new.end as i128
 }
@@ -140,7 +140,7 @@ fn written(tape: &[u32], count: usize, entries: &[Entry]) -> Vec<u32> {
     let mut slice = tape.to_vec();
     slice[..WIDTH * count].fill(0);
     for (row, e) in slice.chunks_exact_mut(WIDTH).zip(entries) {
-        row.copy_from_slice(&[e.kind, e.start as u32, e.end as u32, e.detail as u32]);
+        row.copy_from_slice(&e.row());
     }
     slice
 }

@@ -4,14 +4,12 @@ use std::io::Write;
 
 use crate::grammar::Recogniser;
 use crate::line::{Line, Store};
-use crate::read::entries;
+use crate::read::{entries, Entry, WIDTH};
 use crate::refusal::{Answer, Refusal};
 use crate::text::text;
 
-/// Numbers in one entry of a tape.
-const WIDTH: usize = 4;
 const DEEPEST: usize = 128;
-const LAST_END: u32 = 65_536;
+const LAST_END: usize = 65_536;
 
 pub fn of_text(words: &mut Line, store: &mut Store, out: &mut Vec<u8>) -> Option<Answer> {
     let limit = words.number()?;
@@ -29,7 +27,7 @@ pub fn of_any_tape(words: &mut Line, store: &mut Store, out: &mut Vec<u8>) -> Op
 
 fn read_and_walk(limit: usize, bytes: &[u8], out: &mut Vec<u8>) -> Answer {
     let entries = entries(text(bytes)?)?;
-    let tape: Vec<u32> = entries.iter().flat_map(|e| [e.kind, e.start as u32, e.end as u32, e.detail as u32]).collect();
+    let tape: Vec<u32> = entries.iter().flat_map(Entry::row).collect();
     walk(limit, entries.len(), entries.len(), &tape, out)
 }
 
@@ -39,13 +37,17 @@ fn walk(limit: usize, links: usize, count: usize, tape: &[u32], out: &mut Vec<u8
     if limit > DEEPEST {
         return refuse(28, 0);
     }
-    if count > tape.len() / WIDTH || !in_order(&tape[..WIDTH * count]) {
+    if count > tape.len() / WIDTH {
+        return refuse(23, 0);
+    }
+    let entries: Vec<Entry> = tape.chunks_exact(WIDTH).take(count).map(Entry::of).collect();
+    if !in_order(&entries) {
         return refuse(23, 0);
     }
     if links < count {
         return refuse(22, 0);
     }
-    let kinds: Vec<u32> = tape[..WIDTH * count].chunks_exact(WIDTH).map(|row| row[0]).collect();
+    let kinds: Vec<u32> = entries.iter().map(|e| e.kind).collect();
     judge(limit, &kinds)?;
     out.extend_from_slice(b"ok");
     for link in joined(&kinds) {
@@ -54,14 +56,16 @@ fn walk(limit: usize, links: usize, count: usize, tape: &[u32], out: &mut Vec<u8
     Ok(())
 }
 
-fn in_order(rows: &[u32]) -> bool {
+/// "Kinds are 1 to 16, each start is below its end, no entry starts before the former's end, and the last ends within 65,536";
+/// "23 also where a gap does not equal that distance".
+fn in_order(entries: &[Entry]) -> bool {
     let mut behind = 0;
-    for row in rows.chunks_exact(WIDTH) {
-        let fit = (1..=16).contains(&row[0]) && behind <= row[1] && row[1] < row[2];
-        if !fit {
+    for e in entries {
+        let fit = (1..=16).contains(&e.kind) && behind <= e.start && e.start < e.end;
+        if !fit || e.gap != e.start - behind {
             return false;
         }
-        behind = row[2];
+        behind = e.end;
     }
     behind <= LAST_END
 }

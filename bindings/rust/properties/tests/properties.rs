@@ -60,6 +60,7 @@ fn any_tape() {
         assert!(document.entries().count() <= count);
         for (number, entry) in document.entries().enumerate() {
             assert_eq!(document.entry(number), Some(entry));
+            assert_eq!(document.gap_of(number), text.get(entry.gap_span()));
         }
         if let Err(refused) = document.integer(entry) {
             is_refusal(refused, text);
@@ -70,24 +71,33 @@ fn any_tape() {
 
 #[test]
 fn any_tape_and_cut_in_a_repair() {
+    static FIT: AtomicU64 = AtomicU64::new(0);
     fn property(tape: Tape, text: Good, count: Near, len: Near, start: Near, end: Near) {
         let (rows, most) = (tape.0.len() / ENTRY, text.0.len());
+        let (count, old_len, a, b) = (count.of(rows), len.of(most), start.of(most), end.of(most));
+        let lengths = most as u128 + b as u128 >= old_len as u128 + a as u128;
+        let fits = a <= b && b <= old_len && lengths && in_order(&tape.0, count, old_len);
+        FIT.fetch_add(fits.into(), Ordering::Relaxed);
         let mut repaired = tape.0.clone();
-        let cut = start.of(most)..end.of(most);
-        if let Err(refused) = repair(&mut repaired, count.of(rows), len.of(most), cut, text.0) {
-            is_refusal(refused, text.0);
-            assert_eq!(repaired, tape.0);
+        match repair(&mut repaired, count, old_len, a..b, text.0) {
+            Ok(_) => assert!(fits),
+            Err(refused) => {
+                is_refusal(refused, text.0);
+                assert_eq!(refused.refusal == Refusal::NotInOrder, !fits, "{refused}");
+                assert_eq!(repaired, tape.0);
+            }
         }
     }
     holds(4000, property as fn(Tape, Good, Near, Near, Near, Near));
+    assert!(40 < FIT.load(Ordering::Relaxed), "hardly a tape was in order");
 }
 
 #[test]
 fn repairs_are_fresh_readings() {
     static ACCEPTED: AtomicU64 = AtomicU64::new(0);
     fn property(old: Good, cut: Cut, piece: Piece) {
-        let accepted = checked_repair(old.0, cut.of(old.0.len()), &piece.0);
-        ACCEPTED.fetch_add(accepted.into(), Ordering::Relaxed);
+        let repaired = checked_repair(old.0, cut.of(old.0.len()), &piece.0);
+        ACCEPTED.fetch_add(repaired.is_some().into(), Ordering::Relaxed);
     }
     holds(4000, property as fn(Good, Cut, Piece));
     assert!(400 < ACCEPTED.load(Ordering::Relaxed), "hardly a repair was accepted");
@@ -103,7 +113,7 @@ fn reasons_of_escapes() {
         if let Some(reason) = refused.and_then(|refused| refused.reason) {
             MET.fetch_or(1 << reason.number(), Ordering::Relaxed);
         }
-        let entry = |kind: Kind| [kind.number(), 0, text.len() as u32, 0];
+        let entry = |kind: Kind| [kind.number(), 0, text.len() as u32, 0, 0];
         let own = [
             contents(text, &entry(Kind::String), 1, 0).err(),
             contents(text, &entry(Kind::ByteString), 1, 0).err(),
@@ -182,7 +192,7 @@ fn strings_are_read_back() {
         let document = Document::read(text.as_bytes(), &mut tape).expect("a string is read");
         assert_eq!(
             document.entry(0),
-            Some(Entry::new(Kind::String, 0..text.len(), string.len() as u32))
+            Some(Entry::new(Kind::String, 0..text.len(), string.len() as u32, 0))
         );
         let mut out = vec![0; string.len()];
         assert_eq!(document.decoded(0, &mut out), Ok(string.as_bytes()));

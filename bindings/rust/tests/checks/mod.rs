@@ -2,6 +2,7 @@
 #![allow(dead_code)]
 
 use sarridok::*;
+use std::ops::Range;
 
 pub const MARK: u32 = 0xA5A5_A5A5;
 
@@ -74,6 +75,7 @@ pub fn checked_read(text: &[u8]) -> Result<(Vec<u32>, usize), Refused> {
             assert_eq!(entries(&tape, count).count(), count);
             for entry in entries(&tape, count) {
                 assert!(last <= entry.start && entry.start < entry.end && entry.end <= text.len());
+                assert_eq!((entry.gap, entry.gap_span()), (entry.start - last, last..entry.start));
                 last = entry.end;
             }
             assert!(tape[ENTRY * count..].iter().all(|n| *n == MARK));
@@ -92,12 +94,24 @@ pub fn checked_read(text: &[u8]) -> Result<(Vec<u32>, usize), Refused> {
     }
 }
 
+/// Whether the first entries of a tape are in order and end within so many bytes.
+pub fn in_order(tape: &[u32], count: usize, most: usize) -> bool {
+    let mut last = 0;
+    let mut follows = |entry: Entry| {
+        let distance = entry.start.checked_sub(last);
+        last = entry.end;
+        entry.start < entry.end && distance == Some(entry.gap)
+    };
+    entries(tape, count).filter(|entry| follows(*entry)).count() == count && last <= most
+}
+
 /// Walks at a limit, and asks what holds of every walk.
 pub fn checked_walk(tape: &[u32], count: usize, limit: usize, room: usize) -> Result<Vec<u32>, Refused> {
     let mut links = vec![MARK; room];
+    let orderly = in_order(tape, count, MAX_TEXT);
     match walk(tape, count, limit, &mut links) {
         Ok(()) => {
-            assert!(limit <= MAX_DEPTH && count <= room);
+            assert!(limit <= MAX_DEPTH && count <= room && orderly);
             assert!(links[count..].iter().all(|n| *n == MARK));
             for (i, link) in links[..count].iter().enumerate() {
                 assert_eq!(links[*link as usize] as usize, i);
@@ -106,6 +120,7 @@ pub fn checked_walk(tape: &[u32], count: usize, limit: usize, room: usize) -> Re
         }
         Err(refused) => {
             assert!((22..=28).contains(&refused.number()), "{refused}");
+            assert_eq!(refused.refusal == Refusal::NotInOrder, limit <= MAX_DEPTH && !orderly, "{refused}");
             has_its_reason(refused);
             assert!(links.iter().all(|n| *n == MARK));
             Err(refused)
@@ -179,6 +194,8 @@ pub fn checked_document(text: &[u8], tape: &[u32], count: usize) {
     for (number, entry) in document.entries().enumerate() {
         assert_eq!(document.entry(number), Some(entry));
         assert_eq!(document.text_of(number), Some(&text[entry.span()]));
+        assert_eq!(document.gap_of(number), Some(&text[entry.gap_span()]));
+        assert_eq!(read(&text[entry.gap_span()], &mut []), Ok(0), "an entry in a gap");
         assert_eq!(document.contents(number), contents(text, tape, count, number));
         let len = decoded(text, tape, count, number, &mut same);
         assert_eq!(document.decoded(number, &mut out), len.map(|len| &same[..len]));
@@ -188,7 +205,10 @@ pub fn checked_document(text: &[u8], tape: &[u32], count: usize) {
             None => assert_eq!(document.integer(number), Err(Refused::new(Refusal::OtherKind, 0))),
         }
     }
-    assert_eq!((document.entry(count), document.text_of(count)), (None, None));
+    assert_eq!(
+        (document.entry(count), document.text_of(count), document.gap_of(count)),
+        (None, None, None)
+    );
     assert_eq!(document.integer(count), Err(Refused::new(Refusal::Unfit, 0)));
 }
 
@@ -206,27 +226,45 @@ pub fn all_calls(text: &[u8]) {
     }
 }
 
-/// A repair answers and leaves what a fresh reading of the new text does. The answer is whether it was accepted.
-pub fn checked_repair(old: &[u8], cut: std::ops::Range<usize>, piece: &[u8]) -> bool {
+/// An entry as it stands from the text's end, where moving changes nothing: start, end, kind, detail and gap.
+type FromEnd = (usize, usize, Kind, u32, usize);
+
+fn from_end(entries: Entries<'_>, len: usize) -> Vec<FromEnd> {
+    let told = |e: Entry| (len - e.start, len - e.end, e.kind, e.detail, e.gap);
+    entries.map(told).collect()
+}
+
+/// How many entries are kept behind a change that has `rest` bytes behind it: from the last on, those that start there and are the old ones, moved.
+fn kept_behind(old: &[FromEnd], new: &[FromEnd], rest: usize) -> usize {
+    let pairs = old.iter().rev().zip(new.iter().rev());
+    pairs.take_while(|(old, new)| old == new && new.0 <= rest).count()
+}
+
+/// A repair answers and leaves what a fresh reading of the new text does. The answer is what was kept, where it was accepted.
+pub fn checked_repair(old: &[u8], cut: Range<usize>, piece: &[u8]) -> Option<Repaired> {
     let new = [&old[..cut.start], piece, &old[cut.end..]].concat();
+    let rest = old.len() - cut.end;
     let mut tape = vec![MARK; ENTRY * (old.len() + new.len() + 1)];
     let mut fresh = tape.clone();
     let mut document = Document::read(old, &mut tape).expect("the old text is good");
     let (before, count) = (document.tape().to_vec(), document.count());
+    let old_entries = from_end(document.entries(), old.len());
     match (document.repair(cut, &new), read(&new, &mut fresh)) {
         (Ok(repaired), Ok(n)) => {
             let most = ENTRY * count.max(n);
             assert_eq!((repaired.count, document.count(), document.text()), (n, n, &new[..]));
             assert!(repaired.before + repaired.behind <= n);
+            let new_entries = from_end(entries(&fresh, n), new.len());
+            assert_eq!(repaired.behind, kept_behind(&old_entries, &new_entries, rest));
             assert_eq!(document.tape()[..ENTRY * n], fresh[..ENTRY * n]);
             assert!(document.tape()[ENTRY * n..most].iter().all(|x| *x == 0));
             assert!(document.tape()[most..].iter().all(|x| *x == MARK));
-            true
+            Some(repaired)
         }
         (Err(refused), Err(other)) => {
             assert_eq!(refused, other);
             assert_eq!((document.tape(), document.count(), document.text()), (&before[..], count, old));
-            false
+            None
         }
         (repaired, read) => panic!("{repaired:?}, {read:?}"),
     }

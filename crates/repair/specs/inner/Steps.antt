@@ -1,12 +1,12 @@
 -- What the inner steps of a repair come to: the search over the old entries, which only goes forward, and the rows that are moved and cleared.
-use Prim.Native.Nat.{ℕ, _+_, _-_, _*_, _≤_, min}
+use Prim.Native.Nat.{ℕ, _+_, _-_, _*_, _<_, _≤_, min}
 use mathlib.Core.Bool.{Bool, true, cond}
 use mathlib.Core.Path.{_≡_}
 use mathlib.Core.List.{List, _++_, map}
 use lib.Dec.{ltb, leb}
-use lib.ListN.{length, take, drop, replicate}
+use lib.ListN.{length, take, drop, getD, replicate}
 use Rattle.rows.specs.Rows.{width, roomOf, entriesOf, flat, laid}
-use Rattle.rows.specs.Order.{inOrder, inOrderFrom}
+use Rattle.rows.specs.Order.{inOrder}
 use Rattle.text.specs.Refusals.{Told, accepted, refused, noRoom}
 use Rattle.reading.specs.Readings.{readFrom, entries}
 use Rattle.tokens.specs.Ron.{ronToken}
@@ -28,9 +28,9 @@ startsBefore q y = ltb (y .start) q
 abbrev pub seekFrom : List Entry → ℕ → ℕ → ℕ
 seekFrom old i q = i + leading (startsBefore q) (drop i old)
 
--- Whether a new entry that starts at x joins, and the row where the search stands then, i before.
-abbrev pub metOf : List Entry → ℕ → ℕ → ℕ → ℕ → Met
-metOf old b e i x = let k = seekOf old b e x in let met = cond (joins old b e x k) (At k) (Next k) in cond (leb e x) met (Next i)
+-- Whether a new entry that starts at x, behind a gap of g bytes, joins, and the row where the search stands then, i before.
+abbrev pub metOf : List Entry → ℕ → ℕ → ℕ → ℕ → ℕ → Met
+metOf old b e i g x = let k = seekOf old b e x in let met = cond (joins old b e g x k) (At k) (Next k) in cond (leb e x) met (Next i)
 
 -- A place moved from b to e, as far as it fits a number of the tape.
 abbrev pub clipped : ℕ → ℕ → ℕ → ℕ
@@ -38,7 +38,7 @@ clipped b e p = min (p + e - b) 4294967295
 
 -- An entry moved so.
 abbrev pub clippedFrom : ℕ → ℕ → Entry → Entry
-clippedFrom b e y = record { kind = y .kind; start = clipped b e (y .start); end = clipped b e (y .end); detail = y .detail }
+clippedFrom b e y = record { kind = y .kind; start = clipped b e (y .start); end = clipped b e (y .end); detail = y .detail; gap = y .gap }
 
 -- The entry stands at b or behind it, and moved from b to e ends within 65,536.
 pub record MovableRow (b e : ℕ) (y : Entry) : Type 0 where
@@ -46,9 +46,9 @@ pub record MovableRow (b e : ℕ) (y : Entry) : Type 0 where
   pub some : y .start ≤ y .end
   pub inside : y .end + e ≤ b + 65536
 
--- The entries are in order from b on, and moved from b to e they end within 65,536: none of their places is clipped.
+-- Each of the entries does: none of their places is clipped.
 abbrev pub Movable : ℕ → ℕ → List Entry → Type 0
-Movable b e es = (limit : ℕ) × (inOrderFrom es b limit ≡ true) × (limit + e ≤ b + 65536)
+Movable b e es = (k : ℕ) → k < length es → MovableRow b e (getD es k noEntry)
 
 -- The tape with entries from row g on.
 unfoldable pub laidAt : ℕ → List Entry → List ℕ → List ℕ

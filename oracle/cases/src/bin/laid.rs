@@ -1,7 +1,7 @@
 //! `laid COUNT SEED`: texts that `laid.rs` lays out and the answers that its tapes say, as lines of `corners.txt`.
 use std::io::{self, Write};
 
-use cases::{laid, line, random::Random};
+use cases::{laid, line, random::Random, tapes::WIDTH};
 
 fn main() -> io::Result<()> {
     let mut words = std::env::args().skip(1).map(|word| word.parse::<u64>().unwrap_or(0));
@@ -12,9 +12,10 @@ fn main() -> io::Result<()> {
         let laid = laid::text(&mut r, entries);
         let mut corner = Vec::new();
         line::read(&mut corner, &laid.text);
-        write!(corner, "\tok {}", laid.tape.len() / 4)?;
-        for row in laid.tape.chunks_exact(4) {
-            write!(corner, ";{} {} {} {}", row[0], row[1], row[2], row[3])?;
+        write!(corner, "\tok {}", laid.tape.len() / WIDTH)?;
+        for row in laid.tape.chunks_exact(WIDTH) {
+            let numbers: Vec<String> = row.iter().map(u32::to_string).collect();
+            write!(corner, ";{}", numbers.join(" "))?;
         }
         corner.extend_from_slice(b"\t\n");
         io::stdout().write_all(&corner)?;

@@ -120,13 +120,13 @@ fn read(lines: &mut Lines) {
 fn with_rooms(lines: &mut Lines) {
     for text in ["é", "Tŷ(dŵr: 7)", "é ŵ", "aé×", "r#·é 字𐌰", "5u8é", "1.5f32\u{301}", "e\u{301}é", "a\u{85}é\u{2028}"]
     {
-        for room in [0, 3, 4, 7, 8, 12, 23, 24] {
+        for room in [0, 4, 5, 9, 10, 15, 29, 30] {
             lines.add(|l| line::read_into(l, room, text.as_bytes()));
         }
     }
     let long = "ŷ".repeat(400);
-    lines.add(|l| line::read_into(l, 3, long.as_bytes()));
     lines.add(|l| line::read_into(l, 4, long.as_bytes()));
+    lines.add(|l| line::read_into(l, 5, long.as_bytes()));
 }
 
 /// Integers that a name's character follows.
@@ -412,18 +412,18 @@ fn edits(lines: &mut Lines) {
 }
 
 /// The tape of `é ŵ`.
-const TWO: &[u32] = &[9, 0, 2, 0, 9, 3, 5, 0];
+const TWO: &[u32] = &[9, 0, 2, 0, 0, 9, 3, 5, 0, 1];
 /// The tape of `5u8é`.
-const NUMBER: &[u32] = &[11, 0, 1, 5, 9, 1, 5, 0];
+const NUMBER: &[u32] = &[11, 0, 1, 5, 0, 9, 1, 5, 0, 0];
 /// The tape of `r#· a`.
-const RAW: &[u32] = &[10, 0, 4, 0, 9, 5, 6, 0];
+const RAW: &[u32] = &[10, 0, 4, 0, 0, 9, 5, 6, 0, 1];
 
 /// Count, old length, cut, new text, tape, numbers behind it.
 type Asked = (u64, u64, u64, u64, &'static str, &'static [u32], &'static [u32]);
 
 const REPAIRS: &[Asked] = &[
     (2, 5, 2, 3, "éŵ", TWO, &[]),
-    (2, 5, 2, 3, "é\u{301}ŵ", TWO, &[7, 7, 7, 7]),
+    (2, 5, 2, 3, "é\u{301}ŵ", TWO, &[7, 7, 7, 7, 7]),
     (2, 5, 2, 3, "é×ŵ", TWO, &[]),
     (2, 5, 3, 3, "é ŵ", TWO, &[]),
     (2, 5, 3, 5, "é w\u{302}", TWO, &[7]),
@@ -432,11 +432,11 @@ const REPAIRS: &[Asked] = &[
     (2, 5, 4, 4, "é \u{175}", TWO, &[]),
     (2, 5, 1, 2, "è ŵ", TWO, &[]),
     (2, 5, 1, 4, "õ", TWO, &[1, 2]),
+    (2, 5, 5, 5, "é ŵ字 𐌰", TWO, &[6, 6, 6, 6, 6]),
     (2, 5, 5, 5, "é ŵ字 𐌰", TWO, &[6, 6, 6, 6]),
-    (2, 5, 5, 5, "é ŵ字 𐌰", TWO, &[6, 6, 6]),
-    (2, 5, 0, 0, "a é ŵ", TWO, &[6, 6, 6, 6, 6]),
+    (2, 5, 0, 0, "a é ŵ", TWO, &[6, 6, 6, 6, 6, 6]),
     (2, 5, 0, 0, "aé ŵ", TWO, &[]),
-    (2, 5, 0, 0, "5u8é ŵ", TWO, &[6, 6, 6, 6]),
+    (2, 5, 0, 0, "5u8é ŵ", TWO, &[6, 6, 6, 6, 6]),
     (2, 5, 3, 3, "5u8 é", NUMBER, &[]),
     (2, 5, 3, 5, "5u8", NUMBER, &[9]),
     (2, 5, 3, 5, "5u8×", NUMBER, &[9]),

@@ -115,18 +115,18 @@ pub fn lines(lines: &mut Lines) {
 /// Rooms around what small texts need.
 pub fn with_rooms(lines: &mut Lines) {
     for (n, text) in texts().enumerate() {
-        let rooms: &[u64] = if n % 8 == 0 { &[0, 3, 4, 7, 8, 11, 12] } else { &[4] };
+        let rooms: &[u64] = if n % 8 == 0 { &[0, 4, 5, 9, 10, 14, 15] } else { &[5] };
         for &room in rooms {
             lines.add(|l| line::read_into(l, room, text.as_bytes()));
         }
     }
-    for room in 0..=28 {
+    for room in 0..=35 {
         lines.add(|l| line::read_into(l, room, b"Lock(id: 7)"));
     }
     for text in utf8::texts("a ", " b").iter().skip(2).step_by(3) {
         lines.add(|l| line::read_into(l, 0, text));
     }
-    lines.add(|l| line::read_into(l, 262_143, &sized("", "[", "", 65_536)));
+    lines.add(|l| line::read_into(l, 327_679, &sized("", "[", "", 65_536)));
     lines.add(|l| line::read_into(l, 0, &sized("", "[", "", 65_537)));
     NO_ROOMS.iter().for_each(|l| lines.plain(l));
 }

@@ -3,6 +3,7 @@ use super::Lines;
 use crate::edits::Edit;
 use crate::line;
 use crate::repairs::Repair;
+use crate::tapes::WIDTH;
 
 pub fn lines(lines: &mut Lines, call: u8) {
     match call {
@@ -124,7 +125,8 @@ fn read(lines: &mut Lines) {
 /// The reading's refusal comes before the room's.
 fn with_rooms(lines: &mut Lines) {
     for escape in EACH {
-        for (whole, room) in [("\"~\"", 0), ("'~'", 3), ("b\"~\"", 4), ("b'~'", 0), ("[a, \"~\"]", 8), ("a b '~'", 4)] {
+        for (whole, room) in [("\"~\"", 0), ("'~'", 4), ("b\"~\"", 5), ("b'~'", 0), ("[a, \"~\"]", 10), ("a b '~'", 5)]
+        {
             lines.add(|l| line::read_into(l, room, put(whole, escape).as_bytes()));
         }
     }
@@ -185,26 +187,26 @@ fn contents(lines: &mut Lines) {
 }
 
 /// Numbers of the tape before the entry.
-const BEFORE: &[u32] = &[9, 0, 1, 0];
+const BEFORE: &[u32] = &[9, 0, 1, 0, 0];
 
 /// 28, 23 and 27 come before the escape, 22 behind it.
 fn contents_of(lines: &mut Lines) {
-    let mut text = |entry: u64, count: u64, buffer: u64, text: &str, row: [u32; 4]| {
+    let mut text = |entry: u64, count: u64, buffer: u64, text: &str, row: [u32; WIDTH]| {
         lines.add(|l| line::contents_of(l, entry, count, buffer, text.as_bytes(), &[BEFORE, &row].concat()));
     };
     for escape in EACH {
         let (string, bytes) = (format!("a \"{escape}\""), format!("a b\"{escape}\""));
-        text(1, 2, 9, &string, [14, 2, 0, 0]);
-        text(1, 2, 0, &string, [14, 2, 0, 0]);
-        text(1, 2, 0, &bytes, [15, 2, 0, 0]);
-        text(1, 2, 9, &bytes, [14, 3, 0, 0]);
+        text(1, 2, 9, &string, [14, 2, 0, 0, 0]);
+        text(1, 2, 0, &string, [14, 2, 0, 0, 0]);
+        text(1, 2, 0, &bytes, [15, 2, 0, 0, 0]);
+        text(1, 2, 9, &bytes, [14, 3, 0, 0, 0]);
     }
     for (entry, count, row) in [
-        (2, 2, [14, 2, 0, 0]),
-        (1, 3, [14, 2, 0, 0]),
-        (1, 2, [13, 2, 0, 0]),
-        (1, 2, [14, 99, 0, 0]),
-        (0, 2, [14, 2, 0, 0]),
+        (2, 2, [14, 2, 0, 0, 0]),
+        (1, 3, [14, 2, 0, 0, 0]),
+        (1, 2, [13, 2, 0, 0, 0]),
+        (1, 2, [14, 99, 0, 0, 0]),
+        (0, 2, [14, 2, 0, 0, 0]),
     ] {
         text(entry, count, 9, "a \"\\q\"", row);
     }
@@ -342,19 +344,19 @@ fn edits(lines: &mut Lines) {
 
 /// Old text with its tape, where in it an escape is put, and in the place of how many bytes.
 const TAPES: &[(&str, &[u32], usize, usize)] = &[
-    ("a \"\"", &[9, 0, 1, 0, 14, 2, 4, 0], 3, 0),
-    ("'b',a", &[13, 0, 3, 98, 7, 3, 4, 0, 9, 4, 5, 0], 1, 1),
-    ("é b\"b\"", &[9, 0, 2, 0, 15, 3, 7, 1], 5, 0),
-    ("[b'b']", &[3, 0, 1, 0, 11, 1, 5, 5, 4, 5, 6, 0], 3, 1),
-    ("#![type=\"\"]", &[16, 0, 11, 0], 9, 0),
+    ("a \"\"", &[9, 0, 1, 0, 0, 14, 2, 4, 0, 1], 3, 0),
+    ("'b',a", &[13, 0, 3, 98, 0, 7, 3, 4, 0, 0, 9, 4, 5, 0, 0], 1, 1),
+    ("é b\"b\"", &[9, 0, 2, 0, 0, 15, 3, 7, 1, 1], 5, 0),
+    ("[b'b']", &[3, 0, 1, 0, 0, 11, 1, 5, 5, 0, 4, 5, 6, 0, 0], 3, 1),
+    ("#![type=\"\"]", &[16, 0, 11, 0, 0], 9, 0),
 ];
 
 fn repairs(lines: &mut Lines) {
     for escape in EACH {
         for &(old, tape, at, cut) in TAPES {
-            for behind in [&[][..], &[7; 5]] {
+            for behind in [&[][..], &[7; 6]] {
                 let repair = Repair {
-                    count: (tape.len() / 4) as u64,
+                    count: (tape.len() / WIDTH) as u64,
                     old_length: old.len() as u64,
                     from: at as u64,
                     to: (at + cut) as u64,
@@ -367,7 +369,7 @@ fn repairs(lines: &mut Lines) {
         // room for one entry, which comes last; a kind that is none, which comes first
         for count in [0, 1] {
             let new = format!("a '{escape}'").into_bytes();
-            let repair = Repair { count, old_length: 1, from: 0, to: 1, new, tape: vec![0, 0, 1, 0] };
+            let repair = Repair { count, old_length: 1, from: 0, to: 1, new, tape: vec![0, 0, 1, 0, 0] };
             lines.add(|l| line::repair(l, &repair));
         }
     }

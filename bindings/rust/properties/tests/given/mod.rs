@@ -2,6 +2,7 @@
 
 use crate::checks::GOOD;
 use quickcheck::{Arbitrary, Gen};
+use sarridok::ENTRY;
 use std::ops::Range;
 
 /// What means much in a text.
@@ -144,19 +145,43 @@ impl Arbitrary for Near {
     }
 }
 
-/// Numbers of a tape, mostly small, mostly a whole number of entries.
+/// Numbers of a tape, mostly of entries in order, mostly a whole number of them.
 #[derive(Clone, Debug)]
 pub struct Tape(pub Vec<u32>);
 
+/// The numbers of an entry in order behind a place.
+fn entry_behind(g: &mut Gen, place: u32) -> [u32; ENTRY] {
+    let [kind, gap, len, detail] = [16, 3, 4, 18].map(|most| below(g, most) as u32);
+    [kind + 1, place + gap, place + gap + len + 1, detail, gap]
+}
+
+/// Any number of a tape, mostly a small one.
+fn number(g: &mut Gen) -> u32 {
+    match below(g, 16) {
+        0 => u32::arbitrary(g),
+        1 => u32::MAX,
+        _ => below(g, 18) as u32,
+    }
+}
+
 impl Arbitrary for Tape {
     fn arbitrary(g: &mut Gen) -> Tape {
-        let len = 4 * below(g, 8) + below(g, 8).saturating_sub(4);
-        let number = |g: &mut Gen| match below(g, 16) {
-            0 => u32::arbitrary(g),
-            1 => u32::MAX,
-            _ => below(g, 18) as u32,
-        };
-        Tape((0..len).map(|_| number(g)).collect())
+        let (mut tape, mut last) = (Vec::new(), 0);
+        for _ in 0..below(g, 8) {
+            let entry = entry_behind(g, last);
+            last = entry[2];
+            tape.extend(entry);
+        }
+        for _ in 0..below(g, 2 * ENTRY).saturating_sub(ENTRY) {
+            tape.push(number(g));
+        }
+        for _ in 0..below(g, 3) {
+            let at = below(g, tape.len() + 1);
+            if let Some(damaged) = tape.get_mut(at) {
+                *damaged = number(g);
+            }
+        }
+        Tape(tape)
     }
 
     fn shrink(&self) -> Box<dyn Iterator<Item = Tape>> {

@@ -135,7 +135,7 @@ returns-4 c =
     let h = said (λ (w : List ℕ). hexIn w (length text)) _ last _ _ (c .before .before .before .before .before .before .before .before .before .before .before .before .before .before .before .bytes .ensures .0) is-last (c .before .before .before .before .before .before .before .before .before .before .before .last .given .1) in
     let left = c .before .before .before .before .before .before .before .before .before .before .before .before .before .before .before .bytes .ensures .1 ∙ ap (λ (w : List ℕ). over (pairs w) text) is-last in
     let part = part-said last text _ _ _ h left (c .before .before .before .before .before .before .before .before .part .ensures) in
-    let both = said-same (asked 0 1 (2 ^ 64 - 1)) spare _ (pairs last) _ ((c .before .before .before .before .before .before .before .before .before .before .before .before .before .before .before .before .before .before .before .before .before .before .before .before .before .first .given .0 .0) ∷ (c .before .before .before .before .before .before .before .before .before .before .before .before .before .before .before .before .before .before .before .second .given .0 .0) ∷ 0 ∷ 0 ∷ []) _ out _ part refl (c .before .before .before .before .answer .ensures) in
+    let both = said-same (asked 0 1 (2 ^ 64 - 1)) spare _ (pairs last) _ ((c .before .before .before .before .before .before .before .before .before .before .before .before .before .before .before .before .before .before .before .before .before .before .before .before .before .first .given .0 .0) ∷ (c .before .before .before .before .before .before .before .before .before .before .before .before .before .before .before .before .before .before .before .second .given .0 .0) ∷ 0 ∷ 0 ∷ 0 ∷ []) _ out _ part refl (c .before .before .before .before .answer .ensures) in
     let own : List ℕ × List ℕ = entryIn words text spare (c .before .before .before .before .before .before .before .before .before .before .before .before .before .before .before .before .before .before .before .before .before .before .before .before .before .first .given .0 .0) (c .before .before .before .before .before .before .before .before .before .before .before .before .before .before .before .before .before .before .before .second .given .0 .0) (pairs last) in
     line3 out _ (own .0) _ _ (over (pairs last) text) (own .1) (contentsLine words text spare)
     (entry-line words text spare (c .before .before .before .before .before .before .before .before .before .before .before .before .before .before .before .before .before .before .before .before .before .before .before .before .before .first .given .0 .0) (said smallOf _ (firstWord words) _ _ (c .before .before .before .before .before .before .before .before .before .before .before .before .before .before .before .before .before .before .before .before .before .before .before .before .before .before .before .small-of .ensures) (c .before .before .before .before .before .before .before .before .before .before .before .before .before .before .before .before .before .before .before .before .before .before .before .before .before .before .before .before .word .ensures) (c .before .before .before .before .before .before .before .before .before .before .before .before .before .before .before .before .before .before .before .before .before .before .before .before .before .first .given .1)) (c .before .before .before .before .before .before .before .before .before .before .before .before .before .before .before .before .before .before .before .second .given .0 .0) (said smallOf _ (firstWord (behindWord words)) _ _ (c .before .before .before .before .before .before .before .before .before .before .before .before .before .before .before .before .before .before .before .before .before .small-of2 .ensures) (c .before .before .before .before .before .before .before .before .before .before .before .before .before .before .before .before .before .before .before .before .before .before .word2 .ensures ∙ ap firstWord (c .before .before .before .before .before .before .before .before .before .before .before .before .before .before .before .before .before .before .before .before .before .before .before .behind .ensures)) (c .before .before .before .before .before .before .before .before .before .before .before .before .before .before .before .before .before .before .before .second .given .1)) _ h)

@@ -7,7 +7,7 @@ use Rattle.reading.proofs.Steps.{from-end}
 use Rattle.reading.specs.Owed.{quietByte}
 use Rattle.reading.specs.Readings.{readFrom}
 use Rattle.read.proofs.PassLaws.{Left, left-broken, left-complete, left-entry, left-full, left-starts}
-use Rattle.read.proofs.ReadSteps.{blanks-within, plain-within, refuse-within, step-blanks, step-plain, step-refuse, step-stop, step-token, step-within}
+use Rattle.read.proofs.ReadSteps.{blanks-broken, blanks-complete, blanks-entry, blanks-within, plain-within, refuse-within, step-plain, step-refuse, step-stop, step-token, step-within}
 use Rattle.rows.specs.Rows.{written}
 use Rattle.rows.specs.declared.Entry.{Entry}
 use Rattle.text.specs.Refusals.Told.{refused}
@@ -35,7 +35,7 @@ same-length : tie.Need-same-length Inv-loop μ-loop
 same-length c = c .before .before .before .loop .inv .2
 
 returns : tie.Need-returns Inv-loop μ-loop
-returns c = let w = left-complete (c .before .before .before .before .before .before .args .on) (c .before .before .before .before .before .before .args .n) (readFrom ronToken (c .before .before .before .before .before .before .args .text .now) (c .before .before .before .before .before .before .args .from)) (c .before .before .before .before .before .before .args .tape .now) (c .before .before .before .loop .i) (readFrom ronToken (c .before .before .before .before .before .before .args .text .now) (c .before .before .before .loop .at)) (c .before .before .before .loop .tape) (c .before .before .before .loop .inv .3) (c .before .before .before .before .before .before .pre .2) (c .before .before .loop-test .taken) (step-blanks (c .before .before .before .before .before .before .args .text .now) (c .before .before .before .loop .at) (c .before .behind-blanks .result) (c .before .behind-blanks .ensures) ∙ from-end ronToken quietByte laws (c .before .before .before .before .before .before .args .text .now) (c .before .behind-blanks .result) (c .if1 .taken)) in (w .answer, w .rows)
+returns c = let w = left-complete (c .before .before .before .before .before .before .args .on) (c .before .before .before .before .before .before .args .n) (readFrom ronToken (c .before .before .before .before .before .before .args .text .now) (c .before .before .before .before .before .before .args .from)) (c .before .before .before .before .before .before .args .tape .now) (c .before .before .before .loop .i) (readFrom ronToken (c .before .before .before .before .before .before .args .text .now) (c .before .before .before .loop .at)) (c .before .before .before .loop .tape) (c .before .before .before .loop .inv .3) (c .before .before .before .before .before .before .pre .2) (c .before .before .loop-test .taken) (blanks-complete (c .before .before .before .before .before .before .args .text .now) (c .before .before .before .loop .at) (c .before .behind-blanks .result) (c .before .behind-blanks .ensures) (from-end ronToken quietByte laws (c .before .before .before .before .before .before .args .text .now) (c .before .behind-blanks .result) (c .if1 .taken))) in (w .answer, w .rows)
 
 sub-plain : tie.Need-sub-plain Inv-loop μ-loop
 sub-plain c = search needs
@@ -53,7 +53,7 @@ add-end : tie.Need-add-end Inv-loop μ-loop
 add-end c = let w = plain-within (c .before .before .before .before .before .before .before .before .before .before .before .args .text .now) (c .before .before .before .before .before .before .behind-blanks .result) _ (c .before .before .before .plain .ensures) (c .before .if2 .taken) in omega (arith, w .0, c .before .before .before .before .before .before .before .before .before .before .before .pre .0)
 
 entry-of-requires : tie.Need-entry-of-requires Inv-loop μ-loop
-entry-of-requires c κs = let w = plain-within (c .before .before .before .before .before .before .before .before .before .before .before .before .args .text .now) (c .before .before .before .before .before .before .before .behind-blanks .result) _ (c .before .before .before .before .plain .ensures) (c .before .before .if2 .taken) in (omega (arith, w .0, c .before .before .before .before .before .before .before .before .before .before .before .before .pre .0), omega (arith, w .0, c .before .before .before .before .before .before .before .before .before .before .before .before .pre .0), omega (arith, w .1, c .before .before .before .before .before .before .before .before .before .before .before .before .pre .0))
+entry-of-requires c κs = let w = plain-within (c .before .before .before .before .before .before .before .before .before .before .before .before .args .text .now) (c .before .before .before .before .before .before .before .behind-blanks .result) _ (c .before .before .before .before .plain .ensures) (c .before .before .if2 .taken) in (omega (arith, c .before .before .before .before .before .before .before .behind-blanks .ensures), omega (arith, w .0, c .before .before .before .before .before .before .before .before .before .before .before .before .pre .0), omega (arith, w .0, c .before .before .before .before .before .before .before .before .before .before .before .before .pre .0), omega (arith, w .1, c .before .before .before .before .before .before .before .before .before .before .before .before .pre .0))
 
 put-requires : tie.Need-put-requires Inv-loop μ-loop
 put-requires c κs = λ e. omega (arith, c .before .before .before .before .before .before .before .before .before .before .before .before .before .pre .2 e, c .before .before .before .before .before .before .before .before .before .before .loop .inv .2, c .before .before .before .before .before .before .before .before .before .loop-test .taken)
@@ -65,7 +65,7 @@ loop-less : tie.Need-loop-less Inv-loop μ-loop
 loop-less c = omega (arith, c .before .before .before .before .before .before .before .before .before .before .before .before .loop-test .taken)
 
 loop-again : tie.Need-loop-again Inv-loop μ-loop
-loop-again c = let w = plain-within (c .before .before .before .before .before .before .before .before .before .before .before .before .before .before .before .before .args .text .now) (c .before .before .before .before .before .before .before .before .before .before .before .behind-blanks .result) _ (c .before .before .before .before .before .before .before .before .plain .ensures) (c .before .before .before .before .before .before .if2 .taken) in (w .0, omega (arith, c .before .before .before .before .before .before .before .before .before .before .before .before .loop-test .taken), c .before .before .put .kept .0 ∙ c .before .before .before .before .before .before .before .before .before .before .before .before .before .loop .inv .2, left-entry (c .before .before .before .before .before .before .before .before .before .before .before .before .before .before .before .before .args .on) (c .before .before .before .before .before .before .before .before .before .before .before .before .before .before .before .before .args .n) (readFrom ronToken (c .before .before .before .before .before .before .before .before .before .before .before .before .before .before .before .before .args .text .now) (c .before .before .before .before .before .before .before .before .before .before .before .before .before .before .before .before .args .from)) (c .before .before .before .before .before .before .before .before .before .before .before .before .before .before .before .before .args .tape .now) (c .before .before .before .before .before .before .before .before .before .before .before .before .before .loop .i) (readFrom ronToken (c .before .before .before .before .before .before .before .before .before .before .before .before .before .before .before .before .args .text .now) (c .before .before .before .before .before .before .before .before .before .before .before .before .before .loop .at)) (c .before .before .before .before .before .before .before .before .before .before .before .before .before .loop .tape) (c .before .before .before .before .before .before .before .before .before .before .before .before .before .loop .inv .3) _ _ _ (c .before .before .before .before .before .before .before .before .before .before .before .before .loop-test .taken) (step-blanks (c .before .before .before .before .before .before .before .before .before .before .before .before .before .before .before .before .args .text .now) (c .before .before .before .before .before .before .before .before .before .before .before .before .before .loop .at) (c .before .before .before .before .before .before .before .before .before .before .before .behind-blanks .result) (c .before .before .before .before .before .before .before .before .before .before .before .behind-blanks .ensures) ∙ step-plain (c .before .before .before .before .before .before .before .before .before .before .before .before .before .before .before .before .args .text .now) (c .before .before .before .before .before .before .before .before .before .before .before .behind-blanks .result) _ (c .before .before .before .before .before .before .before .before .plain .ensures) (c .before .before .before .before .before .before .if2 .taken)) (c .before .before .put .ensures ∙ ap (λ (e : Entry). cond (c .before .before .before .before .before .before .before .before .before .before .before .before .before .before .before .before .args .on) (written (c .before .before .before .before .before .before .before .before .before .before .before .before .before .loop .tape) (c .before .before .before .before .before .before .before .before .before .before .before .before .before .loop .i) e) (c .before .before .before .before .before .before .before .before .before .before .before .before .before .loop .tape)) (c .before .before .before .entry-of .ensures)))
+loop-again c = let w = plain-within (c .before .before .before .before .before .before .before .before .before .before .before .before .before .before .before .before .args .text .now) (c .before .before .before .before .before .before .before .before .before .before .before .behind-blanks .result) _ (c .before .before .before .before .before .before .before .before .plain .ensures) (c .before .before .before .before .before .before .if2 .taken) in (w .0, omega (arith, c .before .before .before .before .before .before .before .before .before .before .before .before .loop-test .taken), c .before .before .put .kept .0 ∙ c .before .before .before .before .before .before .before .before .before .before .before .before .before .loop .inv .2, left-entry (c .before .before .before .before .before .before .before .before .before .before .before .before .before .before .before .before .args .on) (c .before .before .before .before .before .before .before .before .before .before .before .before .before .before .before .before .args .n) (readFrom ronToken (c .before .before .before .before .before .before .before .before .before .before .before .before .before .before .before .before .args .text .now) (c .before .before .before .before .before .before .before .before .before .before .before .before .before .before .before .before .args .from)) (c .before .before .before .before .before .before .before .before .before .before .before .before .before .before .before .before .args .tape .now) (c .before .before .before .before .before .before .before .before .before .before .before .before .before .loop .i) (readFrom ronToken (c .before .before .before .before .before .before .before .before .before .before .before .before .before .before .before .before .args .text .now) (c .before .before .before .before .before .before .before .before .before .before .before .before .before .loop .at)) (c .before .before .before .before .before .before .before .before .before .before .before .before .before .loop .tape) (c .before .before .before .before .before .before .before .before .before .before .before .before .before .loop .inv .3) _ _ _ (c .before .before .before .before .before .before .before .before .before .before .before .before .loop-test .taken) (blanks-entry (c .before .before .before .before .before .before .before .before .before .before .before .before .before .before .before .before .args .text .now) (c .before .before .before .before .before .before .before .before .before .before .before .before .before .loop .at) (c .before .before .before .before .before .before .before .before .before .before .before .behind-blanks .result) (c .before .before .before .before .before .before .before .before .before .before .before .behind-blanks .ensures) _ _ (omega arith) (step-plain (c .before .before .before .before .before .before .before .before .before .before .before .before .before .before .before .before .args .text .now) (c .before .before .before .before .before .before .before .before .before .before .before .behind-blanks .result) _ (c .before .before .before .before .before .before .before .before .plain .ensures) (c .before .before .before .before .before .before .if2 .taken))) (c .before .before .put .ensures ∙ ap (λ (e : Entry). cond (c .before .before .before .before .before .before .before .before .before .before .before .before .before .before .before .before .args .on) (written (c .before .before .before .before .before .before .before .before .before .before .before .before .before .loop .tape) (c .before .before .before .before .before .before .before .before .before .before .before .before .before .loop .i) e) (c .before .before .before .before .before .before .before .before .before .before .before .before .before .loop .tape)) (c .before .before .before .entry-of .ensures)))
 
 sub-next-token : tie.Need-sub-next-token Inv-loop μ-loop
 sub-next-token c = let f = blanks-within (c .before .before .before .before .before .before .before .before .before .before .args .text .now) (c .before .before .before .before .before .before .before .loop .at) (c .before .before .before .before .before .behind-blanks .result) (c .before .before .before .before .before .behind-blanks .ensures) (c .before .before .before .before .before .before .before .loop .inv .0) in omega (arith, f)
@@ -89,7 +89,7 @@ add-end-2 : tie.Need-add-end-2 Inv-loop μ-loop
 add-end-2 c = let w = step-within (c .before .before .before .before .before .before .before .before .before .before .before .before .before .before .before .before .args .text .now) (c .before .before .before .before .before .before .before .before .before .before .before .behind-blanks .result) _ (c .before .before .before .before .next-token .ensures) _ _ (c .before .before .found .given .1) in omega (arith, w .0, w .1, c .before .before .before .before .before .before .before .before .before .before .before .before .before .before .before .before .pre .0)
 
 entry-of-requires-2 : tie.Need-entry-of-requires-2 Inv-loop μ-loop
-entry-of-requires-2 c κs = let w = step-within (c .before .before .before .before .before .before .before .before .before .before .before .before .before .before .before .before .before .args .text .now) (c .before .before .before .before .before .before .before .before .before .before .before .before .behind-blanks .result) _ (c .before .before .before .before .before .next-token .ensures) _ _ (c .before .before .before .found .given .1) in (omega (arith, w .0, w .1, c .before .before .before .before .before .before .before .before .before .before .before .before .before .before .before .before .before .pre .0), omega (arith, w .0, w .1, c .before .before .before .before .before .before .before .before .before .before .before .before .before .before .before .before .before .pre .0), omega (arith, w .2, c .before .before .before .before .before .before .before .before .before .before .before .before .before .before .before .before .before .pre .0))
+entry-of-requires-2 c κs = let w = step-within (c .before .before .before .before .before .before .before .before .before .before .before .before .before .before .before .before .before .args .text .now) (c .before .before .before .before .before .before .before .before .before .before .before .before .behind-blanks .result) _ (c .before .before .before .before .before .next-token .ensures) _ _ (c .before .before .before .found .given .1) in (omega (arith, c .before .before .before .before .before .before .before .before .before .before .before .before .behind-blanks .ensures), omega (arith, w .0, w .1, c .before .before .before .before .before .before .before .before .before .before .before .before .before .before .before .before .before .pre .0), omega (arith, w .0, w .1, c .before .before .before .before .before .before .before .before .before .before .before .before .before .before .before .before .before .pre .0), omega (arith, w .2, c .before .before .before .before .before .before .before .before .before .before .before .before .before .before .before .before .before .pre .0))
 
 put-requires-2 : tie.Need-put-requires-2 Inv-loop μ-loop
 put-requires-2 c κs = λ e. omega (arith, c .before .before .before .before .before .before .before .before .before .before .before .before .before .before .before .before .before .before .pre .2 e, c .before .before .before .before .before .before .before .before .before .before .before .before .before .before .before .loop .inv .2, c .before .before .before .before .before .before .before .before .before .before .before .before .before .before .loop-test .taken)
@@ -101,7 +101,7 @@ loop-less-2 : tie.Need-loop-less-2 Inv-loop μ-loop
 loop-less-2 c = omega (arith, c .before .before .before .before .before .before .before .before .before .before .before .before .before .before .before .before .before .loop-test .taken)
 
 loop-again-2 : tie.Need-loop-again-2 Inv-loop μ-loop
-loop-again-2 c = let w = step-within (c .before .before .before .before .before .before .before .before .before .before .before .before .before .before .before .before .before .before .before .before .before .args .text .now) (c .before .before .before .before .before .before .before .before .before .before .before .before .before .before .before .before .behind-blanks .result) _ (c .before .before .before .before .before .before .before .before .before .next-token .ensures) _ _ (c .before .before .before .before .before .before .before .found .given .1) in (w .1, omega (arith, c .before .before .before .before .before .before .before .before .before .before .before .before .before .before .before .before .before .loop-test .taken), c .before .before .put2 .kept .0 ∙ c .before .before .before .before .before .before .before .before .before .before .before .before .before .before .before .before .before .before .loop .inv .2, left-entry (c .before .before .before .before .before .before .before .before .before .before .before .before .before .before .before .before .before .before .before .before .before .args .on) (c .before .before .before .before .before .before .before .before .before .before .before .before .before .before .before .before .before .before .before .before .before .args .n) (readFrom ronToken (c .before .before .before .before .before .before .before .before .before .before .before .before .before .before .before .before .before .before .before .before .before .args .text .now) (c .before .before .before .before .before .before .before .before .before .before .before .before .before .before .before .before .before .before .before .before .before .args .from)) (c .before .before .before .before .before .before .before .before .before .before .before .before .before .before .before .before .before .before .before .before .before .args .tape .now) (c .before .before .before .before .before .before .before .before .before .before .before .before .before .before .before .before .before .before .loop .i) (readFrom ronToken (c .before .before .before .before .before .before .before .before .before .before .before .before .before .before .before .before .before .before .before .before .before .args .text .now) (c .before .before .before .before .before .before .before .before .before .before .before .before .before .before .before .before .before .before .loop .at)) (c .before .before .before .before .before .before .before .before .before .before .before .before .before .before .before .before .before .before .loop .tape) (c .before .before .before .before .before .before .before .before .before .before .before .before .before .before .before .before .before .before .loop .inv .3) _ _ _ (c .before .before .before .before .before .before .before .before .before .before .before .before .before .before .before .before .before .loop-test .taken) (step-blanks (c .before .before .before .before .before .before .before .before .before .before .before .before .before .before .before .before .before .before .before .before .before .args .text .now) (c .before .before .before .before .before .before .before .before .before .before .before .before .before .before .before .before .before .before .loop .at) (c .before .before .before .before .before .before .before .before .before .before .before .before .before .before .before .before .behind-blanks .result) (c .before .before .before .before .before .before .before .before .before .before .before .before .before .before .before .before .behind-blanks .ensures) ∙ step-token (c .before .before .before .before .before .before .before .before .before .before .before .before .before .before .before .before .before .before .before .before .before .args .text .now) (c .before .before .before .before .before .before .before .before .before .before .before .before .before .before .before .before .behind-blanks .result) _ (c .before .before .before .before .before .before .before .before .before .next-token .ensures) _ _ (c .before .before .before .before .before .before .before .found .given .1)) (c .before .before .put2 .ensures ∙ ap (λ (e : Entry). cond (c .before .before .before .before .before .before .before .before .before .before .before .before .before .before .before .before .before .before .before .before .before .args .on) (written (c .before .before .before .before .before .before .before .before .before .before .before .before .before .before .before .before .before .before .loop .tape) (c .before .before .before .before .before .before .before .before .before .before .before .before .before .before .before .before .before .before .loop .i) e) (c .before .before .before .before .before .before .before .before .before .before .before .before .before .before .before .before .before .before .loop .tape)) (c .before .before .before .entry-of2 .ensures)))
+loop-again-2 c = let w = step-within (c .before .before .before .before .before .before .before .before .before .before .before .before .before .before .before .before .before .before .before .before .before .args .text .now) (c .before .before .before .before .before .before .before .before .before .before .before .before .before .before .before .before .behind-blanks .result) _ (c .before .before .before .before .before .before .before .before .before .next-token .ensures) _ _ (c .before .before .before .before .before .before .before .found .given .1) in (w .1, omega (arith, c .before .before .before .before .before .before .before .before .before .before .before .before .before .before .before .before .before .loop-test .taken), c .before .before .put2 .kept .0 ∙ c .before .before .before .before .before .before .before .before .before .before .before .before .before .before .before .before .before .before .loop .inv .2, left-entry (c .before .before .before .before .before .before .before .before .before .before .before .before .before .before .before .before .before .before .before .before .before .args .on) (c .before .before .before .before .before .before .before .before .before .before .before .before .before .before .before .before .before .before .before .before .before .args .n) (readFrom ronToken (c .before .before .before .before .before .before .before .before .before .before .before .before .before .before .before .before .before .before .before .before .before .args .text .now) (c .before .before .before .before .before .before .before .before .before .before .before .before .before .before .before .before .before .before .before .before .before .args .from)) (c .before .before .before .before .before .before .before .before .before .before .before .before .before .before .before .before .before .before .before .before .before .args .tape .now) (c .before .before .before .before .before .before .before .before .before .before .before .before .before .before .before .before .before .before .loop .i) (readFrom ronToken (c .before .before .before .before .before .before .before .before .before .before .before .before .before .before .before .before .before .before .before .before .before .args .text .now) (c .before .before .before .before .before .before .before .before .before .before .before .before .before .before .before .before .before .before .loop .at)) (c .before .before .before .before .before .before .before .before .before .before .before .before .before .before .before .before .before .before .loop .tape) (c .before .before .before .before .before .before .before .before .before .before .before .before .before .before .before .before .before .before .loop .inv .3) _ _ _ (c .before .before .before .before .before .before .before .before .before .before .before .before .before .before .before .before .before .loop-test .taken) (blanks-entry (c .before .before .before .before .before .before .before .before .before .before .before .before .before .before .before .before .before .before .before .before .before .args .text .now) (c .before .before .before .before .before .before .before .before .before .before .before .before .before .before .before .before .before .before .loop .at) (c .before .before .before .before .before .before .before .before .before .before .before .before .before .before .before .before .behind-blanks .result) (c .before .before .before .before .before .before .before .before .before .before .before .before .before .before .before .before .behind-blanks .ensures) _ _ refl (step-token (c .before .before .before .before .before .before .before .before .before .before .before .before .before .before .before .before .before .before .before .before .before .args .text .now) (c .before .before .before .before .before .before .before .before .before .before .before .before .before .before .before .before .behind-blanks .result) _ (c .before .before .before .before .before .before .before .before .before .next-token .ensures) _ _ (c .before .before .before .before .before .before .before .found .given .1))) (c .before .before .put2 .ensures ∙ ap (λ (e : Entry). cond (c .before .before .before .before .before .before .before .before .before .before .before .before .before .before .before .before .before .before .before .before .before .args .on) (written (c .before .before .before .before .before .before .before .before .before .before .before .before .before .before .before .before .before .before .loop .tape) (c .before .before .before .before .before .before .before .before .before .before .before .before .before .before .before .before .before .before .loop .i) e) (c .before .before .before .before .before .before .before .before .before .before .before .before .before .before .before .before .before .before .loop .tape)) (c .before .before .before .entry-of2 .ensures)))
 
 enum-told : tie.Need-enum-told Inv-loop μ-loop
 enum-told c = search needs
@@ -110,7 +110,7 @@ same-length-2 : tie.Need-same-length-2 Inv-loop μ-loop
 same-length-2 c = c .before .before .before .before .before .before .before .before .before .before .before .loop .inv .2
 
 returns-2 : tie.Need-returns-2 Inv-loop μ-loop
-returns-2 c = let w = left-complete (c .before .before .before .before .before .before .before .before .before .before .before .before .before .before .args .on) (c .before .before .before .before .before .before .before .before .before .before .before .before .before .before .args .n) (readFrom ronToken (c .before .before .before .before .before .before .before .before .before .before .before .before .before .before .args .text .now) (c .before .before .before .before .before .before .before .before .before .before .before .before .before .before .args .from)) (c .before .before .before .before .before .before .before .before .before .before .before .before .before .before .args .tape .now) (c .before .before .before .before .before .before .before .before .before .before .before .loop .i) (readFrom ronToken (c .before .before .before .before .before .before .before .before .before .before .before .before .before .before .args .text .now) (c .before .before .before .before .before .before .before .before .before .before .before .loop .at)) (c .before .before .before .before .before .before .before .before .before .before .before .loop .tape) (c .before .before .before .before .before .before .before .before .before .before .before .loop .inv .3) (c .before .before .before .before .before .before .before .before .before .before .before .before .before .before .pre .2) (c .before .before .before .before .before .before .before .before .before .before .loop-test .taken) (step-blanks (c .before .before .before .before .before .before .before .before .before .before .before .before .before .before .args .text .now) (c .before .before .before .before .before .before .before .before .before .before .before .loop .at) (c .before .before .before .before .before .before .before .before .before .behind-blanks .result) (c .before .before .before .before .before .before .before .before .before .behind-blanks .ensures) ∙ step-stop (c .before .before .before .before .before .before .before .before .before .before .before .before .before .before .args .text .now) (c .before .before .before .before .before .before .before .before .before .behind-blanks .result) _ (c .before .before .next-token .ensures) (c .enum-told .given .1)) in (w .answer, w .rows)
+returns-2 c = let w = left-complete (c .before .before .before .before .before .before .before .before .before .before .before .before .before .before .args .on) (c .before .before .before .before .before .before .before .before .before .before .before .before .before .before .args .n) (readFrom ronToken (c .before .before .before .before .before .before .before .before .before .before .before .before .before .before .args .text .now) (c .before .before .before .before .before .before .before .before .before .before .before .before .before .before .args .from)) (c .before .before .before .before .before .before .before .before .before .before .before .before .before .before .args .tape .now) (c .before .before .before .before .before .before .before .before .before .before .before .loop .i) (readFrom ronToken (c .before .before .before .before .before .before .before .before .before .before .before .before .before .before .args .text .now) (c .before .before .before .before .before .before .before .before .before .before .before .loop .at)) (c .before .before .before .before .before .before .before .before .before .before .before .loop .tape) (c .before .before .before .before .before .before .before .before .before .before .before .loop .inv .3) (c .before .before .before .before .before .before .before .before .before .before .before .before .before .before .pre .2) (c .before .before .before .before .before .before .before .before .before .before .loop-test .taken) (blanks-complete (c .before .before .before .before .before .before .before .before .before .before .before .before .before .before .args .text .now) (c .before .before .before .before .before .before .before .before .before .before .before .loop .at) (c .before .before .before .before .before .before .before .before .before .behind-blanks .result) (c .before .before .before .before .before .before .before .before .before .behind-blanks .ensures) (step-stop (c .before .before .before .before .before .before .before .before .before .before .before .before .before .before .args .text .now) (c .before .before .before .before .before .before .before .before .before .behind-blanks .result) _ (c .before .before .next-token .ensures) (c .enum-told .given .1))) in (w .answer, w .rows)
 
 enum-known-found-2 : tie.Need-enum-known-found-2 Inv-loop μ-loop
 enum-known-found-2 c = search needs
@@ -122,7 +122,7 @@ same-length-3 : tie.Need-same-length-3 Inv-loop μ-loop
 same-length-3 c = c .before .before .before .before .before .before .before .before .before .before .before .before .before .loop .inv .2
 
 returns-3 : tie.Need-returns-3 Inv-loop μ-loop
-returns-3 c = let w = left-broken (c .before .before .before .before .before .before .before .before .before .before .before .before .before .before .before .before .args .on) (c .before .before .before .before .before .before .before .before .before .before .before .before .before .before .before .before .args .n) (readFrom ronToken (c .before .before .before .before .before .before .before .before .before .before .before .before .before .before .before .before .args .text .now) (c .before .before .before .before .before .before .before .before .before .before .before .before .before .before .before .before .args .from)) (c .before .before .before .before .before .before .before .before .before .before .before .before .before .before .before .before .args .tape .now) (c .before .before .before .before .before .before .before .before .before .before .before .before .before .loop .i) (readFrom ronToken (c .before .before .before .before .before .before .before .before .before .before .before .before .before .before .before .before .args .text .now) (c .before .before .before .before .before .before .before .before .before .before .before .before .before .loop .at)) (c .before .before .before .before .before .before .before .before .before .before .before .before .before .loop .tape) (c .before .before .before .before .before .before .before .before .before .before .before .before .before .loop .inv .3) (c .before .before .before .before .before .before .before .before .before .before .before .before .before .before .before .before .pre .2) _ (c .before .before .before .before .before .before .before .before .before .before .before .before .loop-test .taken) (step-blanks (c .before .before .before .before .before .before .before .before .before .before .before .before .before .before .before .before .args .text .now) (c .before .before .before .before .before .before .before .before .before .before .before .before .before .loop .at) (c .before .before .before .before .before .before .before .before .before .before .before .behind-blanks .result) (c .before .before .before .before .before .before .before .before .before .before .before .behind-blanks .ensures) ∙ step-refuse (c .before .before .before .before .before .before .before .before .before .before .before .before .before .before .before .before .args .text .now) (c .before .before .before .before .before .before .before .before .before .before .before .behind-blanks .result) _ (c .before .before .before .before .next-token .ensures) _ (c .before .before .found2 .given .1)) in (ap refused (c .placed-behind .ensures) ∙ w .answer, w .rows)
+returns-3 c = let w = left-broken (c .before .before .before .before .before .before .before .before .before .before .before .before .before .before .before .before .args .on) (c .before .before .before .before .before .before .before .before .before .before .before .before .before .before .before .before .args .n) (readFrom ronToken (c .before .before .before .before .before .before .before .before .before .before .before .before .before .before .before .before .args .text .now) (c .before .before .before .before .before .before .before .before .before .before .before .before .before .before .before .before .args .from)) (c .before .before .before .before .before .before .before .before .before .before .before .before .before .before .before .before .args .tape .now) (c .before .before .before .before .before .before .before .before .before .before .before .before .before .loop .i) (readFrom ronToken (c .before .before .before .before .before .before .before .before .before .before .before .before .before .before .before .before .args .text .now) (c .before .before .before .before .before .before .before .before .before .before .before .before .before .loop .at)) (c .before .before .before .before .before .before .before .before .before .before .before .before .before .loop .tape) (c .before .before .before .before .before .before .before .before .before .before .before .before .before .loop .inv .3) (c .before .before .before .before .before .before .before .before .before .before .before .before .before .before .before .before .pre .2) _ (c .before .before .before .before .before .before .before .before .before .before .before .before .loop-test .taken) (blanks-broken (c .before .before .before .before .before .before .before .before .before .before .before .before .before .before .before .before .args .text .now) (c .before .before .before .before .before .before .before .before .before .before .before .before .before .loop .at) (c .before .before .before .before .before .before .before .before .before .before .before .behind-blanks .result) (c .before .before .before .before .before .before .before .before .before .before .before .behind-blanks .ensures) _ (step-refuse (c .before .before .before .before .before .before .before .before .before .before .before .before .before .before .before .before .args .text .now) (c .before .before .before .before .before .before .before .before .before .before .before .behind-blanks .result) _ (c .before .before .before .before .next-token .ensures) _ (c .before .before .found2 .given .1))) in (ap refused (c .placed-behind .ensures) ∙ w .answer, w .rows)
 
 same-length-4 : tie.Need-same-length-4 Inv-loop μ-loop
 same-length-4 c = c .before .loop .inv .2

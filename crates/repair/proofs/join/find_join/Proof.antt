@@ -23,87 +23,66 @@ Inv-loop text from tape count j b e at₀ n₀ i₀ at n i = (at ≤ length text
 abbrev μ-loop : tie.MeasureT-loop
 μ-loop text from tape count j b e at₀ n₀ i₀ at n i = length text - at
 
--- src/join.rt:29:5
 loop-holds : tie.Need-loop-holds Inv-loop μ-loop
 loop-holds c = ((c .before .before .pre .1), omega arith, stands (entriesOf (c .before .before .args .count) (c .before .before .args .tape .now)) (c .before .before .args .b) (c .before .before .args .e) _ _ (c .before .before .pre .4), refl)
 
--- src/join.rt:30:32
 sub-next-token : tie.Need-sub-next-token Inv-loop μ-loop
 sub-next-token c = search needs
 
--- src/join.rt:30:32
 part-next-token-start : tie.Need-part-next-token-start Inv-loop μ-loop
 part-next-token-start c = search needs
 
--- src/join.rt:30:32
 part-next-token-end : tie.Need-part-next-token-end Inv-loop μ-loop
 part-next-token-end c = search needs
 
--- src/join.rt:30:13
 next-token-requires : tie.Need-next-token-requires Inv-loop μ-loop
 next-token-requires c κs = search needs
 
--- src/join.rt:32:30
 enum-known-found : tie.Need-enum-known-found Inv-loop μ-loop
 enum-known-found c = search needs
 
--- src/join.rt:33:29
 add-start : tie.Need-add-start Inv-loop μ-loop
 add-start c = let w = step-within (c .before .before .before .before .before .before .before .before .before .args .text .now) (c .before .before .before .before .before .before .loop .at) _ (c .before .before .before .next-token .ensures) _ _ (c .before .found .given .1) in omega (arith, w .0, w .1, c .before .before .before .before .before .before .before .before .before .pre .0)
 
--- src/join.rt:34:21
 meet-requires : tie.Need-meet-requires Inv-loop μ-loop
 meet-requires c κs = let w = step-within (c .before .before .before .before .before .before .before .before .before .args .text .now) (c .before .before .before .before .before .before .loop .at) _ (c .before .before .before .next-token .ensures) _ _ (c .before .found .given .1) in ((c .before .before .before .before .before .before .before .before .before .pre .2), λ h. (c .before .before .before .before .before .before .loop .inv .2) ((c .before .before .before .before .before .before .loop .at) + (c .before .found .given .0 .0)) h (omega arith), omega (arith, w .1, (c .before .before .before .before .before .before .before .before .before .pre .3)))
 
--- src/join.rt:36:29
 enum-known-met : tie.Need-enum-known-met Inv-loop μ-loop
 enum-known-met c = search needs
 
--- src/join.rt:37:25
 returns : tie.Need-returns Inv-loop μ-loop
 returns c = sym (ap (scanOf (entriesOf (c .before .before .before .before .before .before .before .before .before .before .before .before .before .args .count) (c .before .before .before .before .before .before .before .before .before .before .before .before .before .args .tape .now)) (c .before .before .before .before .before .before .before .before .before .before .before .before .before .args .b) (c .before .before .before .before .before .before .before .before .before .before .before .before .before .args .e) (c .before .before .before .before .before .before .before .before .before .before .loop .n)) (step-token (c .before .before .before .before .before .before .before .before .before .before .before .before .before .args .text .now) (c .before .before .before .before .before .before .before .before .before .before .loop .at) _ (c .before .before .before .before .before .before .before .next-token .ensures) _ _ (c .before .before .before .before .before .found .given .1)) ∙ scan-at (entriesOf (c .before .before .before .before .before .before .before .before .before .before .before .before .before .args .count) (c .before .before .before .before .before .before .before .before .before .before .before .before .before .args .tape .now)) (c .before .before .before .before .before .before .before .before .before .before .before .before .before .args .b) (c .before .before .before .before .before .before .before .before .before .before .before .before .before .args .e) (c .before .before .before .before .before .before .before .before .before .before .loop .n) (c .before .before .before .before .before .before .before .before .before .before .loop .i) _ _ _ (sym (c .before .before .before .meet .ensures) ∙ c .before .met .given .1)) ∙ c .before .before .before .before .before .before .before .before .before .before .loop .inv .3
 
--- src/join.rt:39:31
 enum-known-met-2 : tie.Need-enum-known-met-2 Inv-loop μ-loop
 enum-known-met-2 c = search needs
 
--- src/join.rt:41:30
 add-at : tie.Need-add-at Inv-loop μ-loop
 add-at c = let w = step-within (c .before .before .before .before .before .before .before .before .before .before .before .before .before .before .args .text .now) (c .before .before .before .before .before .before .before .before .before .before .before .loop .at) _ (c .before .before .before .before .before .before .before .before .next-token .ensures) _ _ (c .before .before .before .before .before .before .found .given .1) in omega (arith, w .0, w .1, c .before .before .before .before .before .before .before .before .before .before .before .before .before .before .pre .0)
 
--- src/join.rt:42:25
 add-n : tie.Need-add-n Inv-loop μ-loop
 add-n c = let w = step-within (c .before .before .before .before .before .before .before .before .before .before .before .before .before .before .args .text .now) (c .before .before .before .before .before .before .before .before .before .before .before .loop .at) _ (c .before .before .before .before .before .before .before .before .next-token .ensures) _ _ (c .before .before .before .before .before .before .found .given .1) in omega (arith, w .0, w .1, c .before .before .before .before .before .before .before .before .before .before .before .before .before .before .pre .0, c .before .before .before .before .before .before .before .before .before .before .before .loop .inv .1)
 
--- src/join.rt:29:5
 loop-less : tie.Need-loop-less Inv-loop μ-loop
 loop-less c = let w = step-within (c .before .before .before .before .before .before .before .before .before .before .before .before .before .before .args .text .now) (c .before .before .before .before .before .before .before .before .before .before .before .loop .at) _ (c .before .before .before .before .before .before .before .before .next-token .ensures) _ _ (c .before .before .before .before .before .before .found .given .1) in omega (arith, w .0, w .1)
 
--- src/join.rt:29:5
 loop-again : tie.Need-loop-again Inv-loop μ-loop
-loop-again c = let w = step-within (c .before .before .before .before .before .before .before .before .before .before .before .before .before .before .args .text .now) (c .before .before .before .before .before .before .before .before .before .before .before .loop .at) _ (c .before .before .before .before .before .before .before .before .next-token .ensures) _ _ (c .before .before .before .before .before .before .found .given .1) in let m = sym (c .before .before .before .before .meet .ensures) ∙ (c .before .before .met2 .given .1) in (omega (arith, w .1), omega (arith, w .0, (c .before .before .before .before .before .before .before .before .before .before .before .loop .inv .1)), λ y h l. met-next (entriesOf (c .before .before .before .before .before .before .before .before .before .before .before .before .before .before .args .count) (c .before .before .before .before .before .before .before .before .before .before .before .before .before .before .args .tape .now)) (c .before .before .before .before .before .before .before .before .before .before .before .before .before .before .args .b) (c .before .before .before .before .before .before .before .before .before .before .before .before .before .before .args .e) (c .before .before .before .before .before .before .before .before .before .before .before .loop .i) ((c .before .before .before .before .before .before .before .before .before .before .before .loop .at) + (c .before .before .before .before .before .before .found .given .0 .0)) _ m .1 y (omega arith) ((c .before .before .before .before .before .before .before .before .before .before .before .loop .inv .2) y h (omega arith)), sym (ap (scanOf (entriesOf (c .before .before .before .before .before .before .before .before .before .before .before .before .before .before .args .count) (c .before .before .before .before .before .before .before .before .before .before .before .before .before .before .args .tape .now)) (c .before .before .before .before .before .before .before .before .before .before .before .before .before .before .args .b) (c .before .before .before .before .before .before .before .before .before .before .before .before .before .before .args .e) (c .before .before .before .before .before .before .before .before .before .before .before .loop .n)) (step-token (c .before .before .before .before .before .before .before .before .before .before .before .before .before .before .args .text .now) (c .before .before .before .before .before .before .before .before .before .before .before .loop .at) _ (c .before .before .before .before .before .before .before .before .next-token .ensures) _ _ (c .before .before .before .before .before .before .found .given .1)) ∙ scan-on (entriesOf (c .before .before .before .before .before .before .before .before .before .before .before .before .before .before .args .count) (c .before .before .before .before .before .before .before .before .before .before .before .before .before .before .args .tape .now)) (c .before .before .before .before .before .before .before .before .before .before .before .before .before .before .args .b) (c .before .before .before .before .before .before .before .before .before .before .before .before .before .before .args .e) (c .before .before .before .before .before .before .before .before .before .before .before .loop .n) (c .before .before .before .before .before .before .before .before .before .before .before .loop .i) _ _ _ m) ∙ (c .before .before .before .before .before .before .before .before .before .before .before .loop .inv .3))
+loop-again c = let w = step-within (c .before .before .before .before .before .before .before .before .before .before .before .before .before .before .args .text .now) (c .before .before .before .before .before .before .before .before .before .before .before .loop .at) _ (c .before .before .before .before .before .before .before .before .next-token .ensures) _ _ (c .before .before .before .before .before .before .found .given .1) in let m = sym (c .before .before .before .before .meet .ensures) ∙ (c .before .before .met2 .given .1) in (omega (arith, w .1), omega (arith, w .0, (c .before .before .before .before .before .before .before .before .before .before .before .loop .inv .1)), λ y h l. met-next (entriesOf (c .before .before .before .before .before .before .before .before .before .before .before .before .before .before .args .count) (c .before .before .before .before .before .before .before .before .before .before .before .before .before .before .args .tape .now)) (c .before .before .before .before .before .before .before .before .before .before .before .before .before .before .args .b) (c .before .before .before .before .before .before .before .before .before .before .before .before .before .before .args .e) (c .before .before .before .before .before .before .before .before .before .before .before .loop .i) (c .before .before .before .before .before .before .found .given .0 .0) ((c .before .before .before .before .before .before .before .before .before .before .before .loop .at) + (c .before .before .before .before .before .before .found .given .0 .0)) _ m .1 y (omega arith) ((c .before .before .before .before .before .before .before .before .before .before .before .loop .inv .2) y h (omega arith)), sym (ap (scanOf (entriesOf (c .before .before .before .before .before .before .before .before .before .before .before .before .before .before .args .count) (c .before .before .before .before .before .before .before .before .before .before .before .before .before .before .args .tape .now)) (c .before .before .before .before .before .before .before .before .before .before .before .before .before .before .args .b) (c .before .before .before .before .before .before .before .before .before .before .before .before .before .before .args .e) (c .before .before .before .before .before .before .before .before .before .before .before .loop .n)) (step-token (c .before .before .before .before .before .before .before .before .before .before .before .before .before .before .args .text .now) (c .before .before .before .before .before .before .before .before .before .before .before .loop .at) _ (c .before .before .before .before .before .before .before .before .next-token .ensures) _ _ (c .before .before .before .before .before .before .found .given .1)) ∙ scan-on (entriesOf (c .before .before .before .before .before .before .before .before .before .before .before .before .before .before .args .count) (c .before .before .before .before .before .before .before .before .before .before .before .before .before .before .args .tape .now)) (c .before .before .before .before .before .before .before .before .before .before .before .before .before .before .args .b) (c .before .before .before .before .before .before .before .before .before .before .before .before .before .before .args .e) (c .before .before .before .before .before .before .before .before .before .before .before .loop .n) (c .before .before .before .before .before .before .before .before .before .before .before .loop .i) _ _ _ m) ∙ (c .before .before .before .before .before .before .before .before .before .before .before .loop .inv .3))
 
--- src/join.rt:47:17
 enum-told : tie.Need-enum-told Inv-loop μ-loop
 enum-told c = search needs
 
--- src/join.rt:47:17
 returns-2 : tie.Need-returns-2 Inv-loop μ-loop
 returns-2 c = sym (ap (scanOf (entriesOf (c .before .before .before .before .before .before .before .before .args .count) (c .before .before .before .before .before .before .before .before .args .tape .now)) (c .before .before .before .before .before .before .before .before .args .b) (c .before .before .before .before .before .before .before .before .args .e) (c .before .before .before .before .before .loop .n)) (step-stop (c .before .before .before .before .before .before .before .before .args .text .now) (c .before .before .before .before .before .loop .at) _ (c .before .before .next-token .ensures) (c .enum-told .given .1)) ∙ scan-end (entriesOf (c .before .before .before .before .before .before .before .before .args .count) (c .before .before .before .before .before .before .before .before .args .tape .now)) (c .before .before .before .before .before .before .before .before .args .b) (c .before .before .before .before .before .before .before .before .args .e) (c .before .before .before .before .before .loop .n) ∙ ap (Found (c .before .before .before .before .before .loop .n)) (length-entries (c .before .before .before .before .before .before .before .before .args .count) (c .before .before .before .before .before .before .before .before .args .tape .now))) ∙ c .before .before .before .before .before .loop .inv .3
 
--- src/join.rt:49:32
 enum-known-found-2 : tie.Need-enum-known-found-2 Inv-loop μ-loop
 enum-known-found-2 c = search needs
 
--- src/join.rt:50:38
 placed-behind-requires : tie.Need-placed-behind-requires Inv-loop μ-loop
 placed-behind-requires c κs = omega (arith, refuse-within (c .before .before .before .before .before .before .before .before .before .args .text .now) (c .before .before .before .before .before .before .loop .at) _ (c .before .before .before .next-token .ensures) _ (c .before .found2 .given .1), c .before .before .before .before .before .before .before .before .before .pre .0)
 
--- src/join.rt:50:17
 returns-3 : tie.Need-returns-3 Inv-loop μ-loop
 returns-3 c = ap Refused (c .placed-behind .ensures) ∙ sym (ap (scanOf (entriesOf (c .before .before .before .before .before .before .before .before .before .before .args .count) (c .before .before .before .before .before .before .before .before .before .before .args .tape .now)) (c .before .before .before .before .before .before .before .before .before .before .args .b) (c .before .before .before .before .before .before .before .before .before .before .args .e) (c .before .before .before .before .before .before .before .loop .n)) (step-refuse (c .before .before .before .before .before .before .before .before .before .before .args .text .now) (c .before .before .before .before .before .before .before .loop .at) _ (c .before .before .before .before .next-token .ensures) _ (c .before .before .found2 .given .1)) ∙ scan-broken (entriesOf (c .before .before .before .before .before .before .before .before .before .before .args .count) (c .before .before .before .before .before .before .before .before .before .before .args .tape .now)) (c .before .before .before .before .before .before .before .before .before .before .args .b) (c .before .before .before .before .before .before .before .before .before .before .args .e) (c .before .before .before .before .before .before .before .loop .n) _) ∙ c .before .before .before .before .before .before .before .loop .inv .3
 
--- src/join.rt:22:1
 returns-4 : tie.Need-returns-4 Inv-loop μ-loop
 returns-4 c = sym (ap (scanOf (entriesOf (c .before .before .before .before .args .count) (c .before .before .before .before .args .tape .now)) (c .before .before .before .before .args .b) (c .before .before .before .before .args .e) (c .before .loop .n)) (from-end ronToken quietByte laws (c .before .before .before .before .args .text .now) (c .before .loop .at) (omega arith)) ∙ scan-end (entriesOf (c .before .before .before .before .args .count) (c .before .before .before .before .args .tape .now)) (c .before .before .before .before .args .b) (c .before .before .before .before .args .e) (c .before .loop .n) ∙ ap (Found (c .before .loop .n)) (length-entries (c .before .before .before .before .args .count) (c .before .before .before .before .args .tape .now))) ∙ c .before .loop .inv .3
 

@@ -39,8 +39,17 @@ mul-t16 c = search needs
 shared-slice-read-t18 : tie.Need-shared-slice-read-t18
 shared-slice-read-t18 c = search needs
 
+add-t19 : tie.Need-add-t19
+add-t19 c = search needs
+
+mul-t20 : tie.Need-mul-t20
+mul-t20 c = search needs
+
+shared-slice-read-t22 : tie.Need-shared-slice-read-t22
+shared-slice-read-t22 c = search needs
+
 returns : tie.Need-returns
-returns c = reads (c .before .before .before .before .args .tape .now) (c .before .before .before .before .args .i)
+returns c = reads (c .before .before .before .before .before .args .tape .now) (c .before .before .before .before .before .args .i)
 
 pub entry-spec : {M : Type 1} → statement M
 entry-spec =
@@ -58,4 +67,7 @@ entry-spec =
     add-t15
     mul-t16
     shared-slice-read-t18
+    add-t19
+    mul-t20
+    shared-slice-read-t22
     returns)

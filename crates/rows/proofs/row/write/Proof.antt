@@ -41,6 +41,15 @@ mul-tape-4 c = search needs
 slice-write-tape-4 : tie.Need-slice-write-tape-4
 slice-write-tape-4 c = simp length-set (omega arith)
 
+add-tape-4 : tie.Need-add-tape-4
+add-tape-4 c = search needs
+
+mul-tape-5 : tie.Need-mul-tape-5
+mul-tape-5 c = search needs
+
+slice-write-tape-5 : tie.Need-slice-write-tape-5
+slice-write-tape-5 c = simp length-set (omega arith)
+
 same-length : tie.Need-same-length
 same-length c = search needs
 
@@ -63,5 +72,8 @@ write-spec =
     add-tape-3
     mul-tape-4
     slice-write-tape-4
+    add-tape-4
+    mul-tape-5
+    slice-write-tape-5
     same-length
     returns)
