@@ -3,6 +3,7 @@ pub mod Characters
 pub mod Shapes
 pub mod Texts
 pub mod WalkFronts
+pub mod Gaps
 pub mod Judgement
 pub mod Calls
 pub mod Places

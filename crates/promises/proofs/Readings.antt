@@ -24,8 +24,8 @@ use Rattle.names.proofs.Agree.{name-agrees, raw-agrees}
 use Rattle.floats.specs.Grammar.{Float, accepts}
 use Rattle.floats.specs.declared.state.State.the-variants.{Start}
 use Rattle.floats.proofs.Decides.{decides}
-use Rattle.rows.specs.Order.{inOrder}
-use Rattle.rows.specs.Rows.{entriesOf, roomOf}
+use Rattle.rows.specs.Order.{formerEnd, inOrder}
+use Rattle.rows.specs.Rows.{entriesOf, entryAt, roomOf}
 use Rattle.rows.specs.declared.Entry.{Entry}
 use Rattle.reading.specs.Readings.{_▸_, entry as then, readFrom}
 use Rattle.tokens.specs.Ron.{ronToken}
@@ -41,6 +41,7 @@ use Rattle.spelt.specs.Spelt.{Spelt}
 use Rattle.spelt.proofs.SpeltRead as spelt
 use Rattle.fronts.specs.Fronts.{FrontOf}
 use Rattle.fronts.proofs.Calls as fronts
+use Rattle.fronts.proofs.Gaps as gaps
 use Rattle.given.specs.Given.{Given}
 use Rattle.given.proofs.Calls.{read-given}
 use Rattle.shutout.specs.ShutOut.{Meets-read, Reader}
@@ -52,6 +53,11 @@ use Rattle.shutout.proofs.ShutReaders as readers
 -- bytes have the form of its kind and detail.
 pub read-tiles : (text tape : List ℕ) (n : ℕ) → readAnswer text (length tape) ≡ accepted n → Tiles text 0 (entriesOf n (readTape text tape))
 read-tiles = tiles.read-tiles
+
+-- The gap of each entry is the distance from the former's end, or from the text's start.
+pub read-gaps : (text tape : List ℕ) (n : ℕ) → readAnswer text (length tape) ≡ accepted n → (k : ℕ) → k < n
+    → formerEnd 0 (entriesOf n (readTape text tape)) k + entryAt (readTape text tape) k .gap ≡ entryAt (readTape text tape) k .start
+read-gaps text tape n h k below = gaps.ordered-gap (readTape text tape) n k below 65536 (read-walkable text tape n h)
 
 -- Plain tokens with a blank behind each, marks, names, decimal integers that fit and strings without quote or backslash, are read, and the tape holds
 -- exactly them.

@@ -1,13 +1,14 @@
 -- What is promised of `repair`. Each line is a theorem's statement; its proof only says where it is proved. Assumes nothing.
-use Prim.Native.Nat.{ℕ, suc, _<_, _≤_}
+use Prim.Native.Nat.{ℕ, suc, _+_, _<_, _≤_}
 use mathlib.Core.List.{List}
 use mathlib.Core.Path.{_≡_, refl}
 use lib.ListN.{length}
 use Rattle.text.specs.Judged.{behindJudged, judgedOf}
-use Rattle.text.specs.Refusals.{accepted, refused}
+use Rattle.text.specs.Refusals.{accepted, notInOrder, refused}
 use Rattle.text.specs.declared.judge.Judged.{Judged}
 use Rattle.text.specs.declared.judge.Judged.the-variants.{Fit, Refused as NotFit}
 use Rattle.text.specs.declared.refusal.Refusal.{Refusal}
+use Rattle.rows.specs.Order.{formerEnd}
 use Rattle.rows.specs.Rows.{entriesOf, entryAt}
 use Rattle.reading.specs.Kept.{KeptThere, Replaced, keptBefore, keptBehind}
 use Rattle.reading.proofs.FallsByOne.{kept-there}
@@ -29,6 +30,7 @@ use Rattle.sarridok.specs.Contents.{decodedAnswer}
 use Rattle.sarridok.proofs.RepairDetermined.{repair-determined}
 use Rattle.fronts.specs.Fronts.{FrontOf}
 use Rattle.fronts.proofs.Calls as fronts
+use Rattle.fronts.proofs.Gaps as gaps
 use Rattle.given.specs.Given.{Given}
 use Rattle.given.proofs.Calls.{repair-given}
 use Rattle.shutout.specs.ShutOut.{Meets-repair, Repairer}
@@ -77,6 +79,11 @@ module _ (tape : List ℕ) (count o a b : ℕ) (text : List ℕ) where
   -- 1 and 2 exactly in their cases, and past both exactly where the text is sound.
   pub repair-front : FrontOf text (repairOf tape count o a b text) (repairAnswerOf tape count o a b text)
   repair-front = fronts.repair-front tape count o a b text
+
+  -- A gap that is not the distance from the former entry's end, or from the old text's start, is 23.
+  pub repair-gap : (k : ℕ) → k < count → (formerEnd 0 (entriesOf count tape) k + entryAt tape k .gap ≡ entryAt tape k .start → ⊥) → judgedOf text ≡ Fit
+      → repairOf tape count o a b text ≡ refused notInOrder
+  repair-gap k below off fit = gaps.repair-gap tape count k below o a b text fit off
 
   by-judgement : (r : Refusal) (x : Judged) → behindJudged x (repairAnswerOf tape count o a b text) ≡ refused r → unlessRefused x tape (repairTapeOf tape count o a b text) ≡ tape
   unfolding repairTapeOf

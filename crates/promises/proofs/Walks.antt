@@ -1,5 +1,5 @@
 -- What is promised of `walk`. Each line is a theorem's statement; its proof only says where it is proved. Assumes nothing.
-use Prim.Native.Nat.{ℕ, _<_, _≤_}
+use Prim.Native.Nat.{ℕ, _+_, _<_, _≤_}
 use mathlib.Core.Bool.{false, true}
 use mathlib.Core.List.{List, _++_}
 use mathlib.Core.Logic.{_↔_, _⊎_}
@@ -7,8 +7,8 @@ use mathlib.Core.Path.{_≡_}
 use lib.ListN.{length}
 use Rattle.text.specs.Refusals.{accepted, depthLimitPassed, noRoom, notAllowedHere, notInOrder, refused, tapeEndsEarly, unfit}
 use Rattle.text.specs.declared.refusal.Refusal.{Refusal}
-use Rattle.rows.specs.Order.{inOrder}
-use Rattle.rows.specs.Rows.{entriesOf, roomOf}
+use Rattle.rows.specs.Order.{formerEnd, inOrder}
+use Rattle.rows.specs.Rows.{entriesOf, entryAt, roomOf}
 use Rattle.grammar.specs.Grammar.{Document}
 use Rattle.grammar.specs.Kinds.{kindsOf, sideOf}
 use Rattle.grammar.specs.Nested.{Nested, Partner}
@@ -23,6 +23,7 @@ use Rattle.sarridok.specs.Walked.{linksAfter, toldWalk, walkOf}
 use Rattle.sarridok.specs.declared.walk_call.WalkAnswer.{WalkAnswer}
 use Rattle.sarridok.proofs.WalkDetermined.{links-determined, walk-determined}
 use Rattle.sarridok.proofs.WalkMeans as means
+use Rattle.fronts.proofs.Gaps as gaps
 use Rattle.fronts.proofs.WalkFronts as fronts
 use Rattle.given.specs.Given.{Given}
 use Rattle.given.proofs.Calls.{walk-given}
@@ -41,6 +42,11 @@ module _ (tape : List ℕ) (count limit links : ℕ) where
 
   pub walk-23 : (walkOf tape count limit links ≡ refused notInOrder) ↔ ((limit ≤ 128) × ((roomOf (length tape) < count) ⊎ (inOrder (entriesOf count tape) 65536 ≡ false)))
   walk-23 = fronts.walk-23 tape count limit links
+
+  -- A gap that is not the distance from the former entry's end, or from the text's start, is 23.
+  pub walk-gap : (k : ℕ) → k < count → (formerEnd 0 (entriesOf count tape) k + entryAt tape k .gap ≡ entryAt tape k .start → ⊥) → limit ≤ 128
+      → walkOf tape count limit links ≡ refused notInOrder
+  walk-gap k below off h = gaps.walk-gap tape count k below limit links h off
 
   pub walk-22 : (walkOf tape count limit links ≡ refused noRoom)
       ↔ ((limit ≤ 128) × (count ≤ roomOf (length tape)) × (inOrder (entriesOf count tape) 65536 ≡ true) × (links < count))

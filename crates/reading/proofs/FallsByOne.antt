@@ -55,7 +55,7 @@ module _ (o n e : ℕ) (old new : List Entry) where
   kept-there =
       let b = kept-behind-holds o n e old new in
       let k : ℕ = keptBehind o n e old new in
-      record { inOld = b .in-old; inNew = b .in-new; late = b .late; there = moved-there (lastOf k old) (lastOf k new) (b .all-moved) }
+      record { fewOld = b .in-old; fewNew = b .in-new; late = b .late; there = moved-there (lastOf k old) (lastOf k new) (b .all-moved) }
 
   -- and no k that does is more than one above it
   pub falls-by-one : (lo ln k : ℕ) → inOrderFrom old 0 lo ≡ true → inOrderFrom new 0 ln ≡ true → KeptThere o n e old new k → k ≤ suc (keptBehind o n e old new)
@@ -64,8 +64,8 @@ module _ (o n e : ℕ) (old new : List Entry) where
   falls-by-one lo ln (suc k) p q t =
       let y : Entry = getD old (length old - suc k) no-entry in
       let x : Entry = getD new (length new - suc k) no-entry in
-      let ys : lastOf (suc k) old ≡ y ∷ lastOf k old = last-more old k (t .inOld) in
-      let xs : lastOf (suc k) new ≡ x ∷ lastOf k new = last-more new k (t .inNew) in
+      let ys : lastOf (suc k) old ≡ y ∷ lastOf k old = last-more old k (t .fewOld) in
+      let xs : lastOf (suc k) new ≡ x ∷ lastOf k new = last-more new k (t .fewNew) in
       let po = in-order-drop old 0 lo (length old - suc k) p in
       let qo = in-order-drop new 0 ln (length new - suc k) q in
       let both : AllThere o n (y ∷ lastOf k old) (x ∷ lastOf k new) =
@@ -73,5 +73,5 @@ module _ (o n e : ℕ) (old new : List Entry) where
       let moved = tails-moved (lastOf k old) (lastOf k new) y x both (po .0) (qo .0) lo ln
       (sym (ap (λ (l : List Entry). inOrderFrom l (po .0) lo) ys) ∙ po .1) (sym (ap (λ (l : List Entry). inOrderFrom l (qo .0) ln) xs) ∙ qo .1) in
       let late = and-true (leb e (x .start)) (allBehind e (lastOf k new)) (sym (ap (allBehind e) xs) ∙ t .late) .1 in
-      let most = kept-behind-most o n e old new k (record { in-old = omega (arith, t .inOld); in-new = omega (arith, t .inNew); late = late; all-moved = moved }) in
+      let most = kept-behind-most o n e old new k (record { in-old = omega (arith, t .fewOld); in-new = omega (arith, t .fewNew); late = late; all-moved = moved }) in
       omega (arith, most)

@@ -92,7 +92,7 @@ pub data AllThere (o n : ℕ) : List Entry → List Entry → Type 0 where
 
 -- Document 01's k: the last k new entries start at e or behind it, and are the last k old ones so.
 pub record KeptThere (o n e : ℕ) (old new : List Entry) (k : ℕ) : Type 0 where
-  pub inOld : k ≤ length old
-  pub inNew : k ≤ length new
+  pub fewOld : k ≤ length old
+  pub fewNew : k ≤ length new
   pub late : allBehind e (lastOf k new) ≡ true
   pub there : AllThere o n (lastOf k old) (lastOf k new)

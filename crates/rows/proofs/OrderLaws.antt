@@ -9,7 +9,7 @@ use lib.Dec.{eqb, leb, ltb}
 use lib.ListN.{drop, getD, length}
 use borrow.Author.Tests.{eq-eqb, eqb-true, le-leb, leb-true, ltb-true, ne-eqb}
 use Rattle.rows.proofs.RowLaws.{entries-next}
-use Rattle.rows.specs.Order.{fourOrderly, inOrder, inOrderFrom, orderly}
+use Rattle.rows.specs.Order.{formerEnd, fourOrderly, inOrder, inOrderFrom, orderly}
 use Rattle.rows.specs.Rows.{entriesOf, entryAt, width}
 use Rattle.rows.specs.declared.Entry.{Entry}
 use Rattle.text.proofs.Choices.{and-true, bool-cases, either}
@@ -41,12 +41,16 @@ orderly-true at e h =
       distance = eqb-true (at + e .gap) (e .start) (r .1);
     }
 
--- the distance, as the code tells it
-pub distance-on : (at g s : ℕ) → at ≤ s → s - at ≡ g → eqb (at + g) s ≡ true
-distance-on at g s h e = eq-eqb (at + g) s (omega arith)
+-- the sum alone tells both
+pub distance-on : (at g s : ℕ) → at + g ≡ s → leb at s && eqb (at + g) s ≡ true
+distance-on at g s e = rw (le-leb at s (omega arith), eq-eqb (at + g) s e)
 
-pub distance-off : (at g s : ℕ) → at ≤ s → (s - at ≡ g → ⊥) → eqb (at + g) s ≡ false
-distance-off at g s h n = ne-eqb (at + g) s (λ e. n (omega arith))
+pub distance-off : (at g s : ℕ) → (at + g ≡ s → ⊥) → leb at s && eqb (at + g) s ≡ false
+distance-off at g s n = rw (ne-eqb (at + g) s n) (go (leb at s))
+  where
+    go : (t : Bool) → t && false ≡ false
+    go true = refl
+    go false = refl
 
 -- the first entry, and those behind it
 pub in-order-first : (e : Entry) (es : List Entry) (at limit : ℕ) → inOrderFrom (e ∷ es) at limit ≡ true → Orderly at e × (inOrderFrom es (e .end) limit ≡ true)
@@ -101,6 +105,14 @@ in-order-rise (e ∷ es) at limit h zero (suc k) d jk l =
     in-order-row es (e .end) limit (in-order-first e es at limit h .1) k d (le-of-suc-le-suc l) .behind
 in-order-rise (e ∷ es) at limit h (suc j) (suc k) d jk l =
     in-order-rise es (e .end) limit (in-order-first e es at limit h .1) j k d (le-of-suc-le-suc jk) (le-of-suc-le-suc l)
+
+-- each gap is the distance from the former's end
+pub in-order-distance : (es : List Entry) (at limit : ℕ) → inOrderFrom es at limit ≡ true → (k : ℕ) (d : Entry) → k < length es
+    → formerEnd at es k + getD es k d .gap ≡ getD es k d .start
+unfolding formerEnd
+in-order-distance [] at limit h k d l = absurd (not-suc-le-zero l)
+in-order-distance (e ∷ es) at limit h zero d l = in-order-first e es at limit h .0 .distance
+in-order-distance (e ∷ es) at limit h (suc k) d l = in-order-distance es (e .end) limit (in-order-first e es at limit h .1) k d (le-of-suc-le-suc l)
 
 -- ---- the loops over rows
 
@@ -183,6 +195,23 @@ module _ (t : List ℕ) (count limit : ℕ) (whole : Bool) where
             sym (ap (λ (x : Bool). x && (orderly (a .end) b && (orderly (b .end) c && orderly (c .end) d))) oa
             ∙ ap (λ (x : Bool). x && (orderly (b .end) c && orderly (c .end) d)) ob
             ∙ ap (λ (x : Bool). x && orderly (c .end) d) oc) ∙ o
+
+  -- and the four behind these, f being the fourth row
+  module _ (i at : ℕ) (inv : Left i at) (h : i + 8 ≤ count) (f : Entry) (is : f ≡ entryAt t (i + 3)) where
+    half : fourOrderly at (entryAt t i) (entryAt t (i + 1)) (entryAt t (i + 2)) (entryAt t (i + 3)) ≡ true → Left (i + 4) (f .end)
+    half o = subst (λ (x : Entry). Left (i + 4) (x .end)) (sym is) (four-on i at inv (omega arith) o)
+
+    pub eight-bad : fourOrderly at (entryAt t i) (entryAt t (i + 1)) (entryAt t (i + 2)) (entryAt t (i + 3)) ≡ true
+        → fourOrderly (f .end) (entryAt t (i + 4)) (entryAt t (i + 4 + 1)) (entryAt t (i + 4 + 2)) (entryAt t (i + 4 + 3)) ≡ false → false ≡ whole
+    eight-bad o p = four-bad (i + 4) (f .end) (half o) (omega arith) p
+
+    pub eight-on : fourOrderly at (entryAt t i) (entryAt t (i + 1)) (entryAt t (i + 2)) (entryAt t (i + 3)) ≡ true
+        → fourOrderly (f .end) (entryAt t (i + 4)) (entryAt t (i + 4 + 1)) (entryAt t (i + 4 + 2)) (entryAt t (i + 4 + 3)) ≡ true → (e : Entry) → e ≡ entryAt t (i + 7) → Left (i + 8) (e .end)
+    eight-on o p e eis =
+        let z : i + 4 + 4 ≡ i + 8 = omega arith in
+        let w : i + 4 + 3 ≡ i + 7 = omega arith in
+        subst (λ (k : ℕ). Left k (e .end)) z
+        (subst (λ (x : Entry). Left (i + 4 + 4) (x .end)) (ap (entryAt t) w ∙ sym eis) (four-on (i + 4) (f .end) (half o) (omega arith) p))
 
 -- the whole tape from its first row on
 pub order-starts : (t : List ℕ) (count limit : ℕ) → Left t count limit (inOrder (entriesOf count t) limit) 0 0

@@ -1,7 +1,7 @@
 -- A tape in order (document 01, refusal 23): "kinds are 1 to 16, each start is below its end, no entry starts before the former's end,
 -- and the last ends within the old length (walk: within 65,536)." Document 02, CR 6: "23 also where a gap does not equal that distance", from the former
 -- entry's end, or the text's start, to its own start.
-use Prim.Native.Nat.{ℕ, _+_}
+use Prim.Native.Nat.{ℕ, zero, suc, _+_}
 use mathlib.Core.List.{List, [], _∷_}
 use mathlib.Core.Bool.{Bool, _&&_}
 use lib.Dec.{ltb, leb, eqb}
@@ -24,3 +24,9 @@ inOrderFrom (e ∷ es) at limit = orderly at e && inOrderFrom es (e .end) limit
 -- The entries of a tape are in order, and the last ends within the limit.
 unfoldable pub inOrder : List Entry → ℕ → Bool
 inOrder es limit = inOrderFrom es 0 limit
+
+-- Where the entry before number k ends, and `at` where none stands before it.
+unfoldable pub formerEnd : ℕ → List Entry → ℕ → ℕ
+formerEnd at es zero = at
+formerEnd at [] (suc k) = at
+formerEnd at (e ∷ es) (suc k) = formerEnd (e .end) es k

@@ -9,7 +9,7 @@ ghost use lib.ListN.{length, drop};
 ghost use Rattle.rows.specs.Rows.{width, roomOf, entryAt, entriesOf};
 ghost use Rattle.rows.specs.Order.{orderly, fourOrderly, inOrderFrom, inOrder};
 
-// Whether an entry may stand behind a place.
+// Whether an entry may stand behind a place: its gap leads from there to its start, so it does not start before it. A sum of two numbers of a tape fits.
 fn is_orderly(at: u32, e: Entry) -> bool
     ensures { λ r. ⌜ r ≡ orderly at e ⌝ }
 {
@@ -22,11 +22,8 @@ fn is_orderly(at: u32, e: Entry) -> bool
     if e.end <= e.start {
         return false;
     }
-    if e.start < at {
-        return false;
-    }
-    let distance = e.start - at;
-    if distance != e.gap {
+    let reached = at as usize + e.gap as usize;
+    if reached != e.start as usize {
         return false;
     }
     true
@@ -78,20 +75,35 @@ fn rest_in_order(tape: &[u32], count: usize, limit: usize, from: usize, behind: 
     ends_within(at, limit)
 }
 
-// Whether the first `count` entries are in order, and the last ends within the limit: four at a time, since walk and repair ask it of every row.
+// How many rows have seven behind them: eight at a time can begin there.
+fn before_seven(count: usize) -> usize
+    ensures { λ r. ⌜ r ≡ count - 7 ⌝ }
+{
+    if count < 7 {
+        return 0;
+    }
+    count - 7
+}
+
+// Whether the first `count` entries are in order, and the last ends within the limit: twice four at a time, since walk and repair ask it of every row.
 pub fn in_order(tape: &[u32], count: usize, limit: usize) -> bool
     requires { ⌜ count ≤ roomOf (length (now tape)) ⌝ }
     ensures { λ r. ⌜ r ≡ inOrder (entriesOf count (now (tape .entry))) limit ⌝ }
 {
     let mut at: u32 = 0;
     let mut i = 0;
-    while 4 <= count - i {
+    let stop = before_seven(count);
+    while i < stop {
         if !four_orderly(tape, i, at) {
             return false;
         }
-        let last = row::entry(tape, i + 3);
-        at = last.end;
-        i += 4;
+        let fourth = row::entry(tape, i + 3);
+        if !four_orderly(tape, i + 4, fourth.end) {
+            return false;
+        }
+        let eighth = row::entry(tape, i + 7);
+        at = eighth.end;
+        i += 8;
     }
     rest_in_order(tape, count, limit, i, at)
 }
