@@ -7,7 +7,7 @@ use mathlib.Core.Logic.{inr}
 use mathlib.Core.Path.{_≡_, _∙_, ap, refl, subst}
 use lib.Dec.{leb}
 use lib.ListN.{length}
-use Rattle.text.proofs.Choices.{bool-cases, either}
+use Rattle.text.proofs.Choices.{and-false, bool-cases, either}
 use Rattle.text.specs.Judged.{judgedOf}
 use Rattle.text.specs.Refusals.{notInOrder, refused}
 use Rattle.text.specs.declared.judge.Judged.the-variants.{Fit}
@@ -39,15 +39,11 @@ module _ (tape : List ℕ) (count k : ℕ) (below : k < count) where
       → walkOf tape count limit links ≡ refused notInOrder
   walk-gap limit links h off = walk-23 tape count limit links .1 (h, inr (torn 65536 off))
 
-  last-false : (x y : Bool) → x && (y && false) ≡ false
-  last-false true true = refl
-  last-false true false = refl
-  last-false false y = refl
-
   torn-tape : (o a b n : ℕ) → (Distance → ⊥) → repairFits tape count o a b n ≡ false
   unfolding repairFits
   torn-tape o a b n off =
-      ap (λ (x : Bool). cutFits o a b n && (leb count (roomOf (length tape)) && x)) (torn o off) ∙ last-false (cutFits o a b n) (leb count (roomOf (length tape)))
+      ap (λ (x : Bool). cutFits o a b n && (leb count (roomOf (length tape)) && x)) (torn o off)
+      ∙ ap (λ (x : Bool). cutFits o a b n && x) (and-false (leb count (roomOf (length tape)))) ∙ and-false (cutFits o a b n)
 
   pub repair-gap : (o a b : ℕ) (text : List ℕ) → judgedOf text ≡ Fit → (formerEnd 0 (entriesOf count tape) k + entryAt tape k .gap ≡ entryAt tape k .start → ⊥)
       → repairOf tape count o a b text ≡ refused notInOrder

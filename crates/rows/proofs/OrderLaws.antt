@@ -12,7 +12,7 @@ use Rattle.rows.proofs.RowLaws.{entries-next}
 use Rattle.rows.specs.Order.{formerEnd, fourOrderly, inOrder, inOrderFrom, orderly}
 use Rattle.rows.specs.Rows.{entriesOf, entryAt, width}
 use Rattle.rows.specs.declared.Entry.{Entry}
-use Rattle.text.proofs.Choices.{and-true, bool-cases, either}
+use Rattle.text.proofs.Choices.{and-false, and-true, bool-cases, either}
 use Rattle.text.proofs.ClassLaws.{within-true}
 use Rattle.text.specs.Classes.{within}
 
@@ -46,11 +46,7 @@ pub distance-on : (at g s : ℕ) → at + g ≡ s → leb at s && eqb (at + g) s
 distance-on at g s e = rw (le-leb at s (omega arith), eq-eqb (at + g) s e)
 
 pub distance-off : (at g s : ℕ) → (at + g ≡ s → ⊥) → leb at s && eqb (at + g) s ≡ false
-distance-off at g s n = rw (ne-eqb (at + g) s n) (go (leb at s))
-  where
-    go : (t : Bool) → t && false ≡ false
-    go true = refl
-    go false = refl
+distance-off at g s n = rw (ne-eqb (at + g) s n) (and-false (leb at s))
 
 -- the first entry, and those behind it
 pub in-order-first : (e : Entry) (es : List Entry) (at limit : ℕ) → inOrderFrom (e ∷ es) at limit ≡ true → Orderly at e × (inOrderFrom es (e .end) limit ≡ true)
