@@ -22,8 +22,7 @@ static uint64_t next(size_t len, size_t room, size_t count) {
 static uint32_t links[SARRIDOK_MAX_TEXT];
 
 static uint64_t next(size_t len, size_t room, size_t count) {
-    (void)len;
-    return sarridok_walk(tape, room, count, SARRIDOK_MAX_DEPTH, links, SARRIDOK_MAX_TEXT);
+    return sarridok_walk(text, len, tape, room, count, SARRIDOK_MAX_DEPTH, links, SARRIDOK_MAX_TEXT);
 }
 #endif
 

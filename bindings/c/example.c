@@ -119,7 +119,7 @@ int main(int argc, char **argv) {
     if (sarridok_is_refused(read))
         return refused_at("read", read, sarridok_refusal_place(read));
     count = sarridok_count(read);
-    uint64_t walked = sarridok_walk(tape, SARRIDOK_ENTRY * count, count, SARRIDOK_MAX_DEPTH, links, count);
+    uint64_t walked = sarridok_walk(text, text_len, tape, SARRIDOK_ENTRY * count, count, SARRIDOK_MAX_DEPTH, links, count);
     if (sarridok_is_refused(walked))
         return refused_walk(walked);
     print_values(0, count, 0);

@@ -15,7 +15,7 @@ int main(void) {
     uint64_t answer = sarridok_read(text, LEN, tape, ROOM);
     if (sarridok_is_refused(answer)) return refused(answer);
     size_t count = sarridok_count(answer);
-    answer = sarridok_walk(tape, ROOM, count, SARRIDOK_MAX_DEPTH, links, LEN);
+    answer = sarridok_walk(text, LEN, tape, ROOM, count, SARRIDOK_MAX_DEPTH, links, LEN);
     if (sarridok_is_refused(answer)) return refused(answer);
     printf("%zu entries\n", count); /* tape: SARRIDOK_ENTRY numbers an entry; links[i]: the partner of bracket i */
 }

@@ -1,7 +1,8 @@
 /* Sarridok: a proved reader of RON text, for C (C11) and C++ (C++11).
  *
  * Link the archive libsarridok_c.a (x86-64 Linux), which bindings/archive proves and builds and bindings/install installs. It asks the C library for memset and
- * nothing else: no heap, no files. It keeps nothing between calls: any number of threads may call it at once.
+ * nothing else: no heap, no files. It keeps nothing between calls: any number of threads may call it at once. A call uses at most 14 KiB of stack; a
+ * walk, which keeps the entries that name fields there, at most 66 KiB: about 10 KiB for a tape of up to 8,192 entries, about 2.5 KiB for one of up to 512 (bench/stack).
  *
  * What each function answers and writes is proved for all bytes and all numbers, of one definition each (crates/sarridok_c). No input is unfit to be given.
  * What the compiler cannot ask of a C program, and its writer must keep:
@@ -34,7 +35,7 @@ _Static_assert(sizeof(size_t) == 8, "sarridok: the archive is for a size_t of 64
 
 /* ---- Version: major * 10000 + minor * 100 + patch */
 
-#define SARRIDOK_VERSION 400
+#define SARRIDOK_VERSION 500
 
 /* The version that the archive was built with: SARRIDOK_VERSION where the header belongs to it. */
 uint32_t sarridok_version(void);
@@ -149,7 +150,9 @@ enum sarridok_refusal {
     SARRIDOK_REFUSED_TAPE_ENDS_EARLY = 26,        /* the number of entries */
     SARRIDOK_REFUSED_OTHER_KIND = 27,             /* 0 */
     SARRIDOK_REFUSED_UNFIT = 28,                  /* 0 */
-    SARRIDOK_REFUSED_HOLDS_ESCAPE = 29            /* 0 */
+    SARRIDOK_REFUSED_HOLDS_ESCAPE = 29,           /* 0 */
+                                                  /* 30 is reserved: no call gives it */
+    SARRIDOK_REFUSED_REPEATED_FIELD = 31          /* the entry's number */
 };
 
 /* The sentence of a refusal's number; of any other number, "no refusal of the table". */
@@ -211,6 +214,8 @@ static inline const char *sarridok_refusal_text(uint32_t number) {
         return "a place, entry number, cursor, limit, width or mode is unfit";
     case SARRIDOK_REFUSED_HOLDS_ESCAPE:
         return "the contents hold an escape or a line continuation";
+    case SARRIDOK_REFUSED_REPEATED_FIELD:
+        return "a field of this name stands in the same brackets already";
     default:
         return "no refusal of the table";
     }
@@ -314,10 +319,13 @@ static inline struct sarridok_entry sarridok_entry(const uint32_t *tape, size_t 
  * Refused: 1, 2, then the first refusal of reading (4 to 21), and 22 last. */
 uint64_t sarridok_read(const uint8_t *text, size_t text_len, uint32_t *tape, size_t tape_len);
 
-/* Joins the brackets of a tape: one link to an entry. `limit` is how many brackets may be open at once, 0 to 128.
+/* Joins the brackets of a tape: one link to an entry. `limit` is how many brackets may be open at once, 0 to 128. Within one ( ) of fields no name may come again;
+ * of a raw name, what stands behind `r#` is the name, so that r#width and width are one. Names are read off the text, so give the one that the tape was read from;
+ * any other is answered too, by the bytes that stand there.
  * Accepted: 0. The first `count` links are written: an opening bracket's is the number of its closing one, and the other way round; any other entry's is its own.
- * Refused: 28 for a limit above 128, 23 for a count above the tape's room, or entries that are not in order or end behind SARRIDOK_MAX_TEXT, 22, then 24 to 26. */
-uint64_t sarridok_walk(const uint32_t *tape, size_t tape_len, size_t count, size_t limit, uint32_t *links, size_t links_len);
+ * Refused: 1, 2, 28 for a limit above 128, 23 for a count above the tape's room, entries that are not in order or end behind the text, or a raw name that is not `r#` with
+ * more behind it, 22, then the first, by entries, of 24, 25, 26 and 31; 31 names the field that comes again. */
+uint64_t sarridok_walk(const uint8_t *text, size_t text_len, const uint32_t *tape, size_t tape_len, size_t count, size_t limit, uint32_t *links, size_t links_len);
 
 /* Makes the tape of an old text that of `text`, which differs from it in one run of bytes: the old text had `old_len` bytes, and those from `a` to `b`
  * were replaced. `count` is the number of old entries.

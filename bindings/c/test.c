@@ -72,13 +72,126 @@ static void test_read(void) {
 
 static void test_walk(void) {
     uint32_t links[COUNT];
-    HOLDS(sarridok_walk(tape, NUMBERS, COUNT, 1, links, COUNT) == 0);
+    HOLDS(sarridok_walk(text, text_len, tape, NUMBERS, COUNT, 1, links, COUNT) == 0);
     HOLDS(links[0] == 0 && links[1] == 9 && links[8] == 8 && links[9] == 1);
-    HOLDS(refused(sarridok_walk(tape, NUMBERS, COUNT, 0, links, COUNT), SARRIDOK_REFUSED_DEPTH_LIMIT_PASSED, 1));
-    HOLDS(refused(sarridok_walk(tape, NUMBERS, COUNT, SARRIDOK_MAX_DEPTH + 1, links, COUNT), SARRIDOK_REFUSED_UNFIT, 0));
-    HOLDS(refused(sarridok_walk(tape, NUMBERS, COUNT, 1, NULL, 0), SARRIDOK_REFUSED_NO_ROOM, 0));
-    HOLDS(refused(sarridok_walk(NULL, 0, COUNT, 1, links, COUNT), SARRIDOK_REFUSED_NOT_IN_ORDER, 0));
-    HOLDS(refused(sarridok_walk(NULL, 0, 0, 1, NULL, 0), SARRIDOK_REFUSED_TAPE_ENDS_EARLY, 0));
+    HOLDS(refused(sarridok_walk(text, text_len, tape, NUMBERS, COUNT, 0, links, COUNT), SARRIDOK_REFUSED_DEPTH_LIMIT_PASSED, 1));
+    HOLDS(refused(sarridok_walk(text, text_len, tape, NUMBERS, COUNT, SARRIDOK_MAX_DEPTH + 1, links, COUNT), SARRIDOK_REFUSED_UNFIT, 0));
+    HOLDS(refused(sarridok_walk(text, text_len, tape, NUMBERS, COUNT, 1, NULL, 0), SARRIDOK_REFUSED_NO_ROOM, 0));
+    HOLDS(refused(sarridok_walk(text, text_len, NULL, 0, COUNT, 1, links, COUNT), SARRIDOK_REFUSED_NOT_IN_ORDER, 0));
+    HOLDS(refused(sarridok_walk(NULL, 0, NULL, 0, 0, 1, NULL, 0), SARRIDOK_REFUSED_TAPE_ENDS_EARLY, 0));
+}
+
+/* What is asked before the tape: of the text 1 and 2, ahead of the limit's 28. Nothing is written. */
+static void test_walk_front(void) {
+    static const uint8_t longer[SARRIDOK_MAX_TEXT + 1] = {0};
+    uint32_t links[COUNT] = {7, 7};
+    HOLDS(refused(sarridok_walk(longer, sizeof longer, tape, NUMBERS, COUNT, 1, links, COUNT), SARRIDOK_REFUSED_TOO_LONG, 0));
+    HOLDS(refused(sarridok_walk(longer, sizeof longer, NULL, 0, COUNT, SARRIDOK_MAX_DEPTH + 1, NULL, 0), SARRIDOK_REFUSED_TOO_LONG, 0));
+    HOLDS(refused(sarridok_walk(bytes("Lock\xFF"), 5, tape, NUMBERS, COUNT, 1, links, COUNT), SARRIDOK_REFUSED_NOT_UTF8, 4));
+    HOLDS(refused(sarridok_walk(bytes("\xFF"), 1, NULL, 0, COUNT, SARRIDOK_MAX_DEPTH + 1, NULL, 0), SARRIDOK_REFUSED_NOT_UTF8, 0));
+    HOLDS(refused(sarridok_walk(NULL, 0, NULL, 0, COUNT, SARRIDOK_MAX_DEPTH + 1, NULL, 0), SARRIDOK_REFUSED_UNFIT, 0));
+    HOLDS(links[0] == 7 && links[1] == 7);
+}
+
+/* Texts that read, and what their walk is refused with; of those accepted nothing. */
+static const struct {
+    const char *text;
+    size_t limit;
+    uint32_t number;
+    uint32_t place;
+} walks[] = {
+    {"(a:1,a:2)", 1, SARRIDOK_REFUSED_REPEATED_FIELD, 5},
+    {"(width:1,r#width:2)", 1, SARRIDOK_REFUSED_REPEATED_FIELD, 5},
+    {"(r#width:1,width:2)", 1, SARRIDOK_REFUSED_REPEATED_FIELD, 5},
+    {"Lock(a:1,b:2,a:3,b:4)", 1, SARRIDOK_REFUSED_REPEATED_FIELD, 10},
+    {"(a:1,a)", 1, SARRIDOK_REFUSED_REPEATED_FIELD, 5}, /* told before the colon is asked for */
+    {"(a:1,a", 1, SARRIDOK_REFUSED_REPEATED_FIELD, 5},
+    {"(a:1,a:[)", 2, SARRIDOK_REFUSED_REPEATED_FIELD, 5},
+    {"(a:1,a:[[]])", 1, SARRIDOK_REFUSED_REPEATED_FIELD, 5}, /* what stands first is told */
+    {"(a:[],a:1)", 1, SARRIDOK_REFUSED_DEPTH_LIMIT_PASSED, 3},
+    {"(a:1 a:2)", 1, SARRIDOK_REFUSED_NOT_ALLOWED_HERE, 4},
+    {"(a:(b:1,b:2),a:3)", 2, SARRIDOK_REFUSED_REPEATED_FIELD, 8},
+    {"(a:(b:1),a:3)", 2, SARRIDOK_REFUSED_REPEATED_FIELD, 9},
+    {"(a:(a:1),b:2)", 2, 0, 0}, /* each ( ) by itself */
+    {"[(a:1),(a:1)]", 2, 0, 0},
+    {"a(a:1,b:2)", 1, 0, 0}, /* a struct's own name is no field */
+    {"(a,a)", 1, 0, 0},      /* values and maps may repeat */
+    {"[a,a]", 1, 0, 0},
+    {"{a:1,a:2}", 1, 0, 0},
+    {"(a:1,A:2,aa:3,r#aA:4)", 1, 0, 0},
+};
+
+/* Whether nothing was written into links that were all 7. */
+static int untouched(const uint32_t *links, size_t len) {
+    for (size_t i = 0; i < len; i++)
+        if (links[i] != 7) return 0;
+    return 1;
+}
+
+static void test_fields(void) {
+    for (size_t i = 0; i < sizeof walks / sizeof *walks; i++) {
+        const uint8_t *of = bytes(walks[i].text);
+        size_t len = strlen(walks[i].text);
+        uint32_t links[32];
+        for (size_t k = 0; k < 32; k++) links[k] = 7;
+        size_t count = sarridok_count(sarridok_read(of, len, tape, tape_len));
+        uint64_t answer = sarridok_walk(of, len, tape, tape_len, count, walks[i].limit, links, 32);
+        if (walks[i].number == 0) {
+            HOLDS(answer == 0);
+            HOLDS(untouched(links + count, 32 - count));
+        } else {
+            HOLDS(refused(answer, walks[i].number, walks[i].place));
+            HOLDS(untouched(links, 32));
+        }
+    }
+}
+
+/* The same of any number of fields f00, f01, ..: the last is named as each before it in turn, and then as none. */
+static void test_many_fields(size_t fields) {
+    static uint8_t many[8 * 64];
+    static uint32_t room[SARRIDOK_TAPE_FOR(8 * 64)], links[8 * 64];
+    size_t len = 0;
+    many[len++] = '(';
+    for (size_t i = 0; i < fields; i++) {
+        memcpy(many + len, "f00:1,", 6);
+        many[len + 1] = (uint8_t)('0' + i / 10);
+        many[len + 2] = (uint8_t)('0' + i % 10);
+        len += 6;
+    }
+    many[len++] = ')';
+    size_t count = sarridok_count(sarridok_read(many, len, room, sizeof room / sizeof *room));
+    HOLDS(count == 4 * fields + 2);
+    HOLDS(sarridok_walk(many, len, room, SARRIDOK_ENTRY * count, count, 1, links, count) == 0);
+    for (size_t i = 0; i + 1 < fields; i++) {
+        memcpy(many + len - 7, many + 1 + 6 * i, 3);
+        uint64_t answer = sarridok_walk(many, len, room, SARRIDOK_ENTRY * count, count, 1, links, count);
+        HOLDS(refused(answer, SARRIDOK_REFUSED_REPEATED_FIELD, (uint32_t)(4 * fields - 3)));
+    }
+}
+
+/* A tape that is not the text's is answered by the bytes that stand where its names do. */
+static void test_other_texts(void) {
+    uint32_t links[16];
+    size_t count = sarridok_count(sarridok_read(bytes("(ab:1,r#ac:2)"), 13, tape, tape_len));
+    HOLDS(sarridok_walk(bytes("(ab:1,r#ac:2)"), 13, tape, tape_len, count, 1, links, 16) == 0);
+    HOLDS(sarridok_walk(bytes("[xy 3;r#xz.4]"), 13, tape, tape_len, count, 1, links, 16) == 0);
+    HOLDS(refused(sarridok_walk(bytes("(ac:1,r#ac:2)"), 13, tape, tape_len, count, 1, links, 16), SARRIDOK_REFUSED_REPEATED_FIELD, 5));
+    /* An entry that ends behind the text is not in order, and no raw name that is not r# with more behind it. */
+    HOLDS(refused(sarridok_walk(bytes("(ab:1,r#ac:2)"), 12, tape, tape_len, count, 1, links, 16), SARRIDOK_REFUSED_NOT_IN_ORDER, 0));
+    HOLDS(refused(sarridok_walk(NULL, 0, tape, tape_len, count, 1, links, 16), SARRIDOK_REFUSED_NOT_IN_ORDER, 0));
+    HOLDS(sarridok_walk(bytes("(ab:1,r#ac:2) "), 14, tape, tape_len, count, 1, links, 16) == 0);
+    HOLDS(refused(sarridok_walk(bytes("(ab:1,r_ac:2)"), 13, tape, tape_len, count, 1, links, 16), SARRIDOK_REFUSED_NOT_IN_ORDER, 0));
+    HOLDS(refused(sarridok_walk(bytes("(ab:1,b#ac:2)"), 13, tape, tape_len, count, 1, links, 16), SARRIDOK_REFUSED_NOT_IN_ORDER, 0));
+    uint32_t made[SARRIDOK_ENTRY] = {SARRIDOK_KIND_RAW_NAME, 0, 2, 0, 0};
+    HOLDS(refused(sarridok_walk(bytes("r#a"), 3, made, SARRIDOK_ENTRY, 1, 1, links, 16), SARRIDOK_REFUSED_NOT_IN_ORDER, 0));
+    made[2] = 3;
+    HOLDS(sarridok_walk(bytes("r#a"), 3, made, SARRIDOK_ENTRY, 1, 1, links, 16) == 0);
+    /* What is cut off is told by the entry's kind: a name over r#a has all three bytes for its name. */
+    const uint8_t *const twice = bytes("(r#a:1,r#a:2)");
+    count = sarridok_count(sarridok_read(twice, 13, tape, tape_len));
+    HOLDS(refused(sarridok_walk(twice, 13, tape, tape_len, count, 1, links, 16), SARRIDOK_REFUSED_REPEATED_FIELD, 5));
+    tape[SARRIDOK_ENTRY] = SARRIDOK_KIND_NAME;
+    HOLDS(sarridok_walk(twice, 13, tape, tape_len, count, 1, links, 16) == 0);
 }
 
 static void test_integer(void) {
@@ -170,7 +283,7 @@ static void test_room(void) {
         int fits = len >= 2 * SARRIDOK_ENTRY;
         uint64_t read = sarridok_read(bytes("[]"), 2, tape, len);
         HOLDS(fits ? sarridok_count(read) == 2 : refused(read, SARRIDOK_REFUSED_NO_ROOM, 0));
-        uint64_t walked = sarridok_walk(tape, len, 2, 1, links, 2);
+        uint64_t walked = sarridok_walk(bytes("[]"), 2, tape, len, 2, 1, links, 2);
         HOLDS(fits ? walked == 0 : refused(walked, SARRIDOK_REFUSED_NOT_IN_ORDER, 0));
     }
 }
@@ -182,7 +295,7 @@ static void test_wrong_gap(size_t i, uint32_t wrong_gap) {
     uint32_t right = *gap_of(i);
     *gap_of(i) = wrong_gap;
     memcpy(left, tape, sizeof left);
-    HOLDS(refused(sarridok_walk(tape, NUMBERS, COUNT, 1, links, COUNT), SARRIDOK_REFUSED_NOT_IN_ORDER, 0));
+    HOLDS(refused(sarridok_walk(text, text_len, tape, NUMBERS, COUNT, 1, links, COUNT), SARRIDOK_REFUSED_NOT_IN_ORDER, 0));
     HOLDS(links[1] == 0);
     HOLDS(refused(sarridok_repair(tape, NUMBERS, COUNT, text_len, 9, 11, bytes(EDIT), sizeof EDIT - 1, &before, &behind), SARRIDOK_REFUSED_NOT_IN_ORDER, 0));
     HOLDS(before == 7 && behind == 7 && memcmp(tape, left, sizeof left) == 0);
@@ -197,13 +310,13 @@ static void test_wrong_gaps(void) {
         test_wrong_gap(i, *gap_of(i) + 1);
         test_wrong_gap(i, *gap_of(i) - 1);
     }
-    HOLDS(sarridok_walk(tape, NUMBERS, COUNT, 1, links, COUNT) == 0);
+    HOLDS(sarridok_walk(text, text_len, tape, NUMBERS, COUNT, 1, links, COUNT) == 0);
     *gap_of(8) = 7;
     HOLDS(sarridok_contents_start(sarridok_contents(text, text_len, tape, NUMBERS, COUNT, 8)) == 20);
     HOLDS(sarridok_count(sarridok_read(bytes("[7] 8"), 5, tape, tape_len)) == 4);
     *gap_of(3) = 7;
-    HOLDS(sarridok_walk(tape, tape_len, 3, 1, links, COUNT) == 0);
-    HOLDS(refused(sarridok_walk(tape, tape_len, 4, 1, links, COUNT), SARRIDOK_REFUSED_NOT_IN_ORDER, 0));
+    HOLDS(sarridok_walk(bytes("[7] 8"), 5, tape, tape_len, 3, 1, links, COUNT) == 0);
+    HOLDS(refused(sarridok_walk(bytes("[7] 8"), 5, tape, tape_len, 4, 1, links, COUNT), SARRIDOK_REFUSED_NOT_IN_ORDER, 0));
 }
 
 /* A run of bytes of an old text, from a to b, that was replaced, and what is kept: an entry right behind it only with the gap that it had. */
@@ -299,12 +412,12 @@ static void test_reasons(void) {
     HOLDS(strcmp(sarridok_reason_text(SARRIDOK_REASON_NOT_BYTE_ESCAPED), "not a byte-escaped character") == 0);
 }
 
-/* 0, 3 and the numbers behind the last have no sentence of their own. */
+/* 0, 3, 30 and the numbers behind the last have no sentence of their own. */
 static void test_refusals(void) {
     const char *none = sarridok_refusal_text(0);
     HOLDS(strcmp(none, "no refusal of the table") == 0);
     for (uint32_t number = 1; number < 40; number++) {
-        int known = number != 3 && number <= SARRIDOK_REFUSED_HOLDS_ESCAPE;
+        int known = number != 3 && number != 30 && number <= SARRIDOK_REFUSED_REPEATED_FIELD;
         HOLDS((strcmp(sarridok_refusal_text(number), none) != 0) == known);
     }
     HOLDS(strcmp(sarridok_refusal_text(SARRIDOK_REFUSED_EXPECTED_STRING_END), "the string is not closed") == 0);
@@ -314,11 +427,15 @@ int main(void) {
     HOLDS(sarridok_version() == SARRIDOK_VERSION);
     test_read();
     test_walk();
+    test_walk_front();
     test_integer();
     test_strings();
     test_struct_kind();
     test_skip();
     test_repair();
+    test_fields();
+    for (size_t fields = 1; fields <= 40; fields++) test_many_fields(fields);
+    test_other_texts();
     test_gaps();
     test_room();
     test_wrong_gaps();

@@ -31,16 +31,16 @@ fn walk_row(kind: &Kind) -> f64 {
     read / walk
 }
 
-fn us(ns: f64) -> String {
+pub fn us(ns: f64) -> String {
     format!("{:.2}", ns / 1000.0)
 }
 
 /// The walk of a document.
 pub fn walk(sides: &Sides) -> Call<'_> {
     let mut links = vec![0; sides.count];
-    assert_eq!(ours::walk(&sides.tape, sides.count, &mut links), 0, "the walk is refused");
+    assert_eq!(ours::walk(&sides.text, &sides.tape, sides.count, &mut links), 0, "the walk is refused");
     Box::new(move || {
-        std::hint::black_box(ours::walk(&sides.tape, sides.count, &mut links));
+        std::hint::black_box(ours::walk(&sides.text, &sides.tape, sides.count, &mut links));
     })
 }
 

@@ -2,10 +2,10 @@
 use crate::calls::walk;
 use crate::edits::Edit;
 use crate::sides::Sides;
-use crate::texts::{Kind, KINDS, SHORT, WORST};
+use crate::texts::{Kind, KINDS, RECORDS, SHORT, WORST};
 
 fn all() -> impl Iterator<Item = &'static Kind> {
-    KINDS.iter().chain([&SHORT]).chain(WORST)
+    KINDS.iter().chain([&SHORT]).chain(RECORDS).chain(WORST)
 }
 
 pub fn kinds() {

@@ -1,19 +1,23 @@
 //! The third table: the cost of a byte at four sizes, for every call and for the worst cases. Where it stands, the cost is linear.
-use crate::calls::{decoded, part, walk, Typed};
+//! And the cost of a field in walks of one record, whose names are compared: it grows with the logarithm of how many there are.
+use crate::calls::{decoded, part, us, walk, Typed};
 use crate::clock::{medians, Call};
 use crate::edits::Edit;
 use crate::ours;
 use crate::sides::Sides;
-use crate::texts::{Kind, KINDS, WORST};
+use crate::texts::{fields, Kind, KINDS, NAMES, WORST};
 
 /// The crate's `StructType::NewtypeTuple`.
 const NEWTYPE_TUPLE: u64 = 2;
 const SIZES: [usize; 4] = [1024, 4096, 16_384, 65_536];
+/// Fields of one record.
+const FIELDS: [usize; 4] = [10, 100, 1000, 10_000];
 
 pub fn tables() {
     println!("## Cost of a byte, in nanoseconds, at four sizes\n");
     println!("| call | text | 1 KiB | 4 KiB | 16 KiB | 64 KiB |\n|---|---|--:|--:|--:|--:|");
     calls();
+    records();
     println!("\n## Worst cases of reading: nanoseconds a byte\n");
     println!("| text | 1 KiB | 4 KiB | 16 KiB | 64 KiB | crate, 64 KiB | ratio |\n|---|--:|--:|--:|--:|--:|--:|");
     WORST.iter().for_each(worst);
@@ -63,6 +67,29 @@ fn calls() {
     row("struct_kind", named("marks only"), |s| one(struct_kind(s)));
     row("skip", spaces, |s| one(skip(s)));
     row("skip", comments, |s| one(skip(s)));
+}
+
+fn records() {
+    println!("\n## Walks of one record, whose names are compared, beside a map of the same entries\n");
+    println!("| names | fields | bytes | walk us | as a map us | ns a field | for its name | by log2 of the fields |");
+    println!("|---|--:|--:|--:|--:|--:|--:|--:|");
+    for (names, name) in NAMES {
+        FIELDS.into_iter().for_each(|count| record(names, count, |i| name(i, count)));
+    }
+}
+
+fn record(names: &str, count: usize, name: impl Fn(usize) -> String) {
+    let [record, map] = [('(', ')'), ('{', '}')].map(|(a, b)| Sides::of(fields(a, count, &name, b).into_bytes()));
+    let [time, without] = medians([walk(&record), walk(&map)]);
+    let own = (time - without) / count as f64;
+    println!(
+        "| {names} | {count} | {} | {} | {} | {:.1} | {own:.1} | {:.2} |",
+        record.text.len(),
+        us(time),
+        us(without),
+        time / count as f64,
+        own / (count as f64).log2()
+    );
 }
 
 fn named(name: &str) -> &'static Kind {

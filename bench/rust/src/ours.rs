@@ -23,8 +23,11 @@ pub fn read(text: &[u8], tape: &mut [u32]) -> u64 {
     unsafe { raw::sarridok_read(text.as_ptr(), text.len(), tape.as_mut_ptr(), tape.len()) }
 }
 
-pub fn walk(tape: &[u32], count: usize, links: &mut [u32]) -> u64 {
-    unsafe { raw::sarridok_walk(tape.as_ptr(), tape.len(), count, 128, links.as_mut_ptr(), links.len()) }
+pub fn walk(text: &[u8], tape: &[u32], count: usize, links: &mut [u32]) -> u64 {
+    let (text_len, tape_len, links_len) = (text.len(), tape.len(), links.len());
+    unsafe {
+        raw::sarridok_walk(text.as_ptr(), text_len, tape.as_ptr(), tape_len, count, 128, links.as_mut_ptr(), links_len)
+    }
 }
 
 /// A run of bytes from `a` to `b` of a text of `old_len` bytes was replaced.

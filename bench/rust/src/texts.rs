@@ -82,6 +82,24 @@ pub const KINDS: &[Kind] = &[
 /// A text of a few hundred bytes.
 pub const SHORT: Kind = kind("a few hundred bytes", |_, size| canal(size.min(400)));
 
+/// Records in a list, each of as many fields as its kind says, named in no order: what a walk has to compare.
+pub const RECORDS: &[Kind] = &[
+    kind("records10", |r, size| records(r, 10, size)),
+    kind("records100", |r, size| records(r, 100, size)),
+    kind("records1000", |r, size| records(r, 1000, size)),
+];
+
+/// How the fields of one record are named, by their number and of how many: in no order, counted up, and counted up between ends that they
+/// have in common, as long as the largest text has room for.
+pub const NAMES: [(&str, fn(usize, usize) -> String); 3] = [
+    ("in no order", |i, _| scrambled(i)),
+    ("counted up", |i, _| counted(i)),
+    ("alike at both ends", |i, of| {
+        let more = (LARGEST - 2) / of - counted(i).len() - ":1,".len();
+        format!("{}{}{}", "a".repeat(more.saturating_sub(1)), counted(i), "a".repeat(more.min(1)))
+    }),
+];
+
 /// Texts that would show a cost that is not linear. Not all are accepted, and none need be a document.
 pub const WORST: &[Kind] = &[
     kind("open brackets", |_, size| "[".repeat(size)),
@@ -146,6 +164,38 @@ fn list(size: usize, mut item: impl FnMut() -> String) -> String {
         text += &next;
         text.push(',');
     }
+}
+
+/// Of so many fields, between two brackets.
+pub fn fields(open: char, count: usize, name: impl Fn(usize) -> String, close: char) -> String {
+    let fields: String = (0..count).map(|i| format!("{}:1,", name(i))).collect();
+    format!("{open}{fields}{close}")
+}
+
+fn records(r: &mut Random, count: usize, size: usize) -> String {
+    list(size, || {
+        let first = r.below(SCRAMBLED as u64) as usize;
+        fields('(', count, |i| scrambled(first + i), ')')
+    })
+}
+
+/// Without `i`: `inf` is no name.
+const UNLIKE_INF: &[u8] = b"abcdefghjklmnopqrstuvwxyz";
+const SCRAMBLED: usize = UNLIKE_INF.len().pow(3);
+
+/// A name of three letters, another for each number below `SCRAMBLED`.
+fn scrambled(i: usize) -> String {
+    let n = i * 7919 % SCRAMBLED;
+    [n / 625, n / 25 % 25, n % 25].map(|k| UNLIKE_INF[k] as char).iter().collect()
+}
+
+/// What a name may go on with, in the order of bytes.
+const BEHIND: &[u8] = b"0123456789ABCDEFGHIJKLMNOPQRSTUVWXYZ_abcdefghijklmnopqrstuvwxyz";
+
+/// `a00`, `a01`, .., of which most differ from the next in the last letter; the first stays up to 3,969.
+fn counted(i: usize) -> String {
+    let [first, second, third] = [i / 3969, i / 63 % 63, i % 63];
+    [b"abc"[first], BEHIND[second], BEHIND[third]].map(char::from).iter().collect()
 }
 
 /// As many pieces of whitespace as there is room for, and a value.

@@ -5,10 +5,10 @@ use crate::raw;
 use crate::{NewtypeMode, ParserCursor, Refused, Repaired, StructType, TupleMode, Value, Width};
 use core::ops::Range;
 
-/// The version of the archive that was linked: major * 10,000 + minor * 100 + patch, so 400 is 0.4.0.
+/// The version of the archive that was linked: major * 10,000 + minor * 100 + patch, so 500 is 0.5.0.
 ///
 /// ```
-/// assert_eq!(sarridok::version(), 400);
+/// assert_eq!(sarridok::version(), 500);
 /// ```
 pub fn version() -> u32 {
     // Safety: it takes and writes nothing.
@@ -36,29 +36,49 @@ pub fn read(text: &[u8], tape: &mut [u32]) -> Result<usize, Refused> {
 }
 
 /// Joins the brackets of a tape, one link to an entry: a bracket's link is its partner, any other entry's its own number. `limit` is how many brackets may
-/// be open at once, 0 to 128.
+/// be open at once, 0 to 128. Within one `( )` of fields no name may come again; `r#width` and `width` are one name.
+///
+/// Names are read off the text, so give the one that the tape was read from, or walk by [`Document::walk`](crate::Document::walk), which has it. Any other text is answered
+/// too, by the bytes that stand there.
 ///
 /// Entries are in order where each has a kind, starts below its end, and has a gap that leads from the former entry's end, or the text's start, to its start.
 ///
 /// # Errors
-/// Refused as `Unfit` for a limit above 128, `NotInOrder` for a count above the tape's room, or entries that are not in order or end behind
-/// [`MAX_TEXT`](crate::MAX_TEXT), `NoRoom`, then by 24 to 26.
+/// Refused as `TooLong`, `NotUtf8`, `Unfit` for a limit above 128, `NotInOrder` for a count above the tape's room, entries that are not in order or end behind the text, or a
+/// raw name that is not `r#` with more behind it, `NoRoom`, then by the first, in the order of entries, of 24, 25, 26 and 31. `RepeatedField` names the entry that comes again.
 ///
 /// ```
 /// use sarridok::{read, walk, Refusal, ENTRY};
 /// let mut tape = [0; ENTRY * 3];
 /// let count = read(b"[7]", &mut tape)?;
 /// let mut links = [0; 3];
-/// walk(&tape, count, 128, &mut links)?;
+/// walk(b"[7]", &tape, count, 128, &mut links)?;
 /// assert_eq!(links, [2, 1, 0]);
-/// assert_eq!(walk(&tape, count, 0, &mut links).unwrap_err().refusal, Refusal::DepthLimitPassed);
+/// assert_eq!(walk(b"[7]", &tape, count, 0, &mut links).unwrap_err().refusal, Refusal::DepthLimitPassed);
 /// tape[ENTRY - 1] = 7; // the gap of the first entry, which is its start
-/// assert_eq!(walk(&tape, count, 128, &mut links).unwrap_err().refusal, Refusal::NotInOrder);
+/// assert_eq!(walk(b"[7]", &tape, count, 128, &mut links).unwrap_err().refusal, Refusal::NotInOrder);
+///
+/// let text = b"(width: 1, r#width: 2)";
+/// let mut tape = [0; ENTRY * 9];
+/// let count = read(text, &mut tape)?;
+/// let refused = walk(text, &tape, count, 128, &mut [0; 9]).unwrap_err();
+/// assert_eq!(refused.to_string(), "refused 31 at 5: a field of this name stands in the same brackets already");
 /// # Ok::<(), sarridok::Refused>(())
 /// ```
-pub fn walk(tape: &[u32], count: usize, limit: usize, links: &mut [u32]) -> Result<(), Refused> {
+pub fn walk(text: &[u8], tape: &[u32], count: usize, limit: usize, links: &mut [u32]) -> Result<(), Refused> {
     // Safety: as in `read`.
-    let answer = unsafe { raw::sarridok_walk(tape.as_ptr(), tape.len(), count, limit, links.as_mut_ptr(), links.len()) };
+    let answer = unsafe {
+        raw::sarridok_walk(
+            text.as_ptr(),
+            text.len(),
+            tape.as_ptr(),
+            tape.len(),
+            count,
+            limit,
+            links.as_mut_ptr(),
+            links.len(),
+        )
+    };
     taken_apart(answer)?;
     Ok(())
 }

@@ -93,12 +93,12 @@ impl<'a> Document<'a> {
         self.text.get(self.entry(number)?.gap_span())
     }
 
-    /// Joins the brackets, as [`walk`] does: one link to an entry, and at most `limit` brackets open at once.
+    /// Joins the brackets, as [`walk`] does: one link to an entry, at most `limit` brackets open at once, and no field named again in its `( )`.
     ///
     /// # Errors
     /// As [`walk`].
     pub fn walk(&self, limit: usize, links: &mut [u32]) -> Result<(), Refused> {
-        walk(self.tape, self.count, limit, links)
+        walk(self.text, self.tape, self.count, limit, links)
     }
 
     /// The bytes inside a string or byte string, where nothing in it was escaped.

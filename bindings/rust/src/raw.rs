@@ -3,7 +3,16 @@
 extern "C" {
     pub fn sarridok_version() -> u32;
     pub fn sarridok_read(text: *const u8, text_len: usize, tape: *mut u32, tape_len: usize) -> u64;
-    pub fn sarridok_walk(tape: *const u32, tape_len: usize, count: usize, limit: usize, links: *mut u32, links_len: usize) -> u64;
+    pub fn sarridok_walk(
+        text: *const u8,
+        text_len: usize,
+        tape: *const u32,
+        tape_len: usize,
+        count: usize,
+        limit: usize,
+        links: *mut u32,
+        links_len: usize,
+    ) -> u64;
     pub fn sarridok_repair(
         tape: *mut u32,
         tape_len: usize,

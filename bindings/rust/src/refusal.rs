@@ -28,7 +28,7 @@ macro_rules! refusals {
             /// Every refusal of the table, in the order of their numbers.
             pub const ALL: &'static [Refusal] = &[$(Refusal::$name,)*];
 
-            /// Its number. No refusal has 0, and 3 is reserved.
+            /// Its number. No refusal has 0, and 3 and 30 are reserved.
             pub const fn number(self) -> u8 {
                 match self {
                     $(Refusal::$name => $number,)*
@@ -117,6 +117,7 @@ refusals! {
     27 OtherKind "the entry or the suffix is of another kind",
     28 Unfit "a place, entry number, cursor, limit, width or mode is unfit",
     29 HoldsEscape "the contents hold an escape or a line continuation",
+    31 RepeatedField "a field of this name stands in the same brackets already",
 }
 
 reasons! {
@@ -166,8 +167,8 @@ impl fmt::Display for EscapeReason {
 pub struct Refused {
     /// Why.
     pub refusal: Refusal,
-    /// A byte of the text; for [`Refusal::DepthLimitPassed`] and [`Refusal::NotAllowedHere`] an entry's number, for [`Refusal::TapeEndsEarly`] the number of
-    /// entries.
+    /// A byte of the text; for [`Refusal::DepthLimitPassed`], [`Refusal::NotAllowedHere`] and [`Refusal::RepeatedField`] an entry's number, for
+    /// [`Refusal::TapeEndsEarly`] the number of entries.
     pub place: usize,
     /// Why the escape is not valid, for [`Refusal::InvalidEscape`]; `None` for every other refusal, and for a reason of a later archive.
     pub reason: Option<EscapeReason>,

@@ -13,7 +13,7 @@ fn refused(refusal: Refusal, place: usize) -> Refused {
 fn good_texts() {
     for text in GOOD {
         let (tape, count) = checked_read(text.as_bytes()).unwrap_or_else(|why| panic!("{text:?}: {why}"));
-        let walked = checked_walk(&tape, count, MAX_DEPTH, count);
+        let walked = checked_walk(text.as_bytes(), &tape, count, MAX_DEPTH, count);
         assert_eq!(
             walked.err(),
             text.is_empty().then_some(refused(Refusal::TapeEndsEarly, 0)),
@@ -120,12 +120,12 @@ fn wrong_gaps() {
             *gap = gap.wrapping_add(off);
             let mut lent = wrong.clone();
             let not_in_order = refused(Refusal::NotInOrder, 0);
-            assert_eq!(checked_walk(&wrong, count, MAX_DEPTH, count), Err(not_in_order));
+            assert_eq!(checked_walk(text, &wrong, count, MAX_DEPTH, count), Err(not_in_order));
             assert_eq!(repair(&mut lent, count, text.len(), 9..11, edit), Err(not_in_order));
             assert_eq!(lent, wrong);
             checked_strings(text, &wrong, count);
             assert_eq!(contents(text, &wrong, count, 8), Ok(&b"Foxton"[..]));
-            assert_ne!(checked_walk(&wrong, number, MAX_DEPTH, count), Err(not_in_order));
+            assert_ne!(checked_walk(text, &wrong, number, MAX_DEPTH, count), Err(not_in_order));
         }
     }
 }
@@ -156,7 +156,7 @@ fn room_of_every_length() {
         let mut tape = vec![0; len];
         let read = read(b"[]", &mut tape);
         assert_eq!(read, if fits { Ok(2) } else { Err(refused(Refusal::NoRoom, 0)) }, "{len}");
-        let walked = checked_walk(&tape, 2, MAX_DEPTH, 2).map(|_| ());
+        let walked = checked_walk(b"[]", &tape, 2, MAX_DEPTH, 2).map(|_| ());
         assert_eq!(walked, if fits { Ok(()) } else { Err(refused(Refusal::NotInOrder, 0)) }, "{len}");
     }
 }
@@ -165,8 +165,8 @@ fn room_of_every_length() {
 fn empty_slices() {
     assert_eq!(read(b"", &mut []), Ok(0));
     assert_eq!(read(b"a", &mut []), Err(refused(Refusal::NoRoom, 0)));
-    assert_eq!(walk(&[], 0, 128, &mut []), Err(refused(Refusal::TapeEndsEarly, 0)));
-    assert_eq!(walk(&[], 1, 128, &mut []), Err(refused(Refusal::NotInOrder, 0)));
+    assert_eq!(walk(b"", &[], 0, 128, &mut []), Err(refused(Refusal::TapeEndsEarly, 0)));
+    assert_eq!(walk(b"", &[], 1, 128, &mut []), Err(refused(Refusal::NotInOrder, 0)));
     assert_eq!(repair(&mut [], 0, 0, 0..0, b"").map(|r| r.count), Ok(0));
     assert_eq!(repair(&mut [], 0, 0, 0..0, b"7").unwrap_err().refusal, Refusal::NoRoom);
     assert_eq!(contents(b"", &[], 0, 0), Err(refused(Refusal::Unfit, 0)));
@@ -177,15 +177,126 @@ fn empty_slices() {
 #[test]
 fn every_limit() {
     let deep = "[".repeat(128) + &"]".repeat(128);
-    let (tape, count) = checked_read(deep.as_bytes()).unwrap();
+    let deep = deep.as_bytes();
+    let (tape, count) = checked_read(deep).unwrap();
     for limit in 0..128 {
-        let answer = checked_walk(&tape, count, limit, count);
+        let answer = checked_walk(deep, &tape, count, limit, count);
         assert_eq!(answer, Err(refused(Refusal::DepthLimitPassed, limit)));
     }
-    let links = checked_walk(&tape, count, 128, count + 3).unwrap();
+    let links = checked_walk(deep, &tape, count, 128, count + 3).unwrap();
     assert_eq!((links[0], links[255]), (255, 0));
-    assert_eq!(checked_walk(&tape, count, 129, count).unwrap_err().refusal, Refusal::Unfit);
-    assert_eq!(checked_walk(&tape, count, 128, count - 1).unwrap_err().refusal, Refusal::NoRoom);
+    assert_eq!(checked_walk(deep, &tape, count, 129, count).unwrap_err().refusal, Refusal::Unfit);
+    assert_eq!(
+        checked_walk(deep, &tape, count, 128, count - 1).unwrap_err().refusal,
+        Refusal::NoRoom
+    );
+}
+
+/// Within one `( )` of fields no name comes again, and a raw name is what stands behind `r#`. The place is the entry that comes again, told before its colon is asked for.
+#[test]
+fn fields_named_again() {
+    use Refusal::*;
+    for (text, limit, refusal, place) in [
+        ("(a:1,a:2)", 128, RepeatedField, 5),
+        ("(width:1,r#width:2)", 128, RepeatedField, 5),
+        ("(r#width:1,width:2)", 128, RepeatedField, 5),
+        ("Lock(a:1,b:2,a:3,b:4)", 128, RepeatedField, 10),
+        ("(é:1,r#é:2)", 128, RepeatedField, 5),
+        ("(a:1,a)", 128, RepeatedField, 5),
+        ("(a:1,a", 128, RepeatedField, 5),
+        ("(a:1,a(2))", 128, RepeatedField, 5),
+        ("(a:1,a:[)", 128, RepeatedField, 5),
+        ("(a:1,a:[[]])", 1, RepeatedField, 5),
+        ("(a:[],a:1)", 1, DepthLimitPassed, 3),
+        ("(a:1 a:2)", 128, NotAllowedHere, 4),
+        ("(a:(b:1,b:2),a:3)", 128, RepeatedField, 8),
+        ("(a:(b:1),a:3)", 128, RepeatedField, 9),
+        ("(a:[(b:1,c:2,b:3", 128, RepeatedField, 13),
+    ] {
+        let (tape, count) = checked_read(text.as_bytes()).unwrap();
+        let walked = checked_walk(text.as_bytes(), &tape, count, limit, count);
+        assert_eq!(walked, Err(refused(refusal, place)), "{text}");
+    }
+    for text in [
+        "(a:(a:1),b:2)",
+        "[(a:1),(a:1)]",
+        "(a,a)",
+        "[a,a]",
+        "{a:1,a:2}",
+        "a(a:1,b:2)",
+        "(a:1,A:2,aa:3,r#aA:4)",
+        "(e\u{301}:1,é:2)",
+    ] {
+        let (tape, count) = checked_read(text.as_bytes()).unwrap();
+        assert!(checked_walk(text.as_bytes(), &tape, count, MAX_DEPTH, count).is_ok(), "{text}");
+    }
+}
+
+/// Records of any number of fields, with every two of them the same in turn where they are few; the links stay.
+#[test]
+fn records_of_many_fields() {
+    for fields in [2, 3, 15, 16, 17, 18, 40, 127, 128, 129, 600, 2500] {
+        let names: Vec<String> = (0..fields).map(|i| format!("f{:x}", i * 7919 % 65_521)).collect();
+        let text = |names: &[String]| format!("({})", names.iter().map(|name| format!("{name}:1,")).collect::<String>());
+        let walked = |names: &[String]| {
+            let text = text(names);
+            let (tape, count) = checked_read(text.as_bytes()).unwrap();
+            checked_walk(text.as_bytes(), &tape, count, MAX_DEPTH, count).map(drop)
+        };
+        assert_eq!(walked(&names), Ok(()));
+        let step = if fields <= 18 { 1 } else { fields / 7 };
+        for first in (0..fields).step_by(step) {
+            for second in (first + 1..fields).rev().step_by(step) {
+                let mut twice = names.clone();
+                twice[second] = format!("r#{}", names[first]);
+                assert_eq!(walked(&twice), Err(refused(Refusal::RepeatedField, 1 + 4 * second)));
+            }
+        }
+    }
+}
+
+/// The tape need not be the text's: what counts is the bytes where its names stand. A document has its own text.
+#[test]
+fn walks_over_other_texts() {
+    let (tape, count) = checked_read(b"(ab:1,r#ac:2)").unwrap();
+    let over = |text: &[u8]| checked_walk(text, &tape, count, MAX_DEPTH, count).map(drop);
+    assert_eq!(over(b"(ab:1,r#ac:2)"), Ok(()));
+    assert_eq!(over(b"[xy 3;r#xz.4]\n"), Ok(()));
+    assert_eq!(over(b"(ac:1,r#ac:2)"), Err(refused(Refusal::RepeatedField, 5)));
+    let not_in_order = Err(refused(Refusal::NotInOrder, 0));
+    for text in [&b"(ab:1,r#ac:2"[..], b"", b"(ab:1,r_ac:2)", b"(ab:1,b#ac:2)"] {
+        assert_eq!(over(text), not_in_order, "{text:?}");
+    }
+    assert_eq!(over(b"(ab:1,r#ac:\xFF)"), Err(refused(Refusal::NotUtf8, 11)));
+    assert_eq!(over(&[b' '; MAX_TEXT + 1]), Err(refused(Refusal::TooLong, 0)));
+    // A raw name of nothing; and what is cut off is told by the kind, not by the bytes.
+    let raw = Kind::RawName.number();
+    assert_eq!(
+        checked_walk(b"r#a", &[raw, 0, 2, 0, 0], 1, MAX_DEPTH, 1),
+        not_in_order.map(|()| vec![])
+    );
+    assert_eq!(checked_walk(b"r#a", &[raw, 0, 3, 0, 0], 1, MAX_DEPTH, 1), Ok(vec![0]));
+    let twice = b"(r#a:1,r#a:2)";
+    let (mut tape, count) = checked_read(twice).unwrap();
+    assert_eq!(
+        checked_walk(twice, &tape, count, MAX_DEPTH, count),
+        Err(refused(Refusal::RepeatedField, 5))
+    );
+    tape[ENTRY] = Kind::Name.number();
+    assert!(checked_walk(twice, &tape, count, MAX_DEPTH, count).is_ok());
+}
+
+/// After a repair the document walks over its new text.
+#[test]
+fn repaired_documents_are_walked_by_their_own_text() {
+    let mut tape = [0; ENTRY * 16];
+    let mut links = [MARK; 9];
+    let mut document = Document::read(b"(ab:1,ac:2)", &mut tape).unwrap();
+    assert_eq!(document.walk(MAX_DEPTH, &mut links), Ok(()));
+    let before = links;
+    document.repair(7..8, b"(ab:1,ab:2)").unwrap();
+    assert_eq!(document.walk(MAX_DEPTH, &mut links), Err(refused(Refusal::RepeatedField, 5)));
+    assert_eq!(links, before);
 }
 
 #[test]

@@ -22,7 +22,7 @@ pub fn answer(
         b'p' => edits::repair_text::answer(&line[2..], text, tape, links, o, at),
         b'R' => tapes::read_any::answer(&line[2..], text, tape, o, at),
         b'r' => tapes::read_text::answer(&line[2..], text, tape, o, at),
-        b'W' => tapes::walk_any::answer(&line[2..], tape, links, o, at),
+        b'W' => tapes::walk_any::answer(&line[2..], text, tape, links, o, at),
         b'w' => tapes::walk_text::answer(&line[2..], text, tape, links, o, at),
         b'C' => cases::any_c::answer(&line[2..], text, tape, spare, o, at),
         b'c' => cases::c::answer(&line[2..], text, spare, o, at),

@@ -9,19 +9,19 @@ use Rattle.grammar.specs.Kinds.{kindsOf}
 use Rattle.lines.specs.Ascii.{ascii}
 use Rattle.lines.specs.Decimal.{decimal, wordOf}
 use Rattle.opened.specs.Begun.{readBegun}
-use Rattle.opened.specs.Brackets.{walkBegun}
+use Rattle.opened.specs.Walks.{walkBegun}
 use Rattle.opened.specs.declared.begun.Begun.{Begun}
-use Rattle.opened.specs.declared.begun.Begun.the-variants.{Nothing, Comment, Quote, Bracket}
+use Rattle.opened.specs.declared.begun.Begun.the-variants.{Nothing, Comment, Quote, Bracket, Field}
 use Rattle.places.specs.Columns.{columnOf}
 use Rattle.places.specs.Entries.{walkPlace}
-use Rattle.places.specs.Lines.{lineOf}
+use Rattle.places.specs.Lines.{between, lineOf}
 use Rattle.read.specs.Read.{readAnswer, readTape}
 use Rattle.rows.specs.Rows.{entriesOf}
 use Rattle.sarridok.specs.Walked.{walkOf, linksAfter}
 use Rattle.text.specs.Refusals.{Told, accepted, refused}
 use Rattle.text.specs.declared.refusal.Refusal.{Refusal}
 use Rattle.explain.specs.Sentences.{sentenceOf, whyOf}
-use Rattle.explain.specs.Excerpts.{excerptText}
+use Rattle.explain.specs.Excerpts.{charactersText, excerptText}
 
 -- An accepted text: how many entries, and how deep.
 unfoldable pub acceptedText : ℕ → ℕ → List ℕ
@@ -55,25 +55,30 @@ beganAt s said p = positionText s p ++ said ++ excerptText s p
 unfoldable pub beganText : List ℕ → List ℕ → ℕ → List ℕ
 beganText s said at = beganAt s said (min at (length s))
 
--- Where what is not closed began, if anything did.
+-- What is said of the first field of a name, which is shown as a line is.
+unfoldable pub namedText : List ℕ → List ℕ
+namedText name = ascii "the field " ++ charactersText 120 name ++ ascii " is named here first\n"
+
+-- Where what is not closed began, or where a field of the same name stands, if anything does.
 unfoldable pub begunText : List ℕ → Begun → List ℕ
 begunText s Nothing = []
 begunText s (Comment p) = beganText s (ascii "the comment begins here\n") p
 begunText s (Quote p) = beganText s (ascii "the string begins here\n") p
 begunText s (Bracket p) = beganText s (ascii "this bracket is open\n") p
+begunText s (Field p from end) = beganText s (namedText (between s from end)) p
 
--- A refusal, and below it where what is not closed began.
+-- A refusal, and below it the other place, if there is one.
 unfoldable pub refusalText : List ℕ → Refusal → ℕ → Begun → List ℕ
 refusalText s r at b = refusedText s r at ++ begunText s b
 
 -- What is said of a text with so many entries on its tape, by the walk's answer.
 unfoldable pub walkedText : List ℕ → List ℕ → ℕ → Told Unit → List ℕ
 walkedText s tape count (accepted t) = acceptedText count (deepestOf (kindsOf (entriesOf count tape)))
-walkedText s tape count (refused r) = refusalText s r (walkPlace tape count r) (walkBegun tape count r)
+walkedText s tape count (refused r) = refusalText s r (walkPlace tape count r) (walkBegun s tape count r)
 
 -- The same, walked with room for so many links; up to 128 brackets may be open.
 abbrev pub walkText : List ℕ → List ℕ → ℕ → ℕ → List ℕ
-walkText s tape count links = walkedText s tape count (walkOf tape count 128 links)
+walkText s tape count links = walkedText s tape count (walkOf s tape count 128 links)
 
 -- What is said of a text, by the read's answer.
 unfoldable pub readText : List ℕ → List ℕ → ℕ → Told ℕ → List ℕ
@@ -81,9 +86,9 @@ readText s tape links (accepted n) = walkText s tape n links
 readText s tape links (refused r) = refusalText s r (r .place) (readBegun s (r .number))
 
 -- The links afterwards: a refused text leaves them.
-unfoldable pub linksBehind : List ℕ → List ℕ → Told ℕ → List ℕ
-linksBehind tape links (accepted n) = linksAfter tape n 128 links
-linksBehind tape links (refused r) = links
+unfoldable pub linksBehind : List ℕ → List ℕ → List ℕ → Told ℕ → List ℕ
+linksBehind s tape links (accepted n) = linksAfter s tape n 128 links
+linksBehind s tape links (refused r) = links
 
 -- What is said of a text over such a tape and so many links.
 unfoldable pub explained : List ℕ → List ℕ → ℕ → List ℕ

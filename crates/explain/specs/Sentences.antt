@@ -12,7 +12,7 @@ unfoldable pub lineAt : ℕ → List ℕ → List ℕ
 lineAt zero s = take (findOf 10 s) s
 lineAt (suc n) s = lineAt n (drop (findOf 10 s + 1) s)
 
--- A line for each number from 0 to 29, empty for 0 and 3, which no refusal has; those that no text can bring about have theirs too.
+-- A line for each number from 0 to 31, empty for 0, 3 and 30, which no refusal has; those that no text can bring about have theirs too.
 unfoldable pub sentences : List ℕ
 sentences =
     ascii "\n" ++
@@ -44,11 +44,13 @@ sentences =
     ascii "the text ends before its value does\n" ++
     ascii "the entry or the suffix is of another kind\n" ++
     ascii "a place, entry number, cursor, limit, width or mode is unfit\n" ++
-    ascii "the contents hold an escape or a line continuation\n"
+    ascii "the contents hold an escape or a line continuation\n" ++
+    ascii "\n" ++
+    ascii "a field of this name stands in the same brackets already\n"
 
--- The sentence of a number: its line, and the last one for a number above 28.
+-- The sentence of a number: its line, and the last one for a number above 30.
 unfoldable pub sentenceOf : ℕ → List ℕ
-sentenceOf n = lineAt (min n 29) sentences
+sentenceOf n = lineAt (min n 31) sentences
 
 -- A line for each reason of 13 in the words of CR 1, empty for 0.
 unfoldable pub reasons : List ℕ

@@ -1,7 +1,9 @@
 // What is said of a text.
+use crate::excerpt::characters;
 use crate::excerpt::excerpt;
 use crate::sentence;
 use lines::out;
+use lines::part;
 use opened::Begun;
 use places::column::column_of;
 use places::line::line_of;
@@ -11,7 +13,7 @@ ghost use Prim.Native.Nat.{min};
 ghost use lib.ListN.{length};
 ghost use Rattle.lines.specs.Out.{put};
 ghost use Rattle.explain.specs.Explained.{acceptedText, positionText, alsoText, reasonText, refusedText};
-ghost use Rattle.explain.specs.Explained.{beganText, begunText, refusalText};
+ghost use Rattle.explain.specs.Explained.{beganText, namedText, begunText, refusalText};
 
 // What is said of a text that reads and walks.
 pub fn accepted(o: &mut [u8], count: usize, depth: usize) -> usize
@@ -85,7 +87,26 @@ fn began_at(o: &mut [u8], at: usize, s: &[u8], byte: usize, said: &[u8]) -> usiz
     excerpt(o, b, s, place)
 }
 
-// Where what is not closed began.
+// That a field of this name is the first.
+fn named(o: &mut [u8], at: usize, name: &[u8]) -> usize
+    ensures { λ r. ⌜ (now (o .exit), r) ≡ put (now (o .entry), at) (namedText (now (name .entry))) ⌝ }
+{
+    let a = out::bytes(o, at, b"the field ");
+    let b = characters(o, a, name);
+    out::bytes(o, b, b" is named here first\n")
+}
+
+// The line and column of the first field of a name, the name, and the line.
+fn named_at(o: &mut [u8], at: usize, s: &[u8], byte: usize, name: &[u8]) -> usize
+    ensures { λ r. ⌜ (now (o .exit), r) ≡ put (now (o .entry), at) (beganText (now (s .entry)) (namedText (now (name .entry))) byte) ⌝ }
+{
+    let place = within(byte, s);
+    let a = position(o, at, s, place);
+    let b = named(o, a, name);
+    excerpt(o, b, s, place)
+}
+
+// Where what is not closed began, or where a field of the same name stands.
 fn began(o: &mut [u8], at: usize, s: &[u8], b: Begun) -> usize
     ensures { λ r. ⌜ (now (o .exit), r) ≡ put (now (o .entry), at) (begunText (now (s .entry)) b) ⌝ }
 {
@@ -94,10 +115,11 @@ fn began(o: &mut [u8], at: usize, s: &[u8], b: Begun) -> usize
         Begun::Comment(p) => began_at(o, at, s, p, b"the comment begins here\n"),
         Begun::Quote(p) => began_at(o, at, s, p, b"the string begins here\n"),
         Begun::Bracket(p) => began_at(o, at, s, p, b"this bracket is open\n"),
+        Begun::Field(p, from, end) => named_at(o, at, s, p, part(s, from, end)),
     }
 }
 
-// The refusal, and below it where what is not closed began.
+// The refusal, and below it the other place, if there is one.
 pub fn refused(o: &mut [u8], s: &[u8], f: Refusal, at: usize, b: Begun) -> usize
     ensures { λ r. ⌜ (now (o .exit), r) ≡ put (now (o .entry), 0) (refusalText (now (s .entry)) f at b) ⌝ }
 {

@@ -38,7 +38,7 @@ fn step(n: usize) -> usize
 }
 
 // The characters of a part, and `...` for those that are too many.
-fn characters(o: &mut [u8], at: usize, s: &[u8]) -> usize
+pub fn characters(o: &mut [u8], at: usize, s: &[u8]) -> usize
     ensures { λ r. ⌜ (now (o .exit), r) ≡ put (now (o .entry), at) (charactersText 120 (now (s .entry))) ⌝ }
 {
     let mut to = at;

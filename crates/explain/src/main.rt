@@ -10,7 +10,7 @@ use libc::STDIN_FILENO;
 use lines::input;
 use lines::out;
 use opened::begun::read_begun;
-use opened::brackets::walk_begun;
+use opened::walks::walk_begun;
 use places::entry::walk_place;
 use sarridok::ReadAnswer;
 use sarridok::WalkAnswer;
@@ -30,14 +30,14 @@ const LIMIT: usize = 128;
 fn walked(o: &mut [u8], s: &[u8], tape: &[u32], count: usize, links: &mut [u32]) -> usize
     requires { ⌜ count ≤ roomOf (length (now tape)) ⌝ }
     ensures said { λ r. ⌜ (now (o .exit), r) ≡ put (now (o .entry), 0) (walkText (now (s .entry)) (now (tape .entry)) count (length (now (links .entry)))) ⌝ }
-    ensures left { λ r. ⌜ now (links .exit) ≡ linksAfter (now (tape .entry)) count 128 (now (links .entry)) ⌝ }
+    ensures left { λ r. ⌜ now (links .exit) ≡ linksAfter (now (s .entry)) (now (tape .entry)) count 128 (now (links .entry)) ⌝ }
 {
-    let r = sarridok::walk(tape, count, LIMIT, links);
+    let r = sarridok::walk(s, tape, count, LIMIT, links);
     match r {
         WalkAnswer::Walked => accepted(o, count, deepest(tape, count)),
         WalkAnswer::Refused(f) => {
             let place = walk_place(tape, count, f);
-            let begun = walk_begun(tape, count, f);
+            let begun = walk_begun(s, tape, count, f);
             refused(o, s, f, place, begun)
         }
     }
@@ -47,7 +47,7 @@ fn walked(o: &mut [u8], s: &[u8], tape: &[u32], count: usize, links: &mut [u32])
 fn explain(o: &mut [u8], s: &[u8], tape: &mut [u32], links: &mut [u32]) -> usize
     ensures said { λ r. ⌜ (now (o .exit), r) ≡ put (now (o .entry), 0) (explained (now (s .entry)) (now (tape .entry)) (length (now (links .entry)))) ⌝ }
     ensures tape { λ r. ⌜ now (tape .exit) ≡ readTape (now (s .entry)) (now (tape .entry)) ⌝ }
-    ensures left { λ r. ⌜ now (links .exit) ≡ linksBehind (now (tape .exit)) (now (links .entry)) (readAnswer (now (s .entry)) (length (now (tape .entry)))) ⌝ }
+    ensures left { λ r. ⌜ now (links .exit) ≡ linksBehind (now (s .entry)) (now (tape .exit)) (now (links .entry)) (readAnswer (now (s .entry)) (length (now (tape .entry)))) ⌝ }
 {
     let r = sarridok::read(s, tape);
     match r {

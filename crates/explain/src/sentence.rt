@@ -1,5 +1,5 @@
 // Each refusal number of the paper as a sentence, and each reason of an invalid escape in words. One text with a line for each: a match of as many arms
-// takes far longer to prove. 0 and 3 are given by no call, so their lines are empty.
+// takes far longer to prove. 0, 3 and 30 are given by no call, so their lines are empty.
 use lines::out;
 use lines::past;
 use lines::until;
@@ -18,11 +18,11 @@ fn line(s: &[u8], n: usize) -> &[u8]
     line(past(s, b'\n'), n - 1)
 }
 
-// Numbers above 28 have the last sentence.
+// Numbers above 30 have the last sentence.
 fn known(number: u8) -> usize
-    ensures { λ r. ⌜ r ≡ min number 29 ⌝ }
+    ensures { λ r. ⌜ r ≡ min number 31 ⌝ }
 {
-    if number < 29 { number as usize } else { 29 }
+    if number < 31 { number as usize } else { 31 }
 }
 
 // The sentence of a number, from a place of the output on.
@@ -58,7 +58,9 @@ pub fn say(o: &mut [u8], at: usize, number: u8) -> usize
             the text ends before its value does\n\
             the entry or the suffix is of another kind\n\
             a place, entry number, cursor, limit, width or mode is unfit\n\
-            the contents hold an escape or a line continuation\n";
+            the contents hold an escape or a line continuation\n\
+            \n\
+            a field of this name stands in the same brackets already\n";
     out::bytes(o, at, line(all, known(number)))
 }
 

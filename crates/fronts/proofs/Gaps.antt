@@ -3,7 +3,7 @@ use Prim.Native.Nat.{ℕ, _+_, _<_, _≤_}
 use native.Mathlib.Omega.{arith}
 use mathlib.Core.Bool.{Bool, _&&_, false, true}
 use mathlib.Core.List.{List}
-use mathlib.Core.Logic.{inr}
+use mathlib.Core.Logic.{inl, inr}
 use mathlib.Core.Path.{_≡_, _∙_, ap, refl, subst}
 use lib.Dec.{leb}
 use lib.ListN.{length}
@@ -35,9 +35,9 @@ module _ (tape : List ℕ) (count k : ℕ) (below : k < count) where
   torn : (limit : ℕ) → (Distance → ⊥) → inOrder (entriesOf count tape) limit ≡ false
   torn limit off = either (bool-cases (inOrder (entriesOf count tape) limit)) (λ h. absurd (off (ordered-gap limit h))) (λ h. h)
 
-  pub walk-gap : (limit links : ℕ) → limit ≤ 128 → (formerEnd 0 (entriesOf count tape) k + entryAt tape k .gap ≡ entryAt tape k .start → ⊥)
-      → walkOf tape count limit links ≡ refused notInOrder
-  walk-gap limit links h off = walk-23 tape count limit links .1 (h, inr (torn 65536 off))
+  pub walk-gap : (text : List ℕ) (limit links : ℕ) → judgedOf text ≡ Fit → limit ≤ 128 → (formerEnd 0 (entriesOf count tape) k + entryAt tape k .gap ≡ entryAt tape k .start → ⊥)
+      → walkOf text tape count limit links ≡ refused notInOrder
+  walk-gap text limit links fit h off = walk-23 text tape count limit links .1 (fit, h, inr (inl (torn (length text) off)))
 
   torn-tape : (o a b n : ℕ) → (Distance → ⊥) → repairFits tape count o a b n ≡ false
   unfolding repairFits

@@ -1,4 +1,4 @@
--- One law for every call with a text: behind the judgement of the text, a call whose own refusals are 4 to 29 has the front that specs/Fronts.antt tells.
+-- One law for every call with a text: behind the judgement of the text, a call whose own refusals are above 2 has the front that specs/Fronts.antt tells.
 -- Assumes nothing.
 use Prim.Native.Nat.{ℕ, _≤_, _<_}
 use native.Mathlib.Omega.{arith}
@@ -37,17 +37,21 @@ low : (text : List ℕ) → Low (judgedOf text)
 unfolding judgedOf
 low text = cond-cases Low (ltb 65536 (length text)) _ _ (λ e. lit≤ tt) (λ e. by-utf8 (utf8Of text))
 
+low-number : (j : Judged) (r : Refusal) → Low j → j ≡ Refused r → r .number ≤ 2
+low-number Fit r l e = let z : _≡_ {A = ℕ} 0 1 = cc in absurd (omega arith)
+low-number (Refused q) r l e = let z : q ≡ r = cc in let n : q .number ≡ r .number = ap (λ (x : Refusal). x .number) z in omega arith
+
+pub judged-low : (text : List ℕ) (r : Refusal) → judgedOf text ≡ Refused r → r .number ≤ 2
+judged-low text r e = low-number (judgedOf text) r (low text) e
+
 -- ---- what stands behind it
 
 -- one answer holds one refusal
 same : {A : Type 0} (q r : Refusal) → _≡_ {A = Told A} (refused q) (refused r) → q ≡ r
 same q r e = cc
 
-module _ {A : Type 0} (own : Told A) (h : Own-told own) where
-  -- the call's own refusals are higher
-  higher : (r : Refusal) → own ≡ refused r → 2 < r .number
-  higher r e = omega (arith, number-in 4 29 r (told-number 29 own r h e))
-
+-- a call whose own refusals are higher
+module _ {A : Type 0} (own : Told A) (higher : (r : Refusal) → own ≡ refused r → 2 < r .number) where
   -- 1 and 2 are the judgement's
   judged : (j : Judged) (r : Refusal) → r .number ≤ 2 → (behindJudged j own ≡ refused r) ↔ (j ≡ Refused r)
   judged Fit r l = (λ e. absurd (omega (arith, higher r e)), λ e. (let z : _≡_ {A = ℕ} 0 1 = cc in absurd (omega arith)))
@@ -68,13 +72,13 @@ through : {A B C : Type 0} → A ↔ B → B ↔ C → A ↔ C
 through (f, g) (h, k) = (λ a. h (f a), λ c. g (k c))
 
 -- the front of every call
-pub front : {A : Type 0} (text : List ℕ) (own : Told A) → Own-told own → FrontOf text (behindJudged (judgedOf text) own) own
-front text own h = record {
+pub front-higher : {A : Type 0} (text : List ℕ) (own : Told A) → ((r : Refusal) → own ≡ refused r → 2 < r .number) → FrontOf text (behindJudged (judgedOf text) own) own
+front-higher text own h = record {
   long = through (judged own h j tooLong (lit≤ tt)) (long-exactly text);
   bad = λ p. through (judged own h j (notUtf8 p) (lit≤ tt)) (bad-exactly text p);
   past = past;
   accepts = λ a e. fit-exactly text .0 (accepts own h j a e);
-  refuses = λ r e. (λ k. fit-exactly text .0 (fit own h j r (low text) e k), λ s. higher own h r (sym (past s) ∙ e));
+  refuses = λ r e. (λ k. fit-exactly text .0 (fit own h j r (low text) e k), λ s. h r (sym (past s) ∙ e));
 }
   where
     j : Judged
@@ -82,3 +86,7 @@ front text own h = record {
 
     past : Sound text → behindJudged j own ≡ own
     past s = rw (fit-exactly text .1 s)
+
+-- and so of those that refuse with 4 to 29
+pub front : {A : Type 0} (text : List ℕ) (own : Told A) → Own-told own → FrontOf text (behindJudged (judgedOf text) own) own
+front text own h = front-higher text own (λ r e. omega (arith, number-in 4 29 r (told-number 29 own r h e)))

@@ -25,9 +25,9 @@ use Rattle.sarridok.specs.Contents.{contentsOf, decodedAnswer}
 use Rattle.sarridok.specs.Skip.{skipOf}
 use Rattle.sarridok.specs.StructKind.{structKindOf}
 use Rattle.sarridok.specs.Typed.{integerOf}
-use Rattle.sarridok.specs.Walked.{walkOf}
+use Rattle.sarridok.specs.Walked.{behindWalkFront, walkOf}
 use Rattle.given.specs.Given.{Given, given, reasoned, within}
-use Rattle.given.proofs.Front.{answered, behind-judged, own-given}
+use Rattle.given.proofs.Front.{answered, behind-given, behind-judged}
 use Rattle.given.proofs.Owns.{contents-own, decoded-own, or-unfit, skip-own, struct-own, walk-own}
 use Rattle.given.proofs.Repairs.{fitted-own, repaired-own}
 use Rattle.given.proofs.Typed.{integer-own}
@@ -60,8 +60,9 @@ pub decoded-given : (text tape : List ℕ) (count entry room : ℕ) (r : Refusal
 unfolding decodedAnswer
 decoded-given text tape count entry room r = answered _ r (behind-judged text _ (decoded-own text tape count entry room))
 
-pub walk-given : (tape : List ℕ) (count limit links : ℕ) (r : Refusal) → walkOf tape count limit links ≡ refused r → Given r
-walk-given tape count limit links r = answered _ r (own-given (walkOf tape count limit links) (walk-own tape count limit links))
+pub walk-given : (text tape : List ℕ) (count limit links : ℕ) (r : Refusal) → walkOf text tape count limit links ≡ refused r → Given r
+unfolding walkOf behindWalkFront
+walk-given text tape count limit links r = answered _ r (behind-given text _ (walk-own text tape count limit links))
 
 pub repair-given : (tape : List ℕ) (count o a b : ℕ) (text : List ℕ) (r : Refusal) → repairOf tape count o a b text ≡ refused r → Given r
 unfolding repairOf

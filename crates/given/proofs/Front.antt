@@ -79,9 +79,9 @@ among : (l : List ℕ) (lo hi n : ℕ) → lo ≤ n → n ≤ hi → (oneOf l n 
 among l lo hi n h k = rw (inside lo hi n h k) (or-true (oneOf l n))
 
 -- 4 to 29 are given
-four-given : (r : Refusal) → FourTo 29 r → Given r
+pub four-given : (r : Refusal) → FourTo 29 r → Given r
 unfolding given
-four-given r h = let i = number-in 4 29 r h in rw (among (1 ∷ 2 ∷ []) 4 29 (r .number) (i .0) (i .1)) (reason-fits 4 29 r h)
+four-given r h = let i = number-in 4 29 r h in rw (among (1 ∷ 2 ∷ 31 ∷ []) 4 29 (r .number) (i .0) (i .1)) (reason-fits 4 29 r h)
 
 pub own-given : {A : Type 0} (a : Told A) → Own-told a → Given-told a
 own-given (accepted a) h = tt
@@ -106,5 +106,8 @@ by-judged : {A : Type 0} (j : Judged) (own : Told A) → Given-judged j → Give
 by-judged Fit own h k = k
 by-judged (Refused r) own h k = h
 
+pub behind-given : {A : Type 0} (text : List ℕ) (own : Told A) → Given-told own → Given-told (behindJudged (judgedOf text) own)
+behind-given text own h = by-judged (judgedOf text) own (judged-given text) h
+
 pub behind-judged : {A : Type 0} (text : List ℕ) (own : Told A) → Own-told own → Given-told (behindJudged (judgedOf text) own)
-behind-judged text own h = by-judged (judgedOf text) own (judged-given text) (own-given own h)
+behind-judged text own h = behind-given text own (own-given own h)

@@ -1,12 +1,13 @@
--- What each call answers of its own: behind its judgement of the text it refuses with 4 to 29, and where the place fits with 4 to 27. Assumes nothing.
+-- What each call answers of its own: behind its judgement of the text it refuses with 4 to 29, the walk also with 31, and where the place fits with 4 to 27.
+-- Assumes nothing.
 use Prim.Native.Nat.{ℕ}
-use mathlib.Core.Bool.{Bool, cond}
+use mathlib.Core.Bool.{Bool, _&&_, cond}
 use mathlib.Core.List.{List}
 use mathlib.Core.Path.{refl}
 use native.Mathlib.Omega.{arith}
 use lib.Dec.{lit≤, ltb}
 use lib.ListN.{drop, length}
-use Rattle.text.specs.Refusals.{Told, refused, unfit}
+use Rattle.text.specs.Refusals.{Told, noRoom, notInOrder, refused, unfit}
 use Rattle.cursor.specs.Skip.{skipWsOf}
 use Rattle.cursor.specs.declared.ParserCursor.{ParserCursor}
 use Rattle.cursor.specs.declared.skip.Step.{Step}
@@ -14,7 +15,6 @@ use Rattle.cursor.specs.declared.skip.Step.the-variants as step
 use Rattle.entries.specs.Contents.{byNamed, contentsIn, decodedIn}
 use Rattle.entries.specs.Named.{literalOf, namedOf}
 use Rattle.grammar.specs.Kinds.{kindsOf}
-use Rattle.grammar.specs.Walk.{walkOf as verdictOf}
 use Rattle.grammar.specs.declared.ends.Verdict.{Verdict}
 use Rattle.grammar.specs.declared.ends.Verdict.the-variants as verdict
 use Rattle.rows.specs.Order.{inOrder}
@@ -27,15 +27,17 @@ use Rattle.structs.specs.declared.kinds.StructAnswer.{StructAnswer}
 use Rattle.structs.specs.declared.kinds.StructAnswer.the-variants as struct
 use Rattle.sarridok.specs.Skip.{toldSkip}
 use Rattle.sarridok.specs.StructKind.{toldStruct}
-use Rattle.sarridok.specs.Walked.{judged, behindWalkFront, walkOf}
-use Rattle.given.specs.Given.{within}
+use Rattle.fields.specs.Fields.{namedWalk}
+use Rattle.fields.specs.Names.{nameAt, rawsFit}
+use Rattle.sarridok.specs.Walked.{judged}
+use Rattle.given.specs.Given.{given, within}
 use Rattle.given.proofs.Both.{both}
 use Rattle.given.proofs.Cursors.{Inner-step, skip-ws-inner}
 use Rattle.given.proofs.Entries.{named-own, by-named, literal-inner, contents-in, decoded-in}
-use Rattle.given.proofs.Front.{FourTo-told, Own-told, higher, higher-told, wider}
+use Rattle.given.proofs.Front.{FourTo-told, Given-told, Own-told, higher, higher-told}
 use Rattle.given.proofs.Scans.{Inner-struct}
 use Rattle.given.proofs.Structs.{struct-type-inner}
-use Rattle.given.proofs.Walks.{Of-walk, verdict-of-walk}
+use Rattle.given.proofs.Walks.{Of-named, named-given, verdict-of-named}
 
 -- ---- calls at a place
 
@@ -70,17 +72,20 @@ decoded-own text tape count entry room =
     by-named (namedOf text tape count entry) _ (named-own text tape count entry)
     (λ bytes place. decoded-in place room (literalOf bytes (drop place text)) (literal-inner bytes (drop place text)))
 
--- ---- the walk, which has no text
+-- ---- the walk
 
-told-verdict : (v : Verdict) → Of-walk v → Own-told (judged v)
+told-verdict : (v : Verdict) → Of-named v → Given-told (judged v)
 told-verdict verdict.Accepted h = tt
-told-verdict (verdict.Refused r) h = wider 24 26 4 29 r (omega arith) (omega arith) h
+told-verdict (verdict.Refused r) h = named-given r h
 
-pub walk-own : (tape : List ℕ) (count limit links : ℕ) → Own-told (walkOf tape count limit links)
-unfolding walkOf behindWalkFront within
-walk-own tape count limit links =
-    let v = verdictOf (kindsOf (entriesOf count tape)) limit in
-    both Own-told (ltb 128 limit) refl
-    (both Own-told (ltb (roomOf (length tape)) count) refl
-    (both Own-told (inOrder (entriesOf count tape) 65536)
-    (both Own-told (ltb links count) refl (told-verdict v (verdict-of-walk (kindsOf (entriesOf count tape)) limit))) refl))
+pub walk-own : (text tape : List ℕ) (count limit links : ℕ)
+    → Given-told (cond (ltb 128 limit) (refused unfit) (cond (ltb (roomOf (length tape)) count) (refused notInOrder)
+    (cond (inOrder (entriesOf count tape) (length text) && rawsFit text (entriesOf count tape))
+    (cond (ltb links count) (refused noRoom) (judged (namedWalk (nameAt text tape) (kindsOf (entriesOf count tape)) limit))) (refused notInOrder))))
+unfolding given within
+walk-own text tape count limit links =
+    let v = namedWalk (nameAt text tape) (kindsOf (entriesOf count tape)) limit in
+    both Given-told (ltb 128 limit) refl
+    (both Given-told (ltb (roomOf (length tape)) count) refl
+    (both Given-told (inOrder (entriesOf count tape) (length text) && rawsFit text (entriesOf count tape))
+    (both Given-told (ltb links count) refl (told-verdict v (verdict-of-named (nameAt text tape) (kindsOf (entriesOf count tape)) limit))) refl))

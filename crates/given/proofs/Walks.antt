@@ -1,7 +1,9 @@
--- The refusals of the grammar's walk are 24 to 26. Assumes nothing.
-use Prim.Native.Nat.{ℕ, _+_}
+-- The refusals of the grammar's walk are 24 to 26, and with the names of fields also 31. Assumes nothing.
+use Prim.Native.Nat.{ℕ, _+_, _<_}
+use native.Mathlib.Omega.{arith}
 use mathlib.Core.List.{List, [], _∷_}
-use mathlib.Core.Path.{refl}
+use mathlib.Core.Logic.{_⊎_, inl, inr}
+use mathlib.Core.Path.{_≡_, refl, subst, sym}
 use lib.Dec.{ltb}
 use lib.ListN.{length}
 use Rattle.grammar.specs.Steps.{stepOf}
@@ -15,8 +17,15 @@ use Rattle.grammar.specs.declared.states.Move.{Move}
 use Rattle.grammar.specs.declared.states.Move.the-variants.{Stay, Push, Pop, Bad}
 use Rattle.grammar.specs.declared.ends.Verdict.{Verdict}
 use Rattle.grammar.specs.declared.ends.Verdict.the-variants.{Accepted, Refused}
-use Rattle.given.specs.Given.{Between, within}
+use Rattle.text.proofs.Choices.{either}
+use Rattle.text.specs.Refusals.{repeatedField}
+use Rattle.text.specs.declared.refusal.Refusal.{Refusal}
+use Rattle.fields.specs.Fields.{againOf, byAgain, namedWalk}
+use Rattle.fields.specs.declared.again.Again.{Again}
+use Rattle.fields.specs.declared.again.Again.the-variants.{Nowhere, At}
+use Rattle.given.specs.Given.{Between, Given, given, within}
 use Rattle.given.proofs.Both.{both}
+use Rattle.given.proofs.Front.{four-given, number-in, wider}
 
 abbrev pub Of-walk : Verdict → Type 0
 Of-walk Accepted = Unit
@@ -63,3 +72,36 @@ checked (k ∷ ks) limit w f σ i = by-move (stepOf w k f) limit f σ i _ (λ w�
 
 pub verdict-of-walk : (ks : List Kind) (limit : ℕ) → Of-walk (walkOf ks limit)
 verdict-of-walk ks limit = checked ks limit Start Top [] 0
+
+-- ---- with the names of fields
+
+-- one of 24 to 26, or 31
+abbrev pub Named-refusal : Refusal → Type 0
+Named-refusal r = Between 24 26 r ⊎ (r ≡ repeatedField (r .place))
+
+abbrev pub Of-named : Verdict → Type 0
+Of-named Accepted = Unit
+Of-named (Refused r) = Named-refusal r
+
+by-again : (a : Again) (v : Verdict) → Of-walk v → Of-named (byAgain a v)
+by-again Nowhere Accepted h = tt
+by-again Nowhere (Refused r) h = inl h
+by-again (At j) Accepted h = inr refl
+by-again (At j) (Refused r) h = both Of-named (ltb j (r .place)) (inr refl) (inl h)
+
+pub verdict-of-named : (nm : ℕ → List ℕ) (ks : List Kind) (limit : ℕ) → Of-named (namedWalk nm ks limit)
+verdict-of-named nm ks limit = by-again (againOf nm ks) (walkOf ks limit) (verdict-of-walk ks limit)
+
+again-given : (p : ℕ) → Given (repeatedField p)
+unfolding given within
+again-given p = refl
+
+-- each is given
+pub named-given : (r : Refusal) → Named-refusal r → Given r
+named-given r h = either h (λ b. four-given r (wider 24 26 4 29 r (omega arith) (omega arith) b)) (λ e. subst Given (sym e) (again-given (r .place)))
+
+-- and none of the front's
+pub named-number : (r : Refusal) → Named-refusal r → ((23 < r .number) × (r .number < 28)) ⊎ (r .number ≡ 31)
+named-number r h =
+    either h (λ b. let w = number-in 24 26 r b in let x = w .0 in let y = w .1 in inl (omega arith, omega arith))
+    (λ e. inr (subst (λ (q : Refusal). q .number ≡ 31) (sym e) refl))

@@ -1,4 +1,4 @@
--- The refusals that calls give (document 01, "Refusal numbers"): 1, 2 and 4 to 29; 3 is reserved (CR 5). CR 1: of 13 "a reason, 1 to 8", "0 for every
+-- The refusals that calls give (document 01, "Refusal numbers"): 1, 2 and 4 to 29, and 31 (CR 2); 3 is reserved (CR 5). CR 1: of 13 "a reason, 1 to 8", "0 for every
 -- other number".
 use Prim.Native.Nat.{ℕ}
 use mathlib.Core.Path.{_≡_}
@@ -11,7 +11,7 @@ use Rattle.text.specs.declared.refusal.Refusal.{Refusal}
 
 -- A number that calls give.
 unfoldable pub given : ℕ → Bool
-given n = oneOf (1 ∷ 2 ∷ []) n || within 4 29 n
+given n = oneOf (1 ∷ 2 ∷ 31 ∷ []) n || within 4 29 n
 
 -- The reason belongs to the number: 1 to 8 to 13, and 0 to any other.
 abbrev pub reasoned : Refusal → Bool

@@ -4,6 +4,7 @@ pub mod Viable
 pub mod Early
 pub mod Outcomes
 pub mod Stored
+pub mod Reach
 pub mod Accepts
 pub mod Prefixes
 pub mod Refusals

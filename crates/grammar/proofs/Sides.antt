@@ -1,5 +1,11 @@
 -- Only an opening bracket opens, and only a closing one closes: what a step does agrees with the kind. Assumes nothing.
-use Rattle.grammar.specs.Kinds.{sideOf}
+use Prim.Native.Nat.{ℕ, _<_}
+use native.Mathlib.Omega.{arith}
+use mathlib.Core.Bool.{Bool, true, false, cond}
+use mathlib.Core.Path.{_≡_, refl}
+use lib.Dec.{eqb, ltb}
+use borrow.Author.Tests.{ne-eqb}
+use Rattle.grammar.specs.Kinds.{sideOf, kindOf}
 use Rattle.grammar.specs.Steps.{closeRound, closeSquare, closePair, closeKey, comma, colon, valueOf, startOf, itemOf, firstOf, behindOf, namedOf, firstNameOf, fieldOf, fieldNameOf, stepOf}
 use Rattle.grammar.specs.declared.kinds.Kind.{Kind}
 use Rattle.grammar.specs.declared.kinds.Kind.the-variants.{OpenRound, CloseRound, OpenSquare, CloseSquare, OpenCurly, CloseCurly, Comma, Colon, Name, Scalar, Attribute}
@@ -11,6 +17,20 @@ use Rattle.grammar.specs.declared.states.Want.{Want}
 use Rattle.grammar.specs.declared.states.Want.the-variants.{Start, Must, Item, First, FirstName, Named, Behind, Field, FieldName}
 use Rattle.grammar.specs.declared.states.Move.{Move}
 use Rattle.grammar.specs.declared.states.Move.the-variants.{Stay, Push, Pop, Bad}
+
+-- no number above 6 stands for a bracket
+pub no-bracket : (k : ℕ) → 6 < k → Neither ≡ sideOf (kindOf k)
+unfolding kindOf
+no-bracket k h =
+    simp (ne-eqb k 1 (λ e. absurd (omega arith)), ne-eqb k 2 (λ e. absurd (omega arith)), ne-eqb k 3 (λ e. absurd (omega arith)), ne-eqb k 4 (λ e. absurd (omega arith)), ne-eqb k 5 (λ e. absurd (omega arith)), ne-eqb k 6 (λ e. absurd (omega arith)))
+    (go (eqb k 7) (eqb k 8) (ltb k 11) (ltb k 16))
+  where
+    go : (a b c d : Bool) → Neither ≡ sideOf (cond a Comma (cond b Colon (cond c Name (cond d Scalar Attribute))))
+    go true b c d = refl
+    go false true c d = refl
+    go false false true d = refl
+    go false false false true = refl
+    go false false false false = refl
 
 -- a side and what its entry does
 abbrev pub Agrees : Side → Move → Type 0

@@ -80,3 +80,13 @@ pub fn side_of(kind: Kind) -> Side
         Kind::Attribute => Side::Neither,
     }
 }
+
+// The same by the number on the tape; most entries are no bracket, and one look tells.
+pub fn side_at(k: u32) -> Side
+    ensures { λ r. ⌜ r ≡ sideOf (kindOf k) ⌝ }
+{
+    if kinds::CLOSE_BRACE < k {
+        return Side::Neither;
+    }
+    side_of(kind_of(k))
+}

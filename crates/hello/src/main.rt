@@ -7,7 +7,7 @@ use sarridok::WalkAnswer;
 // How many entries the text has, in one value; the byte where it is refused, or the entry at which the walk is.
 fn entries(text: &[u8], tape: &mut [u32], links: &mut [u32]) -> usize {
     match sarridok::read(text, tape) {
-        ReadAnswer::Accepted(count) => match sarridok::walk(&tape[..], count, 128, links) {
+        ReadAnswer::Accepted(count) => match sarridok::walk(text, &tape[..], count, 128, links) {
             WalkAnswer::Walked => count,
             WalkAnswer::Refused(r) => r.place,
         },

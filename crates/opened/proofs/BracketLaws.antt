@@ -6,12 +6,11 @@ use mathlib.Core.List.{List, [], _∷_}
 use mathlib.Core.Path.{_≡_, ap, refl, subst, sym, _∙_}
 use lib.Dec.{eqb}
 use lib.ListN.{drop}
-use borrow.Author.Tests.{eq-eqb, ne-eqb, lt-ltb, le-ltb}
+use borrow.Author.Tests.{eq-eqb, ne-eqb}
 use Rattle.grammar.specs.declared.kinds.Side.{Side}
 use Rattle.grammar.specs.declared.kinds.Side.the-variants.{Opens, Closes, Neither}
 use Rattle.rows.specs.Rows.{entryAt}
-use Rattle.text.specs.declared.refusal.Refusal.{Refusal}
-use Rattle.opened.specs.Brackets.{sideAt, behindEntry, openBrackets, firstOf, innermost, closesOther, openBehind, otherOf, otherBefore, walkBegun}
+use Rattle.opened.specs.Brackets.{sideAt, behindEntry, openBrackets, firstOf, innermost, closesOther, otherOf, otherBefore}
 use Rattle.opened.specs.declared.begun.Begun.the-variants.{Nothing, Bracket}
 use Rattle.opened.specs.declared.brackets.Innermost.{Innermost}
 use Rattle.opened.specs.declared.brackets.Innermost.the-variants.{Outside, Entry}
@@ -110,22 +109,3 @@ module _ (tape : List ℕ) (n i : ℕ) (found : innermost tape n ≡ Entry i) wh
 
   pub other-same : closesOther (entryAt tape i .kind) (entryAt tape n .kind) ≡ false → Nothing ≡ otherBefore tape n
   other-same e = other-by false e
-
--- ---- by the refusal
-
-module _ (tape : List ℕ) (count : ℕ) (r : Refusal) where
-  pub walk-26 : r .number ≡ 26 → openBehind tape count ≡ walkBegun tape count r
-  unfolding walkBegun
-  walk-26 h = rw (eq-eqb (r .number) 26 h)
-
-  pub walk-25 : (r .number ≡ 26 → ⊥) → r .number ≡ 25 → r .place < count → otherBefore tape (r .place) ≡ walkBegun tape count r
-  unfolding walkBegun
-  walk-25 f h l = rw (ne-eqb (r .number) 26 f, eq-eqb (r .number) 25 h, lt-ltb (r .place) count l)
-
-  pub walk-behind : (r .number ≡ 26 → ⊥) → r .number ≡ 25 → count ≤ r .place → Nothing ≡ walkBegun tape count r
-  unfolding walkBegun
-  walk-behind f h l = rw (ne-eqb (r .number) 26 f, eq-eqb (r .number) 25 h, le-ltb (r .place) count l)
-
-  pub walk-other : (r .number ≡ 26 → ⊥) → (r .number ≡ 25 → ⊥) → Nothing ≡ walkBegun tape count r
-  unfolding walkBegun
-  walk-other f h = rw (ne-eqb (r .number) 26 f, ne-eqb (r .number) 25 h)

@@ -1,4 +1,7 @@
 pub mod BracketLaws
+pub mod FormerLaws
+pub mod FormerMeans
+pub mod WalkLaws
 pub mod FrontLaws
 pub mod BegunLaws
 pub mod ReachLaws

@@ -4,13 +4,12 @@
 use Prim.Native.Nat.{ℕ, zero, suc}
 use mathlib.Core.Bool.{Bool, false, not, cond}
 use mathlib.Core.List.{List, [], _∷_}
-use lib.Dec.{eqb, ltb}
+use lib.Dec.{eqb}
 use lib.ListN.{drop}
 use Rattle.grammar.specs.declared.kinds.Side.{Side}
 use Rattle.grammar.specs.declared.kinds.Side.the-variants.{Opens, Closes, Neither}
 use Rattle.grammar.specs.Kinds.{kindOf, sideOf}
 use Rattle.rows.specs.Rows.{entryAt}
-use Rattle.text.specs.declared.refusal.Refusal.{Refusal}
 use Rattle.opened.specs.declared.begun.Begun.{Begun}
 use Rattle.opened.specs.declared.begun.Begun.the-variants.{Nothing, Bracket}
 use Rattle.opened.specs.declared.brackets.Innermost.{Innermost}
@@ -62,9 +61,3 @@ openBehind tape n = bracketOf tape (innermost tape n)
 -- The same where entry n closes a bracket of another kind.
 unfoldable pub otherBefore : List ℕ → ℕ → Begun
 otherBefore tape n = otherOf tape n (innermost tape n)
-
--- What is open where the walk of so many entries is refused: 26 stands behind all of them; 25 before the entry that it names.
-unfoldable pub walkBegun : List ℕ → ℕ → Refusal → Begun
-walkBegun tape count r =
-    cond (eqb (r .number) 26) (openBehind tape count)
-    (cond (eqb (r .number) 25) (cond (ltb (r .place) count) (otherBefore tape (r .place)) Nothing) Nothing)

@@ -1,5 +1,6 @@
--- What it means that something that is not closed begins at a place, said without the search that finds it.
-use Prim.Native.Nat.{ℕ, _≤_}
+-- What it means that something that is not closed begins at a place, or that a field is named before, said without the search that finds it.
+use Prim.Native.Nat.{ℕ, _<_, _≤_}
+use mathlib.Core.Bool.{true}
 use mathlib.Core.List.{List, _∷_}
 use mathlib.Core.Logic.{_⊎_}
 use mathlib.Core.Path.{_≡_}
@@ -8,6 +9,9 @@ use Rattle.comments.specs.Blocks.{Body}
 use Rattle.strings.specs.Strings.{stringOf, byteStringOf}
 use Rattle.strings.specs.declared.literal.LiteralAnswer.the-variants.{Refused}
 use Rattle.text.specs.declared.refusal.Refusal.{Refusal}
+use Rattle.fields.specs.Names.{nameAt}
+use Rattle.opened.specs.Brackets.{innermost}
+use Rattle.opened.specs.Former.{isField}
 
 -- A block comment begins at p and is not closed: `/*` stands there, and behind it no body of a comment.
 pub record CommentAt (text : List ℕ) (p : ℕ) : Type 0 where
@@ -24,3 +28,10 @@ pub record QuoteAt (text : List ℕ) (p : ℕ) : Type 0 where
   pub refusal : Refusal
   pub number-is : refusal .number ≡ 17
   pub not-closed : (stringOf (drop begins text) ≡ Refused refusal) ⊎ (byteStringOf (drop begins text) ≡ Refused refusal)
+
+-- Entry i names a field before entry n, with the same name and in the same brackets: the innermost bracket that is open before both is one.
+pub record NamedBefore (text tape : List ℕ) (n i : ℕ) : Type 0 where
+  pub before : i < n
+  pub is-field : isField tape i ≡ true
+  pub alike : nameAt text tape i ≡ nameAt text tape n
+  pub together : innermost tape i ≡ innermost tape n

@@ -16,6 +16,8 @@ pub enum Begun {
     Quote(usize),
     // An opening bracket.
     Bracket(usize),
+    // The first field of a name: where its entry begins, where the name does (behind `r#`), and where both end.
+    Field(usize, usize, usize),
 }
 
 // The first thing from a place on that is not closed.

@@ -5,12 +5,11 @@ use grammar::kinds::kind_of;
 use grammar::kinds::side_of;
 use rows::kinds;
 use rows::row;
-use text::Refusal;
 ghost use mathlib.Core.Path.{_≡_};
 ghost use Prim.Native.Nat.{_≤_, _<_};
 ghost use lib.ListN.{length};
 ghost use Rattle.rows.specs.Rows.{roomOf, entryAt};
-ghost use Rattle.opened.specs.Brackets.{sideAt, innermost, closesOther, openBehind, otherBefore, walkBegun};
+ghost use Rattle.opened.specs.Brackets.{sideAt, innermost, closesOther, openBehind, otherBefore};
 
 // The innermost bracket that is open, if one is.
 pub enum Innermost {
@@ -20,7 +19,8 @@ pub enum Innermost {
     Entry(usize),
 }
 
-fn side_at(tape: &[u32], i: usize) -> Side
+// The side of entry i.
+pub fn side_at(tape: &[u32], i: usize) -> Side
     requires { ⌜ i < roomOf (length (now tape)) ⌝ }
     ensures { λ r. ⌜ r ≡ sideAt (now (tape .entry)) i ⌝ }
 {
@@ -78,7 +78,7 @@ fn bracket_at(tape: &[u32], i: usize) -> Begun
 }
 
 // The innermost bracket that is open behind n entries.
-fn open_behind(tape: &[u32], n: usize) -> Begun
+pub fn open_behind(tape: &[u32], n: usize) -> Begun
     requires { ⌜ n ≤ roomOf (length (now tape)) ⌝ }
     ensures { λ r. ⌜ r ≡ openBehind (now (tape .entry)) n ⌝ }
 {
@@ -90,7 +90,7 @@ fn open_behind(tape: &[u32], n: usize) -> Begun
 }
 
 // The same before entry n, where that closes a bracket of another kind.
-fn other_before(tape: &[u32], n: usize) -> Begun
+pub fn other_before(tape: &[u32], n: usize) -> Begun
     requires { ⌜ n < roomOf (length (now tape)) ⌝ }
     ensures { λ r. ⌜ r ≡ otherBefore (now (tape .entry)) n ⌝ }
 {
@@ -104,21 +104,4 @@ fn other_before(tape: &[u32], n: usize) -> Begun
             Begun::Nothing
         }
     }
-}
-
-// What the walk of so many entries is refused for with 25 or 26.
-pub fn walk_begun(tape: &[u32], count: usize, r: Refusal) -> Begun
-    requires { ⌜ count ≤ roomOf (length (now tape)) ⌝ }
-    ensures { λ b. ⌜ b ≡ walkBegun (now (tape .entry)) count r ⌝ }
-{
-    if r.number == Refusal::TAPE_ENDS_EARLY {
-        return open_behind(tape, count);
-    }
-    if r.number == Refusal::NOT_ALLOWED_HERE {
-        let n = r.place;
-        if n < count {
-            return other_before(tape, n);
-        }
-    }
-    Begun::Nothing
 }

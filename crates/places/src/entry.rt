@@ -5,7 +5,7 @@ ghost use mathlib.Core.Path.{_≡_};
 ghost use Prim.Native.Nat.{_≤_};
 ghost use lib.ListN.{length};
 ghost use Rattle.rows.specs.Rows.{roomOf};
-ghost use Rattle.places.specs.Entries.{entryPlace, walkPlace};
+ghost use Rattle.places.specs.Entries.{entryPlace, namesEntry, walkPlace};
 
 // Where entry n of so many starts, or the last one ends.
 fn entry_place(tape: &[u32], count: usize, n: usize) -> usize
@@ -23,16 +23,29 @@ fn entry_place(tape: &[u32], count: usize, n: usize) -> usize
     0
 }
 
-// 24 to 26 name an entry; the walk's other refusals have no place.
+// 24 to 26 and 31 name an entry; the walk's other refusals have no place.
+fn names_entry(number: u8) -> bool
+    ensures { λ r. ⌜ r ≡ namesEntry number ⌝ }
+{
+    if number == Refusal::REPEATED_FIELD {
+        return true;
+    }
+    if number < Refusal::DEPTH_LIMIT_PASSED {
+        return false;
+    }
+    if Refusal::TAPE_ENDS_EARLY < number {
+        return false;
+    }
+    true
+}
+
+// The byte of a refusal.
 pub fn walk_place(tape: &[u32], count: usize, r: Refusal) -> usize
     requires { ⌜ count ≤ roomOf (length (now tape)) ⌝ }
     ensures { λ p. ⌜ p ≡ walkPlace (now (tape .entry)) count r ⌝ }
 {
-    if r.number < Refusal::DEPTH_LIMIT_PASSED {
-        return r.place;
+    if names_entry(r.number) {
+        return entry_place(tape, count, r.place);
     }
-    if Refusal::TAPE_ENDS_EARLY < r.number {
-        return r.place;
-    }
-    entry_place(tape, count, r.place)
+    r.place
 }

@@ -32,7 +32,7 @@ struct-kind-whole = cut.struct-whole
 pub read-whole : (text : List ℕ) (numbers : ℕ) → Whole countWord countParts (readAnswer text numbers)
 read-whole = cut.read-whole
 
-pub walk-whole : (tape : List ℕ) (count limit links : ℕ) → Whole doneWord doneParts (walkOf tape count limit links)
+pub walk-whole : (text tape : List ℕ) (count limit links : ℕ) → Whole doneWord doneParts (walkOf text tape count limit links)
 walk-whole = cut.walk-whole
 
 pub repair-whole : (tape : List ℕ) (count o a b : ℕ) (text : List ℕ) → Whole repairedWord repairedParts (repairOf tape count o a b text)

@@ -2,7 +2,7 @@
 -- told in the paper's words, is what a definition says of the arguments, and so is each lent slice afterwards; none has a `requires`. Beside this file:
 -- Skips         skip; gaps and comments; 4, 5 and 6     Integers      integer; 6 to 10 and 27; digit runs, byte literals     Strings       contents,
 -- contents_part, decoded; escapes, strings, chars     StructKinds   struct_kind     Readings      read; what it reads, what is shut out; names, floats
--- Walks         walk; 24, 25 and 26; links     Repairs       repair; the third demand     Hosts         the interface for C: nothing of an answer is cut
+-- Walks         walk; 24, 25, 26 and 31; links     Repairs       repair; the third demand     Hosts         the interface for C: nothing of an answer is cut
 -- off Demand 1: `refused-read`, `refused-decoded`, `refused-walk`, `refused-repair`; the other calls are lent nothing to write. Demand 2: what is said of
 -- each call. Demand 3: `repair-as-read`. In both a refusal is its number, place and reason. Each line is a theorem's statement; its proof only says where it is proved. Assumes nothing.
 use Prim.Native.Nat.{ℕ, _<_, _≤_}
@@ -24,10 +24,11 @@ use Rattle.fronts.proofs.Texts as texts-front
 use Rattle.given.specs.Given.{Given}
 use Rattle.given.proofs.Calls.{never-three}
 use Rattle.given.proofs.Calls as calls
+use Rattle.worked.specs.Fields.{fieldTexts}
 use Rattle.worked.specs.Gaps.{gapTexts}
 use Rattle.worked.specs.Reasons.{reasonTexts}
 use Rattle.worked.specs.Texts.{AllHold, texts}
-use Rattle.worked.proofs.Worked.{worked, worked-gaps, worked-reasons}
+use Rattle.worked.proofs.Worked.{worked, worked-fields, worked-gaps, worked-reasons}
 
 -- ---- the front of every call with a text
 
@@ -65,7 +66,7 @@ place-fit = texts-front.place-exactly
 
 -- ---- the numbers, and the reason of an escape
 
--- No call gives 3: a refusal's number is 1, 2 or one of 4 to 29 (`Given`), of every call (`skip-numbers` and its like).
+-- No call gives 3: a refusal's number is 1, 2, one of 4 to 29, or 31 (`Given`), of every call (`skip-numbers` and its like).
 pub never-3 : (r : Refusal) → Given r → r .number ≡ 3 → ⊥
 never-3 = never-three
 
@@ -88,3 +89,7 @@ reasons-hold = worked-reasons
 -- Those of change request 6: gaps as they are read, kept behind where a gap changes, and 23 where one is no distance.
 pub gaps-hold : AllHold gapTexts
 gaps-hold = worked-gaps
+
+-- Those of change request 2: fields that come again and those that do not, before and behind other refusals, and 23 where a raw name is none or an entry ends past the text.
+pub fields-hold : AllHold fieldTexts
+fields-hold = worked-fields

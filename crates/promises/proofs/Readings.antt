@@ -33,6 +33,8 @@ use Rattle.read.specs.Read.{fitted, laidBy, readAnswer, readTape, readingOf, to
 use Rattle.read.specs.declared.measure.ReadAnswer.{ReadAnswer}
 use Rattle.read.specs.declared.measure.ReadAnswer.the-variants.{Accepted, Refused}
 use Rattle.sarridok.proofs.ReadDetermined.{read-determined}
+use Rattle.fields.specs.Names.{rawsFit}
+use Rattle.tiled.proofs.RawTiles as raws
 use Rattle.reread.proofs.Walkable.{read-walkable}
 use Rattle.reread.proofs.WideNames.{read-nothing, starts-name}
 use Rattle.tiled.specs.Tiles.{Tiles}
@@ -57,7 +59,7 @@ read-tiles = tiles.read-tiles
 -- The gap of each entry is the distance from the former's end, or from the text's start.
 pub read-gaps : (text tape : List ℕ) (n : ℕ) → readAnswer text (length tape) ≡ accepted n → (k : ℕ) → k < n
     → formerEnd 0 (entriesOf n (readTape text tape)) k + entryAt (readTape text tape) k .gap ≡ entryAt (readTape text tape) k .start
-read-gaps text tape n h k below = gaps.ordered-gap (readTape text tape) n k below 65536 (read-walkable text tape n h)
+read-gaps text tape n h k below = gaps.ordered-gap (readTape text tape) n k below (length text) (read-walkable text tape n h)
 
 -- Plain tokens with a blank behind each, marks, names, decimal integers that fit and strings without quote or backslash, are read, and the tape holds
 -- exactly them.
@@ -65,9 +67,12 @@ pub read-plain : (text tape : List ℕ) (es : List Entry) → Spelt 0 text es �
     → (readAnswer text (length tape) ≡ accepted (length es)) × (entriesOf (length es) (readTape text tape) ≡ es)
 read-plain = spelt.spelt-read
 
--- The tape that an accepted read leaves is in order, so that `walk` never answers 23 of it.
-pub read-ordered : (text tape : List ℕ) (n : ℕ) → readAnswer text (length tape) ≡ accepted n → inOrder (entriesOf n (readTape text tape)) 65536 ≡ true
+-- The tape that an accepted read leaves is in order within the text, and its raw names are raw, so that `walk` over that text never answers 23 of it.
+pub read-ordered : (text tape : List ℕ) (n : ℕ) → readAnswer text (length tape) ≡ accepted n → inOrder (entriesOf n (readTape text tape)) (length text) ≡ true
 read-ordered = read-walkable
+
+pub read-raws : (text tape : List ℕ) (n : ℕ) → readAnswer text (length tape) ≡ accepted n → rawsFit text (entriesOf n (readTape text tape)) ≡ true
+read-raws = raws.read-raws
 
 -- ---- the call
 

@@ -17,8 +17,8 @@ unfolding meant
 meant-told answer.Walked = refl
 meant-told (answer.Refused r) = refl
 
-pub walk-determined : (tape : List ℕ) (count limit links : ℕ) (a b : WalkAnswer) → toldWalk a ≡ walkOf tape count limit links → toldWalk b ≡ walkOf tape count limit links → a ≡ b
-walk-determined tape count limit links a b p q = sym (meant-told a) ∙ ap meant (p ∙ sym q) ∙ meant-told b
+pub walk-determined : (text tape : List ℕ) (count limit links : ℕ) (a b : WalkAnswer) → toldWalk a ≡ walkOf text tape count limit links → toldWalk b ≡ walkOf text tape count limit links → a ≡ b
+walk-determined text tape count limit links a b p q = sym (meant-told a) ∙ ap meant (p ∙ sym q) ∙ meant-told b
 
-pub links-determined : (tape : List ℕ) (count limit : ℕ) (out a b : List ℕ) → a ≡ linksAfter tape count limit out → b ≡ linksAfter tape count limit out → a ≡ b
-links-determined tape count limit out a b p q = p ∙ sym q
+pub links-determined : (text tape : List ℕ) (count limit : ℕ) (out a b : List ℕ) → a ≡ linksAfter text tape count limit out → b ≡ linksAfter text tape count limit out → a ≡ b
+links-determined text tape count limit out a b p q = p ∙ sym q

@@ -33,7 +33,7 @@ use Rattle.sarridok_c.proofs.WalkPlaces.{walk-low}
 
 -- ---- widths and modes by their numbers
 
--- the number of a refusal is one of the table's, which ends at 29, and its reason at most 8
+-- the number of a refusal is one of the table's, which ends at 31, and its reason at most 8
 abbrev Listed : {A : Type 0} → Told A → Type 0
 Listed (accepted a) = Unit {0}
 Listed (refused r) = Short r
@@ -86,9 +86,9 @@ pub read-whole : (text : List ℕ) (numbers : ℕ) → Whole countWord countPart
 read-whole text numbers = got-back countWord countParts (λ a. refl) (readAnswer text numbers) (λ r e. given-low r (read-given text numbers r e)) (read-low text numbers)
 
 -- walk: nothing but a refusal
-pub walk-whole : (tape : List ℕ) (count limit links : ℕ) → Whole doneWord doneParts (walkOf tape count limit links)
-walk-whole tape count limit links =
-    got-back doneWord doneParts done-pair (walkOf tape count limit links) (λ r e. given-low r (walk-given tape count limit links r e)) (walk-low tape count limit links)
+pub walk-whole : (text tape : List ℕ) (count limit links : ℕ) → Whole doneWord doneParts (walkOf text tape count limit links)
+walk-whole text tape count limit links =
+    got-back doneWord doneParts done-pair (walkOf text tape count limit links) (λ r e. given-low r (walk-given text tape count limit links r e)) (walk-low text tape count limit links)
 
 -- repair: how many entries, over any tape
 pub repair-whole : (tape : List ℕ) (count o a b : ℕ) (text : List ℕ) → Whole repairedWord repairedParts (repairOf tape count o a b text)

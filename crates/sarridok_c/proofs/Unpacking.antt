@@ -35,7 +35,7 @@ module _ (high low : ℕ) (h : high < 2 ^ 31) (l : low < 2 ^ 32) where
 
 -- a refusal's number and reason are low
 abbrev pub Short : Refusal → Type 0
-Short r = (r .number ≤ 29) × (r .reason ≤ 8)
+Short r = (r .number ≤ 31) × (r .reason ≤ 8)
 
 -- from a refusal, with the top bit set
 pub unpack-refusal : (r : Refusal) → Short r → r .place < 2 ^ 32 → Refuses (refusalWord r) r
@@ -60,12 +60,12 @@ abbrev pub Low : {A : Type 0} → (A → Halves) → Told A → Type 0
 Low parts (accepted a) = (parts a .upper ≤ most) × (parts a .lower ≤ most)
 Low parts (refused r) = r .place ≤ most
 
--- no number of the table is above 29
-number-low : (r : Refusal) → given (r .number) ≡ true → r .number ≤ 29
+-- no number of the table is above 31
+number-low : (r : Refusal) → given (r .number) ≡ true → r .number ≤ 31
 unfolding given
 number-low r h =
-    either (or-cases (oneOf (1 ∷ 2 ∷ []) (r .number)) (within 4 29 (r .number)) h)
-    (λ e. leb-true (r .number) 29 (one-of-all (λ (n : ℕ). leb n 29) (1 ∷ 2 ∷ []) (r .number) refl e)) (λ e. within-true 4 29 (r .number) e .1)
+    either (or-cases (oneOf (1 ∷ 2 ∷ 31 ∷ []) (r .number)) (within 4 29 (r .number)) h)
+    (λ e. leb-true (r .number) 31 (one-of-all (λ (n : ℕ). leb n 31) (1 ∷ 2 ∷ 31 ∷ []) (r .number) refl e)) (λ e. omega (arith, within-true 4 29 (r .number) e .1))
 
 -- and no reason above 8
 pub given-low : (r : Refusal) → Given r → Short r

@@ -1,11 +1,12 @@
--- The numbers of walk are low: an entry's number is no higher than the count, and entries in order within 65,536 are no more. Assumes nothing.
+-- The numbers of walk are low: an entry's number is no higher than the count, and entries in order within a text are no more than its bytes. Assumes nothing.
 use Prim.Native.Nat.{ℕ, _+_, _≤_}
 use native.Mathlib.Omega.{arith}
+use mathlib.Core.Bool.{_&&_}
 use mathlib.Core.List.{List, [], _∷_}
 use mathlib.Core.Path.{_≡_, refl}
 use lib.Dec.{ltb}
 use lib.ListN.{length}
-use Rattle.text.proofs.Choices.{cond-cases}
+use Rattle.text.proofs.Choices.{and-true, cond-cases}
 use Rattle.rows.proofs.OrderLaws.{in-order-short}
 use Rattle.rows.specs.Order.{inOrder}
 use Rattle.rows.specs.Rows.{entriesOf, roomOf}
@@ -22,10 +23,15 @@ use Rattle.grammar.specs.declared.states.Want.{Want}
 use Rattle.grammar.specs.declared.states.Want.the-variants.{Start, Must, Item, First, FirstName, Named, Behind, Field, FieldName}
 use Rattle.grammar.specs.declared.states.Move.{Move}
 use Rattle.grammar.specs.declared.states.Move.the-variants.{Stay, Push, Pop, Bad}
+use Rattle.fields.specs.Fields.{againOf, byAgain, namedWalk}
+use Rattle.fields.specs.Names.{nameAt, rawsFit}
+use Rattle.fields.specs.declared.again.Again.{Again}
+use Rattle.fields.specs.declared.again.Again.the-variants.{Nowhere, At}
+use Rattle.fields.proofs.Beginnings.{found-inside}
 use Rattle.given.proofs.Both.{both}
 use Rattle.sarridok.specs.Walked.{behindWalkFront, judged, walkOf}
 use Rattle.sarridok_c.specs.Whole.{doneParts}
-use Rattle.sarridok_c.proofs.Unpacking.{Low}
+use Rattle.sarridok_c.proofs.Unpacking.{Low, behind-judged}
 
 -- ---- a verdict names an entry, or the count
 
@@ -79,14 +85,26 @@ judged-low : (v : Verdict) → Within 65536 v → Low doneParts (judged v)
 judged-low Accepted h = (omega arith, omega arith)
 judged-low (Refused r) h = omega arith
 
-pub walk-low : (tape : List ℕ) (count limit links : ℕ) → Low doneParts (walkOf tape count limit links)
+-- with the names of fields too
+again-within : (a : Again) (v : Verdict) (m : ℕ) → ((j : ℕ) → a ≡ At j → j ≤ m) → Within m v → Within m (byAgain a v)
+again-within Nowhere v m h w = w
+again-within (At j) Accepted m h w = h j refl
+again-within (At j) (Refused r) m h w = both (Within m) (ltb j (r .place)) (h j refl) w
+
+named-within : (nm : ℕ → List ℕ) (ks : List Kind) (limit m : ℕ) → length ks ≤ m → Within m (namedWalk nm ks limit)
+named-within nm ks limit m h =
+    again-within (againOf nm ks) (verdictOf ks limit) m (λ j e. omega (arith, found-inside nm ks j e)) (check-within ks limit Start Top [] 0 m (omega arith))
+
+pub walk-low : (text tape : List ℕ) (count limit links : ℕ) → Low doneParts (walkOf text tape count limit links)
 unfolding walkOf behindWalkFront inOrder
-walk-low tape count limit links =
+walk-low text tape count limit links =
     let es = entriesOf count tape in
-    let v = verdictOf (kindsOf es) limit in
+    let nm = nameAt text tape in
+    behind-judged doneParts text _ λ l.
     both (Low doneParts) (ltb 128 limit) (omega arith)
     (both (Low doneParts) (ltb (roomOf (length tape)) count) (omega arith)
-    (cond-cases (Low doneParts) (inOrder es 65536) _ _
+    (cond-cases (Low doneParts) (inOrder es (length text) && rawsFit text es) _ _
     (λ e. both (Low doneParts) (ltb links count) (omega arith)
-    (judged-low v (check-within (kindsOf es) limit Start Top [] 0 65536 (omega (arith, kinds-many es, in-order-short es 0 65536 e)))))
+    (judged-low (namedWalk nm (kindsOf es) limit)
+    (named-within nm (kindsOf es) limit 65536 (omega (arith, kinds-many es, in-order-short es 0 (length text) (and-true (inOrder es (length text)) (rawsFit text es) e .0), l)))))
     (λ e. omega arith)))

@@ -16,11 +16,17 @@ fn word(answer: WalkAnswer) -> u64
     }
 }
 
-// Joins the brackets of a tape, at most `limit` of them open at once. Its answer is 0; the links are written.
+// Joins the brackets of a tape, at most `limit` of them open at once, and no field named again in its ( ). Its answer is 0; the links are written.
 #[no_mangle]
-pub extern "C" fn sarridok_walk(tape: &[u32], count: usize, limit: usize, links: &mut [u32]) -> u64
-    ensures { λ r. ⌜ (r ≡ packed doneWord (walkOf (now (tape .entry)) count limit (length (now (links .entry)))))
-        × (now (links .exit) ≡ linksAfter (now (tape .entry)) count limit (now (links .entry))) ⌝ }
+pub extern "C" fn sarridok_walk(
+    text: &[u8],
+    tape: &[u32],
+    count: usize,
+    limit: usize,
+    links: &mut [u32],
+) -> u64
+    ensures { λ r. ⌜ (r ≡ packed doneWord (walkOf (now (text .entry)) (now (tape .entry)) count limit (length (now (links .entry)))))
+        × (now (links .exit) ≡ linksAfter (now (text .entry)) (now (tape .entry)) count limit (now (links .entry))) ⌝ }
 {
-    word(sarridok::walk(tape, count, limit, links))
+    word(sarridok::walk(text, tape, count, limit, links))
 }

@@ -28,10 +28,9 @@ use Rattle.words.specs.declared.list.Count.{Count}
 use Rattle.words.specs.declared.list.Count.the-variants as count
 use Rattle.words.specs.declared.number.Decimal.{Decimal}
 use Rattle.words.specs.declared.number.Decimal.the-variants as number
-use Rattle.words.proofs.SaidLaws.{list-said}
 use Rattle.lent.proofs.MarkLaws.{marked-length}
-use Rattle.words.proofs.SaidLaws.{part-said}
-use Rattle.lines.proofs.LineLaws.{line3, line4}
+use Rattle.words.proofs.SaidLaws.{part-said, tape-said}
+use Rattle.lines.proofs.LineLaws.{line4}
 use Rattle.tapes.specs.Walks.{asked, linksLeft, walkedText, walksText, walkIn, readWalk, walkOfText, walkLine, frontOf, bySaid, anyLine}
 use Rattle.tapes.specs.declared.walks.Asked.{Asked}
 use Rattle.tapes.specs.declared.walk_any.Said.{Said}
@@ -39,32 +38,32 @@ use Rattle.tapes.specs.declared.walk_any.Said.the-variants.{Asks, Bad}
 
 -- ---- a walk into marked links
 
-module _ (tape : List ℕ) (q : Asked) (links before left : List ℕ) (m : before ≡ marked markAt (length links) 0 links)
-    (e : left ≡ linksAfter tape (q .count) (q .limit) before) where
-  pub links-left : left ≡ linksLeft tape q links
+module _ (text tape : List ℕ) (q : Asked) (links before left : List ℕ) (m : before ≡ marked markAt (length links) 0 links)
+    (e : left ≡ linksAfter text tape (q .count) (q .limit) before) where
+  pub links-left : left ≡ linksLeft text tape q links
   unfolding linksLeft
-  links-left = e ∙ ap (linksAfter tape (q .count) (q .limit)) m
+  links-left = e ∙ ap (linksAfter text tape (q .count) (q .limit)) m
 
   module _ (out mid end : List ℕ × ℕ) (clean : Bool) (z : end ≡ put mid (cleanText clean)) where
     -- what was toldWalk is the walk's answer
-    by-told : (a : Told Unit) → a ≡ walkOf tape (q .count) (q .limit) (length before) → end ≡ put out (walkedText a (q .count) left)
-        → end ≡ put out (walksText tape q links)
+    by-told : (a : Told Unit) → a ≡ walkOf text tape (q .count) (q .limit) (length before) → end ≡ put out (walkedText a (q .count) left)
+        → end ≡ put out (walksText text tape q links)
     unfolding walksText
     by-told a t s =
         let same : length before ≡ length links = ap length m ∙ marked-length markAt (length links) 0 links in
-        s ∙ ap (λ (x : Told Unit). put out (walkedText x (q .count) left)) (t ∙ ap (walkOf tape (q .count) (q .limit)) same)
-        ∙ ap (λ (x : List ℕ). put out (walkedText (walkOf tape (q .count) (q .limit) (length links)) (q .count) x)) links-left
+        s ∙ ap (λ (x : Told Unit). put out (walkedText x (q .count) left)) (t ∙ ap (walkOf text tape (q .count) (q .limit)) same)
+        ∙ ap (λ (x : List ℕ). put out (walkedText (walkOf text tape (q .count) (q .limit) (length links)) (q .count) x)) links-left
 
-    pub walked-said : (a : WalkAnswer) → toldWalk a ≡ walkOf tape (q .count) (q .limit) (length before) → a ≡ answer.Walked → (s : List ℕ) → s ≡ take (q .count) left
+    pub walked-said : (a : WalkAnswer) → toldWalk a ≡ walkOf text tape (q .count) (q .limit) (length before) → a ≡ answer.Walked → (s : List ℕ) → s ≡ take (q .count) left
         → mid ≡ put out (linksText s) → clean ≡ keptFrom markAt (drop (q .count) left) (q .count)
-        → end ≡ put out (walksText tape q links)
+        → end ≡ put out (walksText text tape q links)
     walked-said a t g s f p k =
         by-told (accepted tt) (sym (ap (λ (x : WalkAnswer). toldWalk x) g) ∙ t)
         (then out mid end (linksText s) (cleanText clean) p z ∙ ap (λ (x : List ℕ). put out (linksText x ++ cleanText clean)) f
         ∙ ap (λ (b : Bool). put out (linksText (take (q .count) left) ++ cleanText b)) k)
 
-    pub refused-said : (a : WalkAnswer) → toldWalk a ≡ walkOf tape (q .count) (q .limit) (length before) → (r : Refusal) → a ≡ answer.Refused r
-        → mid ≡ put out (refusedText r) → clean ≡ keptFrom markAt left 0 → end ≡ put out (walksText tape q links)
+    pub refused-said : (a : WalkAnswer) → toldWalk a ≡ walkOf text tape (q .count) (q .limit) (length before) → (r : Refusal) → a ≡ answer.Refused r
+        → mid ≡ put out (refusedText r) → clean ≡ keptFrom markAt left 0 → end ≡ put out (walksText text tape q links)
     refused-said a t r g p k =
         by-told (refused r) (sym (ap (λ (x : WalkAnswer). toldWalk x) g) ∙ t)
         (then out mid end (refusedText r) (cleanText clean) p z ∙ ap (λ (b : Bool). put out (refusedText r ++ cleanText b)) k)
@@ -98,7 +97,7 @@ module _ (words : List ℕ) where
       → number.Value count ≡ decimalOf (firstWord (behindWord (behindWord words))) → Asks (asked count limit room) ≡ frontOf words
   front-asks limit room count e f g = front-is (number.Value limit) (number.Value room) (number.Value count) e f g
 
--- ---- `W LIMIT LINKS COUNT N,N,..`
+-- ---- `W LIMIT LINKS COUNT HEX N,N,..`
 
 -- the fourth word and those behind it
 abbrev pub behind3 : List ℕ → List ℕ
@@ -107,45 +106,65 @@ behind3 words = behindWord (behindWord (behindWord words))
 pub behinds : (words a b d : List ℕ) → a ≡ behindWord words → b ≡ behindWord a → d ≡ behindWord b → d ≡ behind3 words
 behinds words a b d e f g = g ∙ ap (λ (s : List ℕ). behindWord s) f ∙ ap (λ (s : List ℕ). behindWord (behindWord s)) e
 
-module _ (words tape links : List ℕ) where
+-- the fourth word, and the list behind it
+abbrev pub word4 : List ℕ → List ℕ
+word4 words = firstWord (behind3 words)
+
+abbrev pub behind4 : List ℕ → List ℕ
+behind4 words = behindWord (behind3 words)
+
+module _ (words text tape links : List ℕ) where
+  -- what the rooms for text and tape hold afterwards
+  abbrev heldText : List ℕ
+  heldText = over (pairs (word4 words)) text
+
+  abbrev heldTape : List ℕ
+  heldTape = over (numbersOf (behind4 words)) tape
+
+  abbrev any-own : Asked → List ℕ → List ℕ → List ℕ × List ℕ × List ℕ × List ℕ
+  any-own q s t = (walkIn s t q links .0, heldText, heldTape, walkIn s t q links .1)
+
   -- by what the words say
-  abbrev any-by : Said → Count → List ℕ × List ℕ × List ℕ
-  any-by s k =
-      bySaid s (badText, tape, links) (λ q.
-      let walk = walkIn (numbersOf (behind3 words)) q links in
-      byList k (badText, over (numbersOf (behind3 words)) tape, links) (walk .0, over (numbersOf (behind3 words)) tape, walk .1))
+  abbrev any-by : Said → Hex → Count → List ℕ × List ℕ × List ℕ × List ℕ
+  any-by d h k =
+      bySaid d (badText, text, tape, links) (λ q.
+      byHex h (badText, heldText, tape, links) (byList k (badText, heldText, heldTape, links) (any-own q (pairs (word4 words)) (numbersOf (behind4 words)))))
 
-  any-is : anyLine words tape links ≡ any-by (frontOf words) (numbersIn (behind3 words) (length tape))
+  any-is : (d : Said) (h : Hex) (k : Count) → frontOf words ≡ d → hexIn (word4 words) (length text) ≡ h → numbersIn (behind4 words) (length tape) ≡ k
+      → anyLine words text tape links ≡ any-by d h k
   unfolding anyLine
-  any-is = refl
+  any-is d h k e f g =
+      ap (λ (x : Said). any-by x (hexIn (word4 words) (length text)) (numbersIn (behind4 words) (length tape))) e
+      ∙ ap (λ (x : Hex). any-by d x (numbersIn (behind4 words) (length tape))) f ∙ ap (λ (x : Count). any-by d h x) g
 
-  pub any-no-front : frontOf words ≡ Bad → anyLine words tape links ≡ (badText, tape, links)
-  any-no-front e = any-is ∙ ap (λ (s : Said). any-by s (numbersIn (behind3 words) (length tape))) e
+  pub any-no-front : frontOf words ≡ Bad → anyLine words text tape links ≡ (badText, text, tape, links)
+  any-no-front e = any-is Bad _ _ e refl refl
 
   module _ (q : Asked) (e : frontOf words ≡ Asks q) where
-    pub any-bad : numbersIn (behind3 words) (length tape) ≡ count.Bad → anyLine words tape links ≡ (badText, over (numbersOf (behind3 words)) tape, links)
-    any-bad f =
-        any-is ∙ ap (λ (s : Said). any-by s (numbersIn (behind3 words) (length tape))) e ∙ ap (λ (k : Count). any-by (Asks q) k) f
+    pub any-no-text : hexIn (word4 words) (length text) ≡ hex.Bad → anyLine words text tape links ≡ (badText, heldText, tape, links)
+    any-no-text f = any-is (Asks q) hex.Bad _ e f refl
 
-    pub any-good : (n : ℕ) → numbersIn (behind3 words) (length tape) ≡ count.Stored n → (t : List ℕ) → t ≡ numbersOf (behind3 words)
-        → anyLine words tape links ≡ (walkIn t q links .0, over (numbersOf (behind3 words)) tape, walkIn t q links .1)
-    any-good n f t g =
-        any-is ∙ ap (λ (s : Said). any-by s (numbersIn (behind3 words) (length tape))) e ∙ ap (λ (k : Count). any-by (Asks q) k) f
-        ∙ ap (λ (u : List ℕ). (walkIn u q links .0, over (numbersOf (behind3 words)) tape, walkIn u q links .1)) (sym g)
+    module _ (n : ℕ) (f : hexIn (word4 words) (length text) ≡ hex.Bytes n) where
+      pub any-no-tape : numbersIn (behind4 words) (length tape) ≡ count.Bad → anyLine words text tape links ≡ (badText, heldText, heldTape, links)
+      any-no-tape g = any-is (Asks q) (hex.Bytes n) count.Bad e f g
 
-    pub any-goes : (n : ℕ) → numbersIn (behind3 words) (length tape) ≡ count.Stored n → (left t after : List ℕ) (out end : List ℕ × ℕ)
-        → left ≡ over (numbersOf (behind3 words)) tape → t ≡ take n left
-        → (end ≡ put out (walkIn t q links .0)) × (after ≡ walkIn t q links .1)
-        → (end ≡ put out (anyLine words tape links .0)) × (left ≡ anyLine words tape links .1) × (after ≡ anyLine words tape links .2)
-    any-goes n h left t after out end f g a =
-        line3 out end (walkIn t q links .0) left after (over (numbersOf (behind3 words)) tape) (walkIn t q links .1) (anyLine words tape links)
-        (any-good n h t (g ∙ ap (λ (l : List ℕ). take n l) f ∙ list-said (behind3 words) tape n h)) (a .0) f (a .1)
+      pub any-goes : (m : ℕ) → numbersIn (behind4 words) (length tape) ≡ count.Stored m → (left s stored t after : List ℕ) (out end : List ℕ × ℕ)
+          → left ≡ heldText → s ≡ take (n - 0) left → stored ≡ heldTape → t ≡ take m stored
+          → (end ≡ put out (walkIn s t q links .0)) × (after ≡ walkIn s t q links .1)
+          → (end ≡ put out (anyLine words text tape links .0)) × (left ≡ anyLine words text tape links .1) × (stored ≡ anyLine words text tape links .2)
+          × (after ≡ anyLine words text tape links .3)
+      any-goes m g left s stored t after out end l ls r rt a =
+          let same-text : s ≡ pairs (word4 words) = part-said (word4 words) text left s n f l ls in
+          let same-tape : t ≡ numbersOf (behind4 words) = tape-said (behind4 words) tape stored t m g r rt in
+          line4 out end (walkIn s t q links .0) left stored after heldText heldTape (walkIn s t q links .1) (anyLine words text tape links)
+          (any-is (Asks q) (hex.Bytes n) (count.Stored m) e f g ∙ ap (λ (u : List ℕ). any-own q u (numbersOf (behind4 words))) (sym same-text) ∙ ap (λ (u : List ℕ). any-own q s u) (sym same-tape))
+          (a .0) l r (a .1)
 
 -- ---- a text that is read, then walked
 
 module _ (text tape links : List ℕ) (limit : ℕ) (left : List ℕ) (e : left ≡ readTape text tape) (out end : List ℕ × ℕ) (after : List ℕ) where
   abbrev Walks : Told ℕ → List ℕ → Type 0
-  Walks a read = (end ≡ put out (readWalk a limit read links .0)) × (after ≡ readWalk a limit read links .1)
+  Walks a read = (end ≡ put out (readWalk a text limit read links .0)) × (after ≡ readWalk a text limit read links .1)
 
   abbrev Walked : Type 0
   Walked = (end ≡ put out (walkOfText text limit tape links .0)) × (left ≡ readTape text tape) × (after ≡ walkOfText text limit tape links .1)
@@ -153,15 +172,15 @@ module _ (text tape links : List ℕ) (limit : ℕ) (left : List ℕ) (e : left 
   pub read-walked : (a : Told ℕ) → a ≡ readAnswer text (length tape) → Walks a left → Walked
   unfolding walkOfText
   read-walked a t w =
-      let same : readWalk a limit left links ≡ walkOfText text limit tape links =
-      ap (λ (x : Told ℕ). readWalk x limit left links) t ∙ ap (λ (x : List ℕ). readWalk (readAnswer text (length tape)) limit x links) e in
+      let same : readWalk a text limit left links ≡ walkOfText text limit tape links =
+      ap (λ (x : Told ℕ). readWalk x text limit left links) t ∙ ap (λ (x : List ℕ). readWalk (readAnswer text (length tape)) text limit x links) e in
       (w .0 ∙ ap (λ (x : List ℕ × List ℕ). put out (x .0)) same, e, w .1 ∙ ap (λ (x : List ℕ × List ℕ). x .1) same)
 
   pub accepted-walked : (n : ℕ) → accepted n ≡ readAnswer text (length tape) → (q : Asked) → q ≡ asked n limit (min n 65536 + 16)
-      → (end ≡ put out (walkIn left q links .0)) × (after ≡ walkIn left q links .1) → Walked
+      → (end ≡ put out (walkIn text left q links .0)) × (after ≡ walkIn text left q links .1) → Walked
   accepted-walked n t q f w =
       read-walked (accepted n) t
-      (w .0 ∙ ap (λ (x : Asked). put out (walkIn left x links .0)) f, w .1 ∙ ap (λ (x : Asked). walkIn left x links .1) f)
+      (w .0 ∙ ap (λ (x : Asked). put out (walkIn text left x links .0)) f, w .1 ∙ ap (λ (x : Asked). walkIn text left x links .1) f)
 
 -- ---- `w LIMIT HEX`
 

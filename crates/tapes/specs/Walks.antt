@@ -1,4 +1,4 @@
--- `w LIMIT HEX` and `W LIMIT LINKS COUNT N,N,..`: a tape walked into marked links.
+-- `w LIMIT HEX` and `W LIMIT LINKS COUNT HEX N,N,..`: a tape walked into marked links, over a text.
 use Prim.Native.Nat.{ℕ, _+_, min}
 use mathlib.Core.List.{List, _++_}
 use lib.ListN.{length, take, drop}
@@ -23,8 +23,8 @@ abbrev pub asked : ℕ → ℕ → ℕ → Asked
 asked count limit room = record { count = count; limit = limit; room = room }
 
 -- The links behind a walk: marked before it.
-unfoldable pub linksLeft : List ℕ → Asked → List ℕ → List ℕ
-linksLeft tape q links = linksAfter tape (q .count) (q .limit) (marked markAt (length links) 0 links)
+unfoldable pub linksLeft : List ℕ → List ℕ → Asked → List ℕ → List ℕ
+linksLeft text tape q links = linksAfter text tape (q .count) (q .limit) (marked markAt (length links) 0 links)
 
 -- A refused walk may change no link, an accepted one none behind the count.
 abbrev pub walkedText : Told Unit → ℕ → List ℕ → List ℕ
@@ -32,23 +32,23 @@ walkedText (accepted u) count left = linksText (take count left) ++ cleanText (k
 walkedText (refused r) count left = refusedText r ++ cleanText (keptFrom markAt left 0)
 
 -- The answer, and whether the walk left all marks that it may not change.
-unfoldable pub walksText : List ℕ → Asked → List ℕ → List ℕ
-walksText tape q links = walkedText (walkOf tape (q .count) (q .limit) (length links)) (q .count) (linksLeft tape q links)
+unfoldable pub walksText : List ℕ → List ℕ → Asked → List ℕ → List ℕ
+walksText text tape q links = walkedText (walkOf text tape (q .count) (q .limit) (length links)) (q .count) (linksLeft text tape q links)
 
 -- What is said with so many links, or all that there are, and all afterwards.
-unfoldable pub walkIn : List ℕ → Asked → List ℕ → List ℕ × List ℕ
-walkIn tape q links =
+unfoldable pub walkIn : List ℕ → List ℕ → Asked → List ℕ → List ℕ × List ℕ
+walkIn text tape q links =
     let lent = take (q .room) links in
-    (walksText tape q lent, linksLeft tape q lent ++ drop (q .room) links)
+    (walksText text tape q lent, linksLeft text tape q lent ++ drop (q .room) links)
 
 -- The walk of a text that was read, into as many links as there are entries and a few behind them; the links afterwards.
-abbrev pub readWalk : Told ℕ → ℕ → List ℕ → List ℕ → List ℕ × List ℕ
-readWalk (accepted n) limit tape links = walkIn tape (asked n limit (min n 65536 + 16)) links
-readWalk (refused r) limit tape links = (refusedText r, links)
+abbrev pub readWalk : Told ℕ → List ℕ → ℕ → List ℕ → List ℕ → List ℕ × List ℕ
+readWalk (accepted n) text limit tape links = walkIn text tape (asked n limit (min n 65536 + 16)) links
+readWalk (refused r) text limit tape links = (refusedText r, links)
 
 -- A text read into a tape, which is then walked: what is said, and the links afterwards.
 unfoldable pub walkOfText : List ℕ → ℕ → List ℕ → List ℕ → List ℕ × List ℕ
-walkOfText text limit tape links = readWalk (readAnswer text (length tape)) limit (readTape text tape) links
+walkOfText text limit tape links = readWalk (readAnswer text (length tape)) text limit (readTape text tape) links
 
 -- `w LIMIT HEX`: a text read, then walked. What is said, and the rooms for the text, the tape and the links afterwards.
 unfoldable pub walkLine : List ℕ → List ℕ → List ℕ → List ℕ → List ℕ × List ℕ × List ℕ × List ℕ
@@ -73,12 +73,15 @@ abbrev pub bySaid : {A : Type 0} → Said → A → (Asked → A) → A
 bySaid (Asks q) bad own = own q
 bySaid Bad bad own = bad
 
--- `W LIMIT LINKS COUNT N,N,..`: any tape. What is said, and the rooms for the tape and the links afterwards.
-unfoldable pub anyLine : List ℕ → List ℕ → List ℕ → List ℕ × List ℕ × List ℕ
-anyLine words tape links =
+-- `W LIMIT LINKS COUNT HEX N,N,..`: any tape and any text. What is said, and the rooms for the text, the tape and the links afterwards.
+unfoldable pub anyLine : List ℕ → List ℕ → List ℕ → List ℕ → List ℕ × List ℕ × List ℕ × List ℕ
+anyLine words text tape links =
     let four = behindWord (behindWord (behindWord words)) in
-    bySaid (frontOf words) (badText, tape, links) (λ q.
-    let stored = over (numbersOf four) tape in
-    byNumbers four (length tape) (badText, stored, links) (λ t.
-    let walk = walkIn t q links in
-    (walk .0, stored, walk .1)))
+    let five = behindWord four in
+    bySaid (frontOf words) (badText, text, tape, links) (λ q.
+    let left = over (pairs (firstWord four)) text in
+    byBytes (firstWord four) (length text) (badText, left, tape, links) (λ s.
+    let stored = over (numbersOf five) tape in
+    byNumbers five (length tape) (badText, left, stored, links) (λ t.
+    let walk = walkIn s t q links in
+    (walk .0, left, stored, walk .1))))

@@ -1,9 +1,11 @@
-// `W LIMIT LINKS COUNT N,N,..`: a walk of any tape, into that many links.
+// `W LIMIT LINKS COUNT HEX N,N,..`: a walk of any tape over any text, into that many links.
 ghost use mathlib.Core.Path.{_≡_};
 ghost use Rattle.lines.specs.Out.{put};
 ghost use Rattle.tapes.specs.Walks.{frontOf, anyLine};
 use crate::walks;
 use crate::walks::Asked;
+use words::hex;
+use words::hex::Hex;
 use words::list;
 use words::list::Count;
 use words::number;
@@ -40,19 +42,39 @@ fn front(words: &[u8]) -> Said
 }
 
 // `bad` where the line is no case, else the links or the refusal.
-pub fn answer(words: &[u8], tape: &mut [u32], links: &mut [u32], o: &mut [u8], at: usize) -> usize
-    ensures { λ r. ⌜ ((now (o .exit), r) ≡ put (now (o .entry), at) (anyLine (now (words .entry)) (now (tape .entry)) (now (links .entry)) .0))
-        × (now (tape .exit) ≡ anyLine (now (words .entry)) (now (tape .entry)) (now (links .entry)) .1)
-        × (now (links .exit) ≡ anyLine (now (words .entry)) (now (tape .entry)) (now (links .entry)) .2) ⌝ }
+pub fn answer(
+    words: &[u8],
+    text: &mut [u8],
+    tape: &mut [u32],
+    links: &mut [u32],
+    o: &mut [u8],
+    at: usize,
+) -> usize
+    ensures { λ r. ⌜ ((now (o .exit), r) ≡ put (now (o .entry), at)
+        (anyLine (now (words .entry)) (now (text .entry)) (now (tape .entry)) (now (links .entry)) .0))
+        × (now (text .exit) ≡ anyLine (now (words .entry)) (now (text .entry)) (now (tape .entry)) (now (links .entry)) .1)
+        × (now (tape .exit) ≡ anyLine (now (words .entry)) (now (text .entry)) (now (tape .entry)) (now (links .entry)) .2)
+        × (now (links .exit) ≡ anyLine (now (words .entry)) (now (text .entry)) (now (tape .entry)) (now (links .entry)) .3) ⌝ }
 {
     let asked = front(words);
     let Said::Asks(q) = asked else {
         return show::bad(o, at);
     };
     let words = words::behind(words::behind(words::behind(words)));
-    let last = list::numbers(words, tape);
-    let Count::Stored(n) = last else {
+    let bytes = hex::bytes(words::word(words), text);
+    let Hex::Bytes(n) = bytes else {
         return show::bad(o, at);
     };
-    walks::answer(list::first(&tape[..], n), q, links, o, at)
+    let last = list::numbers(words::behind(words), tape);
+    let Count::Stored(m) = last else {
+        return show::bad(o, at);
+    };
+    walks::answer(
+        lines::part(&text[..], 0, n),
+        list::first(&tape[..], m),
+        q,
+        links,
+        o,
+        at,
+    )
 }

@@ -47,7 +47,9 @@ fn walked(
 {
     let r = sarridok::read(text, tape);
     match r {
-        ReadAnswer::Accepted(n) => walks::answer(&tape[..], asked(n, limit), links, o, at),
+        ReadAnswer::Accepted(n) => {
+            walks::answer(text, &tape[..], asked(n, limit), links, o, at)
+        },
         ReadAnswer::Refused(f) => show::refused(o, at, f),
     }
 }

@@ -14,12 +14,12 @@ pub struct Asked {
 }
 
 // A refused walk may change no link, an accepted one none behind the count.
-fn walked(tape: &[u32], q: Asked, links: &mut [u32], o: &mut [u8], at: usize) -> usize
-    ensures { λ r. ⌜ ((now (o .exit), r) ≡ put (now (o .entry), at) (walksText (now (tape .entry)) q (now (links .entry))))
-        × (now (links .exit) ≡ linksLeft (now (tape .entry)) q (now (links .entry))) ⌝ }
+fn walked(text: &[u8], tape: &[u32], q: Asked, links: &mut [u32], o: &mut [u8], at: usize) -> usize
+    ensures { λ r. ⌜ ((now (o .exit), r) ≡ put (now (o .entry), at) (walksText (now (text .entry)) (now (tape .entry)) q (now (links .entry))))
+        × (now (links .exit) ≡ linksLeft (now (text .entry)) (now (tape .entry)) q (now (links .entry))) ⌝ }
 {
     numbers::mark(links);
-    let answer = sarridok::walk(tape, q.count, q.limit, links);
+    let answer = sarridok::walk(text, tape, q.count, q.limit, links);
     match answer {
         WalkAnswer::Walked => {
             let a = show::walk::links(o, at, list::first(&links[..], q.count));
@@ -33,13 +33,20 @@ fn walked(tape: &[u32], q: Asked, links: &mut [u32], o: &mut [u8], at: usize) ->
 }
 
 // More links than there can be entries are no more than all that there are.
-pub fn answer(tape: &[u32], q: Asked, links: &mut [u32], o: &mut [u8], at: usize) -> usize
-    ensures { λ r. ⌜ ((now (o .exit), r) ≡ put (now (o .entry), at) (walkIn (now (tape .entry)) q (now (links .entry)) .0))
-        × (now (links .exit) ≡ walkIn (now (tape .entry)) q (now (links .entry)) .1) ⌝ }
+pub fn answer(
+    text: &[u8],
+    tape: &[u32],
+    q: Asked,
+    links: &mut [u32],
+    o: &mut [u8],
+    at: usize,
+) -> usize
+    ensures { λ r. ⌜ ((now (o .exit), r) ≡ put (now (o .entry), at) (walkIn (now (text .entry)) (now (tape .entry)) q (now (links .entry)) .0))
+        × (now (links .exit) ≡ walkIn (now (text .entry)) (now (tape .entry)) q (now (links .entry)) .1) ⌝ }
 {
     let room = q.room;
     if room < links.len() {
-        return walked(tape, q, &mut links[0..room], o, at);
+        return walked(text, tape, q, &mut links[0..room], o, at);
     }
-    walked(tape, q, links, o, at)
+    walked(text, tape, q, links, o, at)
 }

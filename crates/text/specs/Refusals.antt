@@ -147,3 +147,7 @@ unfit = refusal 28 0
 -- 29: contents hold an escape or a line continuation.
 abbrev pub holdsEscape : Refusal
 holdsEscape = refusal 29 0
+
+-- 31: repeated field; entry number.
+abbrev pub repeatedField : ℕ → Refusal
+repeatedField j = refusal 31 j

@@ -6,7 +6,7 @@ ghost use Rattle.text.specs.Refusals.{refusal, placedBehind, tooLong, no
 ghost use Rattle.text.specs.Refusals.{underscoreAtBeginning, invalidIntegerDigit, integerOutOfBounds, expectedFloat, floatUnderscore};
 ghost use Rattle.text.specs.Refusals.{invalidEscape, expectedChar, expectedByteLiteral, expectedString, expectedStringEnd, expectedByteString};
 ghost use Rattle.text.specs.Refusals.{expectedAttribute, expectedAttributeEnd, noSuchExtension, noRoom, notInOrder, depthLimitPassed};
-ghost use Rattle.text.specs.Refusals.{notAllowedHere, tapeEndsEarly, otherKind, unfit, holdsEscape};
+ghost use Rattle.text.specs.Refusals.{notAllowedHere, tapeEndsEarly, otherKind, unfit, holdsEscape, repeatedField};
 
 // A refused call's number, reason and place; inside a part of the text the place is counted from the part's front. The reason is that of an escape, else 0.
 pub struct Refusal {
@@ -93,6 +93,8 @@ impl Refusal {
     pub const UNFIT: u8 = 28;
 
     pub const HOLDS_ESCAPE: u8 = 29;
+
+    pub const REPEATED_FIELD: u8 = 31;
 
     // 1: text over 65,536 bytes.
     pub fn too_long() -> Refusal
@@ -292,5 +294,12 @@ impl Refusal {
         ensures { λ r. ⌜ r ≡ holdsEscape ⌝ }
     {
         at(Self::HOLDS_ESCAPE, 0)
+    }
+
+    // 31: repeated field; entry number.
+    pub fn repeated_field(entry: usize) -> Refusal
+        ensures { λ r. ⌜ r ≡ repeatedField entry ⌝ }
+    {
+        at(Self::REPEATED_FIELD, entry)
     }
 }

@@ -5,3 +5,4 @@ pub mod IntegerForms
 pub mod AttributeForms
 pub mod TokenForms
 pub mod ReadTiles
+pub mod RawTiles

@@ -2,3 +2,11 @@ pub mod Rest
 pub mod Stacks
 pub mod JudgeLaws
 pub mod JoinLaws
+pub mod NamesReady
+pub mod AgainLaws
+pub mod NamedLaws
+pub mod FirstAgain
+pub mod GatherLaws
+pub mod ClosedLaws
+pub mod OpenLaws
+pub mod JudgeTurns

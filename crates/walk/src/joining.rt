@@ -1,7 +1,6 @@
 // The links of entries that are a document.
 use grammar::kinds::Side;
-use grammar::kinds::kind_of;
-use grammar::kinds::side_of;
+use grammar::kinds::side_at;
 use rows::row;
 ghost use mathlib.Core.Path.{_≡_};
 ghost use Prim.Native.Nat.{_≤_};
@@ -20,8 +19,7 @@ pub fn join(tape: &[u32], count: usize, links: &mut [u32])
     let mut open = [0usize; 128];
     let mut depth: usize = 0;
     for i in 0..count {
-        let kind = kind_of(row::entry(tape, i).kind);
-        match side_of(kind) {
+        match side_at(row::entry(tape, i).kind) {
             Side::Opens => {
                 links[i] = i as u32;
                 open[depth] = i;

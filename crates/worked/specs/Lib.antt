@@ -1,3 +1,4 @@
 pub mod Texts
 pub mod Reasons
 pub mod Gaps
+pub mod Fields

@@ -19,6 +19,7 @@ use Rattle.repair.specs.Repair.{Repaired, repairOf, repairedTape}
 use Rattle.sarridok.specs.Typed.{Typed, integerOf}
 use Rattle.sarridok.specs.Contents.{decodedAnswer, decodedOut}
 use Rattle.sarridok.specs.StructKind.{structKindOf}
+use Rattle.sarridok.specs.Walked.{walkOf, linksAfter}
 
 -- What a worked text says of a call: its arguments, its answer, and a lent slice afterwards.
 pub data Claim : Type 0 where
@@ -26,15 +27,18 @@ pub data Claim : Type 0 where
   types : List ℕ → Width → Told Typed → Claim
   decodes : List ℕ → List ℕ → List ℕ → Told ℕ → List ℕ → Claim
   repairs : List ℕ → ℕ → ℕ → ℕ → ℕ → List ℕ → Told Repaired → List ℕ → Claim
+  walks : List ℕ → List ℕ → ℕ → ℕ → List ℕ → Told Unit → List ℕ → Claim
   struct-is : List ℕ → NewtypeMode → TupleMode → Told StructType → Claim
 
 -- That it is so: a text read into a tape; typed at its front; the first of a tape's one entry decoded into a buffer; its struct kind at the
--- front; and the tape of an old text of so many bytes, of which those from a to b were replaced, repaired.
+-- front; the tape of an old text of so many bytes, of which those from a to b were replaced, repaired; and a text and so many entries of a tape walked with a
+-- limit, into links.
 abbrev pub Holds : Claim → Type 0
 Holds (reads text tape answer after) = (readAnswer text (length tape) ≡ answer) × (readTape text tape ≡ after)
 Holds (types text width answer) = integerOf text 0 width ≡ answer
 Holds (decodes text tape out answer after) = (decodedAnswer text tape 1 0 (length out) ≡ answer) × (decodedOut text tape 1 0 out ≡ after)
 Holds (repairs tape count old a b text answer after) = (repairOf tape count old a b text ≡ answer) × (repairedTape tape count old a b text ≡ after)
+Holds (walks text tape count limit links answer after) = (walkOf text tape count limit (length links) ≡ answer) × (linksAfter text tape count limit links ≡ after)
 Holds (struct-is text newtype tuple answer) = structKindOf text 0 newtype tuple ≡ answer
 
 -- That each of a list is so.

@@ -9,6 +9,22 @@ pub fn kinds(signs: &str) -> Vec<u32> {
     signs.bytes().map(|sign| 1 + SIGNS.iter().position(|s| *s == sign).expect("a sign of a kind") as u32).collect()
 }
 
+/// Text and tape of entries of these kinds, side by side: a name is a letter, behind `r#` if it is raw, and none of 52 comes again; any other entry is its sign.
+pub fn spelt(kinds: &[u32]) -> (Vec<u8>, Vec<u32>) {
+    let mut letters = (b'a'..=b'z').chain(b'A'..=b'Z').cycle();
+    let (mut text, mut tape) = (Vec::new(), Vec::new());
+    for &kind in kinds {
+        let start = text.len() as u32;
+        match kind {
+            9 => text.extend(letters.next()),
+            10 => text.extend(b"r#".iter().copied().chain(letters.next())),
+            _ => text.push(SIGNS[kind as usize - 1]),
+        }
+        tape.extend_from_slice(&[kind, start, text.len() as u32, 0, 0]);
+    }
+    (text, tape)
+}
+
 /// A document, or nearly one.
 pub fn document(r: &mut Random) -> Vec<u32> {
     let mut kinds = Vec::new();

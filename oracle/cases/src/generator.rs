@@ -3,7 +3,9 @@ use crate::documents::Draft;
 use crate::edits::Edit;
 use crate::random::Random;
 use crate::tapes::WIDTH;
-use crate::{alphabet, damage, edits, entries, gaps, limits, line, names, numbers, places, repairs, strings, tapes};
+use crate::{
+    alphabet, damage, edits, fields, gaps, limits, line, names, numbers, places, repairs, strings, tapes, walks,
+};
 
 /// One case in so many that have no short text has one at the size limit: one in 20,000 of all.
 const LIMITS: usize = 15_000;
@@ -24,6 +26,8 @@ pub fn case(seed: u64, n: u64, calls: &[u8], into: &mut Vec<u8>) {
     match call {
         b'p' => line::edit(into, &edit(&mut r, seed, round)),
         b'P' => line::repair(into, &repairs::any(&mut r)),
+        b'W' => line::walk_of(into, &walks::any(&mut r)),
+        b'w' if round % 2 == 1 => walk(&mut r, into),
         _ => {
             let sample = match round % 4 {
                 0 => Sample { text: short(&mut r, seed, round / 4, call), ..Sample::default() },
@@ -48,6 +52,19 @@ fn edit(r: &mut Random, seed: u64, round: u64) -> Edit {
         0 => edits::of_short_text(r, first_short(seed) + round / 4),
         _ => edits::any(r),
     }
+}
+
+/// A document of records, in which names come again, at times damaged.
+fn walk(r: &mut Random, into: &mut Vec<u8>) {
+    if r.once_in(LIMITS) {
+        return line::walk(into, tapes::limit(r), &limits::text(r));
+    }
+    let tokens = fields::document(r);
+    let mut text = fields::laid(r, &tokens).text;
+    if r.once_in(12) {
+        damage::damage(r, &mut text);
+    }
+    line::walk(into, fields::limit(r, &tokens), &text);
 }
 
 /// The short texts, from a place that the seed chooses, behind what makes the call look further;
@@ -169,11 +186,6 @@ fn write(r: &mut Random, call: u8, sample: &Sample, into: &mut Vec<u8>) {
         }
         b'R' => line::read_into(into, room(r, sample.entries), text),
         b'w' => line::walk(into, tapes::limit(r), text),
-        b'W' => {
-            let kinds = entries::document(r);
-            let asked = tapes::walk(r, &kinds);
-            line::walk_of(into, asked.limit, asked.links, asked.count, &asked.tape);
-        }
         _ => line::read(into, text),
     }
 }

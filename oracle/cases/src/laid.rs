@@ -98,7 +98,7 @@ impl Laid {
             1 => self.mark(r, b")]}"),
             2 => self.mark(r, b",:"),
             choice => {
-                self.token(r);
+                self.any_token(r);
                 if choice < 6 {
                     self.mark(r, b",,,:)(");
                 } else if r.once_in(3) {
@@ -108,7 +108,7 @@ impl Laid {
         }
     }
 
-    fn gap(&mut self, r: &mut Random) {
+    pub fn gap(&mut self, r: &mut Random) {
         self.text.extend_from_slice(r.pick(GAPS).as_bytes());
     }
 
@@ -124,7 +124,7 @@ impl Laid {
         }
     }
 
-    fn token(&mut self, r: &mut Random) {
+    fn any_token(&mut self, r: &mut Random) {
         if self.is_open() {
             self.gap(r);
         }
@@ -133,6 +133,14 @@ impl Laid {
         }
         let (kind, detail, token) = TOKENS[r.below(TOKENS.len())];
         self.entry(kind, detail, token.as_bytes());
+    }
+
+    /// This token, which joins none that stands there.
+    pub fn token(&mut self, r: &mut Random, kind: u32, detail: u32, token: &[u8]) {
+        if self.is_open() && kind > 8 {
+            self.gap(r);
+        }
+        self.entry(kind, detail, token);
     }
 
     fn entry(&mut self, kind: u32, detail: u32, token: &[u8]) {

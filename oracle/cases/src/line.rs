@@ -1,6 +1,7 @@
 //! A case line: the call's letter, then words.
 use crate::edits::Edit;
 use crate::repairs::Repair;
+use crate::walks::Walk;
 
 /// Appends ` ` and the number.
 pub fn number(line: &mut Vec<u8>, n: u64) {
@@ -98,13 +99,14 @@ pub fn walk(line: &mut Vec<u8>, limit: u64, text: &[u8]) {
     bytes(line, text);
 }
 
-/// `W LIMIT LINKS COUNT N,N,..`.
-pub fn walk_of(line: &mut Vec<u8>, limit: u64, links: u64, count: u64, numbers: &[u32]) {
+/// `W LIMIT LINKS COUNT HEX N,N,..`.
+pub fn walk_of(line: &mut Vec<u8>, walk: &Walk) {
     line.push(b'W');
-    number(line, limit);
-    number(line, links);
-    number(line, count);
-    tape(line, numbers);
+    number(line, walk.limit);
+    number(line, walk.links);
+    number(line, walk.count);
+    bytes(line, &walk.text);
+    tape(line, &walk.tape);
 }
 
 /// `p A B NEWHEX HEX`.

@@ -33,7 +33,8 @@ pub fn around(r: &mut Random, kind: u32, start: u32) -> Asked {
     Asked { entry: off(r, entry), count: off(r, entries), tape }
 }
 
-fn any(r: &mut Random) -> u32 {
+/// Any number: mostly a small one.
+pub fn any(r: &mut Random) -> u32 {
     match r.below(8) {
         0 => u32::MAX,
         1 => r.next() as u32,
@@ -42,53 +43,13 @@ fn any(r: &mut Random) -> u32 {
 }
 
 /// Mostly the number itself.
-fn off(r: &mut Random, n: usize) -> u64 {
+pub fn off(r: &mut Random, n: usize) -> u64 {
     match r.below(16) {
         0 => n as u64 + 1,
         1 => n.saturating_sub(1) as u64,
         2 => r.number(&[0, 1 << 32, PAST_64_BITS, 1 << 63, u64::MAX]),
         _ => n as u64,
     }
-}
-
-/// What a walk is asked: its limit, its links, a count and a tape.
-pub struct Walk {
-    pub limit: u64,
-    pub links: u64,
-    pub count: u64,
-    pub tape: Vec<u32>,
-}
-
-/// A walk over entries of these kinds, mostly with all in order; in one of five a gap is wrong.
-pub fn walk(r: &mut Random, kinds: &[u32]) -> Walk {
-    let mut tape = laid(r, kinds);
-    let entries = kinds.len();
-    match r.below(24) {
-        0 => tape.truncate(r.below(tape.len() + 1)),
-        1 if entries > 0 => {
-            let at = r.below(tape.len());
-            tape[at] = any(r);
-        }
-        2 => tape.resize(tape.len() + r.below(2 * WIDTH), 7),
-        3..=7 if entries > 0 => {
-            let entry = one_of(r, entries);
-            let line = r.below(tape[WIDTH * entry + 1] as usize + 1) as u32;
-            wrong_gap(r, row(&mut tape, entry), line);
-        }
-        _ => {}
-    }
-    let count = off(r, entries);
-    let links = match r.below(8) {
-        0 => small(off(r, entries)),
-        1 => entries as u64 + r.below(4) as u64,
-        _ => small(count),
-    };
-    Walk { limit: limit(r), links, count, tape }
-}
-
-/// Links that a program can hold.
-fn small(links: u64) -> u64 {
-    links.min(65_536)
 }
 
 /// A depth limit, mostly the largest or a small one.
@@ -100,13 +61,18 @@ pub fn limit(r: &mut Random) -> u64 {
     }
 }
 
-/// Entries of these kinds one behind the other, with and without a gap between.
+/// Entries of these kinds one behind the other, with and without a gap between, at times near the largest place.
 pub fn laid(r: &mut Random, kinds: &[u32]) -> Vec<u32> {
-    let mut tape = Vec::new();
-    let mut gap = match r.below(16) {
+    let gap = match r.below(16) {
         0 => 65_536 - kinds.len().min(100) as u32,
         _ => r.below(3) as u32,
     };
+    laid_from(r, kinds, gap)
+}
+
+/// The same behind so many bytes.
+pub fn laid_from(r: &mut Random, kinds: &[u32], mut gap: u32) -> Vec<u32> {
+    let mut tape = Vec::new();
     let mut end = 0;
     for &kind in kinds {
         let start = end + gap;

@@ -46,7 +46,7 @@ fn any_tape() {
     fn property(tape: Tape, text: Good, count: Near, limit: Near, entry: Near) {
         let (tape, text, rows) = (&tape.0, text.0, tape.0.len() / ENTRY);
         let (count, entry) = (count.of(rows), entry.of(rows));
-        let _ = checked_walk(tape, count, limit.of(MAX_DEPTH), rows);
+        let _ = checked_walk(text, tape, count, limit.of(MAX_DEPTH), rows);
         let mut out = [0xEE; 8];
         if let Err(refused) = decoded(text, tape, count, entry, &mut out) {
             is_refusal(refused, text);
@@ -101,6 +101,25 @@ fn repairs_are_fresh_readings() {
     }
     holds(4000, property as fn(Good, Cut, Piece));
     assert!(400 < ACCEPTED.load(Ordering::Relaxed), "hardly a repair was accepted");
+}
+
+/// The fields of a record, nested in each other as they come: refused exactly where a simple look finds a name again, if nothing is wrong before.
+#[test]
+fn records_name_each_field_once() {
+    static ONCE: AtomicU64 = AtomicU64::new(0);
+    static AGAIN: AtomicU64 = AtomicU64::new(0);
+    fn property(record: Record, limit: Near) {
+        let text = record.0.as_bytes();
+        let (tape, count) = checked_read(text).expect("a record is read");
+        match checked_walk(text, &tape, count, MAX_DEPTH, count) {
+            Ok(_) => ONCE.fetch_add(1, Ordering::Relaxed),
+            Err(refused) => AGAIN.fetch_add((refused.refusal == Refusal::RepeatedField).into(), Ordering::Relaxed),
+        };
+        let _ = checked_walk(text, &tape, count, limit.of(4), count);
+    }
+    holds(4000, property as fn(Record, Near));
+    let met = [&ONCE, &AGAIN].map(|met| met.load(Ordering::Relaxed));
+    assert!(met.iter().all(|met| 400 < *met), "hardly met: {met:?}");
 }
 
 /// What is refused has a reason exactly where an escape is not valid, the text is there as the reason says, and every call gives the same; each reason is met.

@@ -2,6 +2,7 @@
 #![allow(dead_code)]
 
 use sarridok::*;
+use std::collections::HashSet;
 use std::ops::Range;
 
 pub const MARK: u32 = 0xA5A5_A5A5;
@@ -105,26 +106,105 @@ pub fn in_order(tape: &[u32], count: usize, most: usize) -> bool {
     entries(tape, count).filter(|entry| follows(*entry)).count() == count && last <= most
 }
 
+/// The name of an entry: its bytes, of a raw name those behind `r#`. None where it is no name, or not of this text.
+fn name_of(text: &[u8], entry: Entry) -> Option<&[u8]> {
+    let bytes = text.get(entry.span())?;
+    match entry.kind {
+        Kind::Name => Some(bytes),
+        Kind::RawName => bytes.strip_prefix(b"r#").filter(|name| !name.is_empty()),
+        _ => None,
+    }
+}
+
+/// Whether every raw name of the first entries is `r#` with more behind it.
+fn raws_fit(text: &[u8], tape: &[u32], count: usize) -> bool {
+    entries(tape, count).all(|entry| entry.kind != Kind::RawName || name_of(text, entry).is_some())
+}
+
+/// What is refused before the grammar is asked, in its order.
+fn walk_front(text: &[u8], tape: &[u32], count: usize, limit: usize, room: usize) -> Option<Refused> {
+    if MAX_TEXT < text.len() {
+        return Some(Refused::new(Refusal::TooLong, 0));
+    }
+    if let Err(bad) = std::str::from_utf8(text) {
+        return Some(Refused::new(Refusal::NotUtf8, bad.valid_up_to()));
+    }
+    let unfit = [
+        (MAX_DEPTH < limit, Refusal::Unfit),
+        (
+            !in_order(tape, count, text.len()) || !raws_fit(text, tape, count),
+            Refusal::NotInOrder,
+        ),
+        (room < count, Refusal::NoRoom),
+    ];
+    let first = unfit.iter().find(|(holds, _)| *holds);
+    first.map(|(_, refusal)| Refused::new(*refusal, 0))
+}
+
+/// The first entry that names a field again, of entries that are a document up to there. What begins with a name and a colon is a `( )` of fields,
+/// and each name behind one of its commas a field.
+pub fn named_again(text: &[u8], tape: &[u32], count: usize) -> Option<usize> {
+    let all: Vec<Entry> = entries(tape, count).collect();
+    let kind = |i: usize| all.get(i).map(|entry| entry.kind);
+    let mut open: Vec<Option<HashSet<&[u8]>>> = Vec::new();
+    for (i, entry) in all.iter().enumerate() {
+        match entry.kind {
+            Kind::OpenParen => {
+                let named = kind(i + 1).map_or(false, |k| [Kind::Name, Kind::RawName].contains(&k));
+                open.push((named && kind(i + 2) == Some(Kind::Colon)).then(HashSet::new));
+            }
+            Kind::OpenBracket | Kind::OpenBrace => open.push(None),
+            Kind::CloseParen | Kind::CloseBracket | Kind::CloseBrace => drop(open.pop()),
+            _ => {
+                let may = 0 < i && [Some(Kind::OpenParen), Some(Kind::Comma)].contains(&kind(i - 1));
+                if let (true, Some(name), Some(Some(names))) = (may, name_of(text, *entry), open.last_mut()) {
+                    if !names.insert(name) {
+                        return Some(i);
+                    }
+                }
+            }
+        }
+    }
+    None
+}
+
 /// Walks at a limit, and asks what holds of every walk.
-pub fn checked_walk(tape: &[u32], count: usize, limit: usize, room: usize) -> Result<Vec<u32>, Refused> {
+pub fn checked_walk(text: &[u8], tape: &[u32], count: usize, limit: usize, room: usize) -> Result<Vec<u32>, Refused> {
     let mut links = vec![MARK; room];
-    let orderly = in_order(tape, count, MAX_TEXT);
-    match walk(tape, count, limit, &mut links) {
+    let front = walk_front(text, tape, count, limit, room);
+    let walked = walk(text, tape, count, limit, &mut links);
+    if front.is_some() {
+        assert_eq!(walked.err(), front);
+    }
+    match walked {
         Ok(()) => {
-            assert!(limit <= MAX_DEPTH && count <= room && orderly);
             assert!(links[count..].iter().all(|n| *n == MARK));
             for (i, link) in links[..count].iter().enumerate() {
                 assert_eq!(links[*link as usize] as usize, i);
             }
+            assert_eq!(named_again(text, tape, count), None);
             Ok(links)
         }
         Err(refused) => {
-            assert!((22..=28).contains(&refused.number()), "{refused}");
-            assert_eq!(refused.refusal == Refusal::NotInOrder, limit <= MAX_DEPTH && !orderly, "{refused}");
             has_its_reason(refused);
             assert!(links.iter().all(|n| *n == MARK));
+            if front.is_none() {
+                checked_verdict(refused, named_again(text, tape, count), count);
+            }
             Err(refused)
         }
+    }
+}
+
+/// A refusal of the grammar stands before every field that is named again, or is that field.
+fn checked_verdict(refused: Refused, again: Option<usize>, count: usize) {
+    match refused.refusal {
+        Refusal::RepeatedField => assert_eq!(Some(refused.place), again),
+        Refusal::DepthLimitPassed | Refusal::NotAllowedHere => {
+            assert!(refused.place < count && again.map_or(true, |i| refused.place < i), "{refused}");
+        }
+        Refusal::TapeEndsEarly => assert_eq!((refused.place, again), (count, None)),
+        _ => panic!("{refused}"),
     }
 }
 
@@ -221,7 +301,7 @@ pub fn all_calls(text: &[u8]) {
         checked_strings(text, &tape, count);
         checked_document(text, &tape, count);
         for limit in [0, 1, 2, MAX_DEPTH, MAX_DEPTH + 1, usize::MAX] {
-            let _ = checked_walk(&tape, count, limit, count);
+            let _ = checked_walk(text, &tape, count, limit, count);
         }
     }
 }

@@ -45,7 +45,7 @@ returns c =
     let answer : Told ℕ = readAnswer s (length t) in
     let out : List ℕ × ℕ = (c .before .before .before .before .before .before .before .before .before .before .before .before .before .before .before .before .before .before .before .args .o .now, 0) in (
       explained-accepted s t _ (c .before .before .before .before .before .before .before .before .before .before .before .before .before .read .result) (c .before .before .before .before .before .before .before .before .before .before .before .before .before .read .ensures .0) (c .before .before .before .before .before .before .before .before .before .before .before .before .before .read .ensures .1) out _ (length links) (c .before .before .before .before .before .before .before .before .before .r .given .0 .0) (c .before .before .before .before .before .before .before .before .before .r .given .1) (c .before .before .before .before .walked .ensures .0),
-      (c .before .before .before .before .before .before .before .before .before .before .before .before .before .read .ensures .1, links-accepted _ links _ answer (c .before .before .before .before .before .before .before .before .before .before .before .before .before .read .result) (c .before .before .before .before .before .before .before .before .before .before .before .before .before .read .ensures .0) (c .before .before .before .before .before .before .before .before .before .r .given .0 .0) (c .before .before .before .before .before .before .before .before .before .r .given .1) (c .before .before .before .before .walked .ensures .1)),
+      (c .before .before .before .before .before .before .before .before .before .before .before .before .before .read .ensures .1, links-accepted s _ links _ answer (c .before .before .before .before .before .before .before .before .before .before .before .before .before .read .result) (c .before .before .before .before .before .before .before .before .before .before .before .before .before .read .ensures .0) (c .before .before .before .before .before .before .before .before .before .r .given .0 .0) (c .before .before .before .before .before .before .before .before .before .r .given .1) (c .before .before .before .before .walked .ensures .1)),
     )
 
 same-length-4 : tie.Need-same-length-4
@@ -62,7 +62,7 @@ returns-2 c =
     let answer : Told ℕ = readAnswer s (length t) in
     let out : List ℕ × ℕ = (c .before .before .before .before .before .before .before .before .before .before .before .before .before .before .before .before .args .o .now, 0) in (
       explained-refused s t _ (c .before .before .before .before .before .before .before .before .before .before .read .result) (c .before .before .before .before .before .before .before .before .before .before .read .ensures .0) (c .before .before .before .before .before .before .before .before .before .before .read .ensures .1) out _ (length links) (c .before .before .before .before .before .before .r2 .given .0 .0) (c .before .before .before .before .before .before .r2 .given .1) (c .before .before .before .read-begun .result) (c .before .before .before .read-begun .ensures) (c .before .before .refused .ensures),
-      (c .before .before .before .before .before .before .before .before .before .before .read .ensures .1, links-refused _ links _ answer (c .before .before .before .before .before .before .before .before .before .before .read .result) (c .before .before .before .before .before .before .before .before .before .before .read .ensures .0) (c .before .before .before .before .before .before .r2 .given .0 .0) (c .before .before .before .before .before .before .r2 .given .1) refl),
+      (c .before .before .before .before .before .before .before .before .before .before .read .ensures .1, links-refused s _ links _ answer (c .before .before .before .before .before .before .before .before .before .before .read .result) (c .before .before .before .before .before .before .before .before .before .before .read .ensures .0) (c .before .before .before .before .before .before .r2 .given .0 .0) (c .before .before .before .before .before .before .r2 .given .1) refl),
     )
 
 pub explain-spec : {M : Type 1} → statement M

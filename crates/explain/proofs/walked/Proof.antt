@@ -43,7 +43,7 @@ returns c =
     let s : List ℕ = c .before .before .before .before .before .before .before .before .before .before .before .before .before .before .before .args .s .now in
     let t : List ℕ = c .before .before .before .before .before .before .before .before .before .before .before .before .before .before .before .args .tape .now in
     let n : ℕ = c .before .before .before .before .before .before .before .before .before .before .before .before .before .before .before .args .count in
-    let answer : Told Unit = walkOf t n 128 (length (c .before .before .before .before .before .before .before .before .before .before .before .before .before .before .before .args .links .now)) in
+    let answer : Told Unit = walkOf s t n 128 (length (c .before .before .before .before .before .before .before .before .before .before .before .before .before .before .before .args .links .now)) in
     let out : List ℕ × ℕ = (c .before .before .before .before .before .before .before .before .before .before .before .before .before .before .before .args .o .now, 0) in (
       walked-accepted s t n answer (c .before .before .before .before .before .before .before .before .before .walk .result) (c .before .before .before .before .before .before .before .before .before .walk .ensures .0) out _ (c .before .before .before .before .before .enum-told .given .1) (c .before .before .before .deepest .result) (c .before .before .before .deepest .ensures) (c .before .before .accepted .ensures),
       c .before .before .before .before .before .before .before .before .before .walk .ensures .1,
@@ -60,7 +60,7 @@ returns-2 c =
     let s : List ℕ = c .before .before .before .before .before .before .before .before .before .before .before .before .before .before .before .before .before .args .s .now in
     let t : List ℕ = c .before .before .before .before .before .before .before .before .before .before .before .before .before .before .before .before .before .args .tape .now in
     let n : ℕ = c .before .before .before .before .before .before .before .before .before .before .before .before .before .before .before .before .before .args .count in
-    let answer : Told Unit = walkOf t n 128 (length (c .before .before .before .before .before .before .before .before .before .before .before .before .before .before .before .before .before .args .links .now)) in
+    let answer : Told Unit = walkOf s t n 128 (length (c .before .before .before .before .before .before .before .before .before .before .before .before .before .before .before .before .before .args .links .now)) in
     let out : List ℕ × ℕ = (c .before .before .before .before .before .before .before .before .before .before .before .before .before .before .before .before .before .args .o .now, 0) in (
       walked-refused s t n answer (c .before .before .before .before .before .before .before .before .before .before .before .walk .result) (c .before .before .before .before .before .before .before .before .before .before .before .walk .ensures .0) out _ (c .before .before .before .before .before .before .before .r .given .0 .0) (c .before .before .before .before .before .before .before .r .given .1) (c .before .before .before .before .before .walk-place .result) (c .before .before .before .before .walk-begun .result) (c .before .before .before .before .before .walk-place .ensures) (c .before .before .before .before .walk-begun .ensures) (c .before .before .refused .ensures),
       c .before .before .before .before .before .before .before .before .before .before .before .walk .ensures .1,

@@ -33,7 +33,7 @@ fn readable(case: &str) -> String {
         Some(b'r') => 1,
         Some(b'R' | b'w') => 2,
         Some(b'i' | b'c') => 3,
-        Some(b'k' | b's' | b'C' | b'p') => 4,
+        Some(b'k' | b's' | b'C' | b'p' | b'W') => 4,
         _ => 5,
     };
     let hex = case.split(' ').nth(word).unwrap_or("");

@@ -1,15 +1,23 @@
-//! `laid COUNT SEED`: texts that `laid.rs` lays out and the answers that its tapes say, as lines of `corners.txt`.
+//! `laid COUNT SEED`: texts that `laid.rs` and `fields.rs` lay out and the answers that their tapes say, as lines of `corners.txt`.
 use std::io::{self, Write};
 
-use cases::{laid, line, random::Random, tapes::WIDTH};
+use cases::{fields, laid, line, random::Random, tapes::WIDTH};
 
 fn main() -> io::Result<()> {
     let mut words = std::env::args().skip(1).map(|word| word.parse::<u64>().unwrap_or(0));
     let (count, seed) = (words.next().unwrap_or(0), words.next().unwrap_or(0));
     for n in 0..count {
         let mut r = Random::of_case(seed, n);
-        let entries = r.below(30);
-        let laid = laid::text(&mut r, entries);
+        let laid = match n % 2 {
+            0 => {
+                let entries = r.below(30);
+                laid::text(&mut r, entries)
+            }
+            _ => {
+                let tokens = fields::document(&mut r);
+                fields::laid(&mut r, &tokens)
+            }
+        };
         let mut corner = Vec::new();
         line::read(&mut corner, &laid.text);
         write!(corner, "\tok {}", laid.tape.len() / WIDTH)?;

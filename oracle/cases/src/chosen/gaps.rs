@@ -1,4 +1,5 @@
 //! The gap before each entry (change request 6): what counts, the room of five numbers, 23 by a gap alone, and repairs whose gap changes at the join.
+use super::walk::walk_of_tape;
 use super::Lines;
 use crate::edits::Edit;
 use crate::limits::sized;
@@ -171,7 +172,7 @@ const TAPES: &[(u64, u64, u64, &[u32])] = &[
     (128, 2, 2, &[3, 0, 2, 0, 0, 4, 1, 3, 0, 1]),
     (128, 2, 2, &[3, 0, 2, 0, 0, 4, 1, 3, 0, 4294967295]),
     (128, 2, 2, &[3, 0, 1, 0, 0, 4, 0, 2, 0, 4294967295]),
-    (128, 2, 2, &[3, 0, 65535, 0, 0, 4, 1, 65536, 0, 4294901762]),
+    (128, 2, 2, &[3, 0, 4095, 0, 0, 4, 1, 4096, 0, 4294963202]),
     (128, 2, 2, &[3, 7, 9, 0, 7, 4, 3, 10, 0, 3]),
     // sums that pass 2^32
     (128, 1, 1, &[9, 0, 1, 0, 4294967295]),
@@ -188,10 +189,10 @@ const TAPES: &[(u64, u64, u64, &[u32])] = &[
     (128, 1, 1, &[9, 5, 5, 0, 5]),
     (128, 1, 1, &[9, 5, 4, 0, 5]),
     (128, 1, 1, &[17, 5, 6, 0, 5]),
-    (128, 1, 1, &[9, 65535, 65536, 0, 65535]),
-    (128, 1, 1, &[9, 65535, 65536, 0, 65534]),
-    (128, 1, 1, &[9, 65535, 65536, 0, 65536]),
-    (128, 1, 1, &[9, 65535, 65536, 0, 0]),
+    (128, 1, 1, &[9, 4095, 4096, 0, 4095]),
+    (128, 1, 1, &[9, 4095, 4096, 0, 4094]),
+    (128, 1, 1, &[9, 4095, 4096, 0, 4096]),
+    (128, 1, 1, &[9, 4095, 4096, 0, 0]),
     (128, 1, 1, &[9, 65535, 65537, 0, 65535]),
     // 28 comes first, then 23, then 22 and what the entries say
     (129, 1, 1, &[9, 1, 2, 0, 0]),
@@ -208,9 +209,7 @@ fn apart(kinds: &[u32]) -> Vec<u32> {
 }
 
 fn walk_of(lines: &mut Lines) {
-    let mut walk = |limit: u64, links: u64, count: u64, tape: &[u32]| {
-        lines.add(|l| line::walk_of(l, limit, links, count, tape));
-    };
+    let mut walk = |limit: u64, links: u64, count: u64, tape: &[u32]| walk_of_tape(lines, [limit, links, count], tape);
     for entry in 0..3 {
         for gap in taken_for_gap(LIST, entry) {
             walk(128, 3, 3, &with_gap(LIST, entry, gap));

@@ -1,5 +1,6 @@
 //! Cases chosen by hand, for the fixed list that a gate runs.
 mod contents;
+mod fields;
 mod gaps;
 mod integers;
 mod names;
@@ -50,5 +51,6 @@ pub fn lines(call: u8) -> Lines {
     names::lines(&mut lines, call);
     reasons::lines(&mut lines, call);
     gaps::lines(&mut lines, call);
+    fields::lines(&mut lines, call);
     lines
 }

@@ -1,9 +1,10 @@
 //! `w` and `W`: documents by module 10, and what is none.
 use super::{utf8, Lines};
-use crate::entries::kinds;
+use crate::entries::{kinds, spelt};
 use crate::limits::sized;
 use crate::line;
-use crate::tapes::PAST_64_BITS;
+use crate::tapes::{PAST_64_BITS, WIDTH};
+use crate::walks::Walk;
 
 /// Texts that are documents, by what stands in them.
 const DOCUMENTS: &[&str] = &[
@@ -130,9 +131,11 @@ const TAPES: &[(u64, u64, u64, &[u32])] = &[
 
 const NO_CASES: &[&str] = &[
     "w", "w 1", "w 1 ", "w  1 -", "w 1 3", "w 1 3A", "w x -", "w 18446744073709551616 -", "w 1 - -", "w -1 31", "W",
-    "W 1", "W 1 1", "W 1 1 1", "W 1 1 1 ", "W 1 1 1 x", "W 1 1 1 1,", "W 1 1 1 ,1", "W 1 1 1 1,,1", "W 1 1 1 - -",
-    "W 1 1 1 4294967296", "W 1 1 18446744073709551616 -", "W  1 1 1 -", "W 1 1 1 1 ,2", "W 1 x 1 -", "W - 1 1 -",
-    "W 1 18446744073709551616 1 -", "W 18446744073709551616 1 1 -",
+    "W 1", "W 1 1", "W 1 1 1", "W 1 1 1 -", "W 1 1 1 - ", "W 1 1 1 - x", "W 1 1 1 - 1,", "W 1 1 1 - ,1",
+    "W 1 1 1 - 1,,1", "W 1 1 1 - - -", "W 1 1 1 - 4294967296", "W 1 1 18446744073709551616 - -", "W  1 1 1 - -",
+    "W 1 1 1 - 1 ,2", "W 1 x 1 - -", "W - 1 1 - -", "W 1 18446744073709551616 1 - -", "W 18446744073709551616 1 1 - -",
+    "W 1 1 1 11,0,1,0,0", "W 1 1 1 11,0,1,0,0 31", "W 1 1 1 3 11,0,1,0,0", "W 1 1 1 3A 11,0,1,0,0",
+    "W 1 1 1 zz 11,0,1,0,0", "W 1 1 1  11,0,1,0,0", "W 1 1 1 31  11,0,1,0,0", "W 1 1 1 31 31 11,0,1,0,0",
 ];
 
 pub fn of_text(lines: &mut Lines) {
@@ -168,21 +171,19 @@ pub fn of_any_tape(lines: &mut Lines) {
         for &limit in *limits {
             let kinds = kinds(signs);
             let count = kinds.len() as u64;
-            lines.add(|l| line::walk_of(l, limit, count, count, &side_by_side(&kinds)));
+            walk_of_kinds(lines, [limit, count, count], &kinds);
         }
     }
     for_every_short_list(lines);
-    for &(limit, links, count, tape) in TAPES {
-        lines.add(|l| line::walk_of(l, limit, links, count, tape));
-    }
+    TAPES.iter().for_each(|&(limit, links, count, tape)| walk_of_tape(lines, [limit, links, count], tape));
     for deep in [127, 128, 129] {
         let signs = ["[".repeat(deep), "]".repeat(deep)].concat();
         let kinds = kinds(&signs);
         let count = kinds.len() as u64;
         for limit in [127, 128] {
-            lines.add(|l| line::walk_of(l, limit, count + 1, count, &side_by_side(&kinds)));
+            walk_of_kinds(lines, [limit, count + 1, count], &kinds);
         }
-        lines.add(|l| line::walk_of(l, 128, count, deep as u64, &side_by_side(&kinds)));
+        walk_of_kinds(lines, [128, count, deep as u64], &kinds);
     }
     NO_CASES.iter().filter(|l| l.starts_with('W')).for_each(|l| lines.plain(l));
 }
@@ -190,18 +191,34 @@ pub fn of_any_tape(lines: &mut Lines) {
 /// Each kind alone, and each two kinds inside each bracket.
 fn for_every_short_list(lines: &mut Lines) {
     for kind in 1..=16 {
-        lines.add(|l| line::walk_of(l, 128, 1, 1, &side_by_side(&[kind])));
+        walk_of_kinds(lines, [128, 1, 1], &[kind]);
     }
     for first in [7, 8, 9, 11, 16] {
         for second in [1, 2, 3, 4, 6, 7, 8, 10, 14, 16] {
             for open in [1, 3, 5] {
-                lines.add(|l| line::walk_of(l, 2, 4, 4, &side_by_side(&[open, first, second, open + 1])));
+                walk_of_kinds(lines, [2, 4, 4], &[open, first, second, open + 1]);
             }
         }
     }
 }
 
-/// Entries of one byte each.
-fn side_by_side(kinds: &[u32]) -> Vec<u32> {
-    kinds.iter().zip(0..).flat_map(|(&kind, at)| [kind, at, at + 1, 0, 0]).collect()
+/// Limit, links and count for entries side by side.
+fn walk_of_kinds(lines: &mut Lines, [limit, links, count]: [u64; 3], kinds: &[u32]) {
+    let (text, tape) = spelt(kinds);
+    lines.add(|l| line::walk_of(l, &Walk { limit, links, count, text, tape }));
+}
+
+/// Limit, links and count for a tape, over as many bytes as its last entry needs.
+pub fn walk_of_tape(lines: &mut Lines, [limit, links, count]: [u64; 3], tape: &[u32]) {
+    let text = vec![b'x'; bytes_under(count, tape)];
+    lines.add(|l| line::walk_of(l, &Walk { limit, links, count, text, tape: tape.to_vec() }));
+}
+
+/// Where the last of the first entries ends; a few bytes where no text is that long.
+fn bytes_under(count: u64, tape: &[u32]) -> usize {
+    let ends = tape.chunks_exact(WIDTH).zip(0..count).map(|(row, _)| row[2] as usize);
+    match ends.max().unwrap_or(0) {
+        end @ 0..=65_536 => end,
+        _ => 8,
+    }
 }

@@ -63,6 +63,52 @@ impl Arbitrary for Literal {
     }
 }
 
+/// A document of records in each other, of few names, some raw and some not; now and then a blank stands for a mark.
+#[derive(Clone, Debug)]
+pub struct Record(pub String);
+
+const NAMES: &[&str] = &[
+    "a", "b", "c", "d", "ab", "ba", "r#a", "r#b", "r#ab", "lock", "lock_", "r#lock", "é", "r#é",
+];
+
+fn value(g: &mut Gen, depth: usize) -> String {
+    let name = |g: &mut Gen| g.choose(NAMES).expect("there are some").to_string();
+    let more = depth + below(g, 3);
+    match below(g, 8) {
+        0..=2 if depth < 4 => record(g, more),
+        3 if depth < 4 => format!("({}, {})", value(g, more), name(g)),
+        4 if depth < 4 => format!("[{}, {}]", value(g, more), value(g, more)),
+        5 => format!("{{{}: 1, {}: 2}}", name(g), name(g)),
+        6 => name(g),
+        _ => "7".to_string(),
+    }
+}
+
+fn record(g: &mut Gen, depth: usize) -> String {
+    let most = if below(g, 8) == 0 { 40 } else { 6 };
+    let mut text = if bool::arbitrary(g) { "Reach(" } else { "(" }.to_string();
+    for i in 0..below(g, most) {
+        let of = value(g, depth + 1);
+        text += &match below(g, 3) {
+            0 => format!("{}: {of},", g.choose(NAMES).expect("there are some")),
+            _ => format!("f{i}: {of},"),
+        };
+    }
+    text + ")"
+}
+
+impl Arbitrary for Record {
+    fn arbitrary(g: &mut Gen) -> Record {
+        let mut text = record(g, 0);
+        if below(g, 8) == 0 {
+            let marks: Vec<usize> = text.match_indices(&[',', ':', '(', ')', '['][..]).map(|(at, _)| at).collect();
+            let at = *g.choose(&marks).expect("there are two");
+            text.replace_range(at..at + 1, " ");
+        }
+        Record(text)
+    }
+}
+
 /// Bytes of any kind: any at all, pieces in a row, or a good text with some damage.
 #[derive(Clone, Debug)]
 pub struct Text(pub Vec<u8>);

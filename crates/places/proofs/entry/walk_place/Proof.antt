@@ -1,23 +1,22 @@
-use Rattle.text.proofs.ClassLaws.{inside, below, above}
+use mathlib.Core.Path.{sym, _∙_}
 use Rattle.places.specs.Entries.{walkPlace}
 use borrow.Author.Needs.{needs}
 use Rattle.places.proofs.entry.walk_place.Statement.{statement}
 use Rattle.places.proofs.entry.walk_place.Tie as tie
 
-returns : tie.Need-returns
-unfolding walkPlace
-returns c = simp (below 24 26 (c .before .before .before .args .r .number) (c .if1 .taken))
-
-returns-2 : tie.Need-returns-2
-unfolding walkPlace
-returns-2 c = simp (above 24 26 (c .before .before .before .before .before .args .r .number) (c .if2 .taken))
+names-entry-requires : tie.Need-names-entry-requires
+names-entry-requires c κs = search needs
 
 entry-place-requires : tie.Need-entry-place-requires
 entry-place-requires c κs = search needs
 
-returns-3 : tie.Need-returns-3
+returns : tie.Need-returns
 unfolding walkPlace
-returns-3 c = simp (inside 24 26 (c .before .before .before .before .before .before .args .r .number) (c .before .before .before .if1 .left) (c .before .if2 .left), c .entry-place .ensures)
+returns c = simp (sym (c .before .before .names-entry .ensures) ∙ c .before .if1 .taken, c .entry-place .ensures)
+
+returns-2 : tie.Need-returns-2
+unfolding walkPlace
+returns-2 c = simp (sym (c .before .names-entry .ensures) ∙ c .if1 .left)
 
 pub walk-place-spec : {M : Type 1} → statement M
-walk-place-spec = tie.close (tie.spec returns returns-2 entry-place-requires returns-3)
+walk-place-spec = tie.close (tie.spec names-entry-requires entry-place-requires returns returns-2)

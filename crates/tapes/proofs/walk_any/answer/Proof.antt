@@ -4,10 +4,12 @@ use mathlib.Core.Path.{refl, sym, ap, _∙_}
 use lib.ListN.{length}
 use Rattle.lines.specs.Over.{over}
 use Rattle.show.specs.Answers.{badText}
+use Rattle.words.specs.Hex.{hexIn, pairs}
 use Rattle.words.specs.Numbers.{numbersIn, numbersOf}
+use Rattle.words.specs.Split.{firstWord, behindWord}
 use Rattle.tapes.specs.Walks.{anyLine}
-use Rattle.lines.proofs.LineLaws.{line3}
-use Rattle.tapes.proofs.WalkLaws.{behind3, behinds, any-no-front, any-bad, any-goes}
+use Rattle.lines.proofs.LineLaws.{line4}
+use Rattle.tapes.proofs.WalkLaws.{word4, behind4, behinds, any-no-front, any-no-text, any-no-tape, any-goes}
 use borrow.Author.Needs.{needs}
 use Rattle.tapes.proofs.walk_any.answer.Statement.{statement}
 use Rattle.tapes.proofs.walk_any.answer.Tie as tie
@@ -29,11 +31,12 @@ same-length c = search needs
 
 returns : tie.Need-returns
 returns c =
-    let words : List ℕ = c .before .before .before .before .before .before .before .before .before .before .before .args .words .now in
-    let tape : List ℕ = c .before .before .before .before .before .before .before .before .before .before .before .args .tape .now in
-    let links : List ℕ = c .before .before .before .before .before .before .before .before .before .before .before .args .links .now in
-    line3 (c .before .before .before .before .before .before .before .before .before .before .before .args .o .now, c .before .before .before .before .before .before .before .before .before .before .before .args .at) _ badText _ _ tape links (anyLine words tape links)
-    (any-no-front words tape links (sym (c .before .before .before .before .before .before .front .ensures) ∙ c .before .before .before .before .enum-told .given .1)) (c .before .before .bad .ensures) refl refl
+    let words : List ℕ = c .before .before .before .before .before .before .before .before .before .before .before .before .args .words .now in
+    let text : List ℕ = c .before .before .before .before .before .before .before .before .before .before .before .before .args .text .now in
+    let tape : List ℕ = c .before .before .before .before .before .before .before .before .before .before .before .before .args .tape .now in
+    let links : List ℕ = c .before .before .before .before .before .before .before .before .before .before .before .before .args .links .now in
+    line4 (c .before .before .before .before .before .before .before .before .before .before .before .before .args .o .now, c .before .before .before .before .before .before .before .before .before .before .before .before .args .at) _ badText _ _ _ text tape links (anyLine words text tape links)
+    (any-no-front words text tape links (sym (c .before .before .before .before .before .before .front .ensures) ∙ c .before .before .before .before .enum-told .given .1)) (c .before .before .bad .ensures) refl refl refl
 
 behind-requires : tie.Need-behind-requires
 behind-requires c κs = search needs
@@ -44,11 +47,14 @@ behind-requires-2 c κs = search needs
 behind-requires-3 : tie.Need-behind-requires-3
 behind-requires-3 c κs = search needs
 
-numbers-requires : tie.Need-numbers-requires
-numbers-requires c κs = search needs
+word-requires : tie.Need-word-requires
+word-requires c κs = search needs
 
-enum-known-last : tie.Need-enum-known-last
-enum-known-last c = search needs
+bytes-requires : tie.Need-bytes-requires
+bytes-requires c κs = search needs
+
+enum-known-bytes : tie.Need-enum-known-bytes
+enum-known-bytes c = search needs
 
 enum-told-2 : tie.Need-enum-told-2
 enum-told-2 c = search needs
@@ -64,19 +70,30 @@ same-length-3 c = search needs
 
 returns-2 : tie.Need-returns-2
 returns-2 c =
-    let words : List ℕ = c .before .before .before .before .before .before .before .before .before .before .before .before .before .before .before .before .before .before .before .before .before .args .words .now in
-    let tape : List ℕ = c .before .before .before .before .before .before .before .before .before .before .before .before .before .before .before .before .before .before .before .before .before .args .tape .now in
-    let links : List ℕ = c .before .before .before .before .before .before .before .before .before .before .before .before .before .before .before .before .before .before .before .before .before .args .links .now in
-    line3 (c .before .before .before .before .before .before .before .before .before .before .before .before .before .before .before .before .before .before .before .before .before .args .o .now, c .before .before .before .before .before .before .before .before .before .before .before .before .before .before .before .before .before .before .before .before .before .args .at) _ badText _ _ (over (numbersOf (behind3 words)) tape) links (anyLine words tape links)
-    (any-bad words tape links (c .before .before .before .before .before .before .before .before .before .before .before .before .before .before .asked .given .0 .0) (sym (c .before .before .before .before .before .before .before .before .before .before .before .before .before .before .before .before .front .ensures) ∙ c .before .before .before .before .before .before .before .before .before .before .before .before .before .before .asked .given .1)
-    (sym (c .before .before .before .before .before .before .before .before .numbers .ensures .0 ∙ ap (λ (w : List ℕ). numbersIn w (length tape)) (behinds words _ _ _ (c .before .before .before .before .before .before .before .before .before .before .before .before .behind .ensures) (c .before .before .before .before .before .before .before .before .before .before .before .behind2 .ensures) (c .before .before .before .before .before .before .before .before .before .before .behind3 .ensures))) ∙ c .before .before .before .before .enum-told2 .given .1))
-    (c .before .before .bad2 .ensures) (c .before .before .before .before .before .before .before .before .numbers .ensures .1 ∙ ap (λ (w : List ℕ). over (numbersOf w) tape) (behinds words _ _ _ (c .before .before .before .before .before .before .before .before .before .before .before .before .behind .ensures) (c .before .before .before .before .before .before .before .before .before .before .before .behind2 .ensures) (c .before .before .before .before .before .before .before .before .before .before .behind3 .ensures))) refl
+    let words : List ℕ = c .before .before .before .before .before .before .before .before .before .before .before .before .before .before .before .before .before .before .before .before .before .before .before .args .words .now in
+    let text : List ℕ = c .before .before .before .before .before .before .before .before .before .before .before .before .before .before .before .before .before .before .before .before .before .before .before .args .text .now in
+    let tape : List ℕ = c .before .before .before .before .before .before .before .before .before .before .before .before .before .before .before .before .before .before .before .before .before .before .before .args .tape .now in
+    let links : List ℕ = c .before .before .before .before .before .before .before .before .before .before .before .before .before .before .before .before .before .before .before .before .before .before .before .args .links .now in
+    let fourth = c .before .before .before .before .before .before .before .before .before .before .word .ensures ∙ ap (λ (w : List ℕ). firstWord w) (behinds words _ _ _ (c .before .before .before .before .before .before .before .before .before .before .before .before .before .behind .ensures) (c .before .before .before .before .before .before .before .before .before .before .before .before .behind2 .ensures) (c .before .before .before .before .before .before .before .before .before .before .before .behind3 .ensures)) in
+    line4 (c .before .before .before .before .before .before .before .before .before .before .before .before .before .before .before .before .before .before .before .before .before .before .before .args .o .now, c .before .before .before .before .before .before .before .before .before .before .before .before .before .before .before .before .before .before .before .before .before .before .before .args .at) _ badText _ _ _ (over (pairs (word4 words)) text) tape links (anyLine words text tape links)
+    (any-no-text words text tape links (c .before .before .before .before .before .before .before .before .before .before .before .before .before .before .before .asked .given .0 .0) (sym (c .before .before .before .before .before .before .before .before .before .before .before .before .before .before .before .before .before .front .ensures) ∙ c .before .before .before .before .before .before .before .before .before .before .before .before .before .before .before .asked .given .1)
+    (sym (c .before .before .before .before .before .before .before .before .bytes .ensures .0 ∙ ap (λ (w : List ℕ). hexIn w (length text)) fourth) ∙ c .before .before .before .before .enum-told2 .given .1))
+    (c .before .before .bad2 .ensures) (c .before .before .before .before .before .before .before .before .bytes .ensures .1 ∙ ap (λ (w : List ℕ). over (pairs w) text) fourth) refl refl
 
-first-requires : tie.Need-first-requires
-first-requires c κs = search needs
+behind-requires-4 : tie.Need-behind-requires-4
+behind-requires-4 c κs = search needs
 
-answer-requires : tie.Need-answer-requires
-answer-requires c κs = search needs
+numbers-requires : tie.Need-numbers-requires
+numbers-requires c κs = search needs
+
+enum-known-last : tie.Need-enum-known-last
+enum-known-last c = search needs
+
+enum-told-3 : tie.Need-enum-told-3
+enum-told-3 c = search needs
+
+bad-requires-3 : tie.Need-bad-requires-3
+bad-requires-3 c κs = search needs
 
 same-length-4 : tie.Need-same-length-4
 same-length-4 c = search needs
@@ -89,12 +106,49 @@ same-length-6 c = search needs
 
 returns-3 : tie.Need-returns-3
 returns-3 c =
-    let words : List ℕ = c .before .before .before .before .before .before .before .before .before .before .before .before .before .before .before .before .before .before .before .before .before .before .before .before .before .before .before .args .words .now in
-    let tape : List ℕ = c .before .before .before .before .before .before .before .before .before .before .before .before .before .before .before .before .before .before .before .before .before .before .before .before .before .before .before .args .tape .now in
-    let links : List ℕ = c .before .before .before .before .before .before .before .before .before .before .before .before .before .before .before .before .before .before .before .before .before .before .before .before .before .before .before .args .links .now in
-    any-goes words tape links (c .before .before .before .before .before .before .before .before .before .before .before .before .before .before .before .before .before .before .before .before .asked .given .0 .0) (sym (c .before .before .before .before .before .before .before .before .before .before .before .before .before .before .before .before .before .before .before .before .before .before .front .ensures) ∙ c .before .before .before .before .before .before .before .before .before .before .before .before .before .before .before .before .before .before .before .before .asked .given .1) (c .before .before .before .before .before .before .before .before .before .before .last .given .0 .0)
-    (sym (c .before .before .before .before .before .before .before .before .before .before .before .before .before .before .numbers .ensures .0 ∙ ap (λ (w : List ℕ). numbersIn w (length tape)) (behinds words _ _ _ (c .before .before .before .before .before .before .before .before .before .before .before .before .before .before .before .before .before .before .behind .ensures) (c .before .before .before .before .before .before .before .before .before .before .before .before .before .before .before .before .before .behind2 .ensures) (c .before .before .before .before .before .before .before .before .before .before .before .before .before .before .before .before .behind3 .ensures))) ∙ c .before .before .before .before .before .before .before .before .before .before .last .given .1)
-    _ _ _ (c .before .before .before .before .before .before .before .before .before .before .before .before .before .before .before .before .before .before .before .before .before .before .before .before .before .before .before .args .o .now, c .before .before .before .before .before .before .before .before .before .before .before .before .before .before .before .before .before .before .before .before .before .before .before .before .before .before .before .args .at) _ (c .before .before .before .before .before .before .before .before .before .before .before .before .before .before .numbers .ensures .1 ∙ ap (λ (w : List ℕ). over (numbersOf w) tape) (behinds words _ _ _ (c .before .before .before .before .before .before .before .before .before .before .before .before .before .before .before .before .before .before .behind .ensures) (c .before .before .before .before .before .before .before .before .before .before .before .before .before .before .before .before .before .behind2 .ensures) (c .before .before .before .before .before .before .before .before .before .before .before .before .before .before .before .before .behind3 .ensures))) (c .before .before .before .before .before .before .before .first .ensures) (c .before .before .before .before .answer .ensures)
+    let words : List ℕ = c .before .before .before .before .before .before .before .before .before .before .before .before .before .before .before .before .before .before .before .before .before .before .before .before .before .before .before .before .before .before .before .args .words .now in
+    let text : List ℕ = c .before .before .before .before .before .before .before .before .before .before .before .before .before .before .before .before .before .before .before .before .before .before .before .before .before .before .before .before .before .before .before .args .text .now in
+    let tape : List ℕ = c .before .before .before .before .before .before .before .before .before .before .before .before .before .before .before .before .before .before .before .before .before .before .before .before .before .before .before .before .before .before .before .args .tape .now in
+    let links : List ℕ = c .before .before .before .before .before .before .before .before .before .before .before .before .before .before .before .before .before .before .before .before .before .before .before .before .before .before .before .before .before .before .before .args .links .now in
+    let fourth = c .before .before .before .before .before .before .before .before .before .before .before .before .before .before .before .before .before .before .word .ensures ∙ ap (λ (w : List ℕ). firstWord w) (behinds words _ _ _ (c .before .before .before .before .before .before .before .before .before .before .before .before .before .before .before .before .before .before .before .before .before .behind .ensures) (c .before .before .before .before .before .before .before .before .before .before .before .before .before .before .before .before .before .before .before .before .behind2 .ensures) (c .before .before .before .before .before .before .before .before .before .before .before .before .before .before .before .before .before .before .before .behind3 .ensures)) in
+    let fifth = c .before .before .before .before .before .before .before .before .before .before .behind4 .ensures ∙ ap (λ (w : List ℕ). behindWord w) (behinds words _ _ _ (c .before .before .before .before .before .before .before .before .before .before .before .before .before .before .before .before .before .before .before .before .before .behind .ensures) (c .before .before .before .before .before .before .before .before .before .before .before .before .before .before .before .before .before .before .before .before .behind2 .ensures) (c .before .before .before .before .before .before .before .before .before .before .before .before .before .before .before .before .before .before .before .behind3 .ensures)) in
+    line4 (c .before .before .before .before .before .before .before .before .before .before .before .before .before .before .before .before .before .before .before .before .before .before .before .before .before .before .before .before .before .before .before .args .o .now, c .before .before .before .before .before .before .before .before .before .before .before .before .before .before .before .before .before .before .before .before .before .before .before .before .before .before .before .before .before .before .before .args .at) _ badText _ _ _ (over (pairs (word4 words)) text) (over (numbersOf (behind4 words)) tape) links (anyLine words text tape links)
+    (any-no-tape words text tape links (c .before .before .before .before .before .before .before .before .before .before .before .before .before .before .before .before .before .before .before .before .before .before .before .asked .given .0 .0) (sym (c .before .before .before .before .before .before .before .before .before .before .before .before .before .before .before .before .before .before .before .before .before .before .before .before .before .front .ensures) ∙ c .before .before .before .before .before .before .before .before .before .before .before .before .before .before .before .before .before .before .before .before .before .before .before .asked .given .1) (c .before .before .before .before .before .before .before .before .before .before .before .before .bytes2 .given .0 .0) (sym (c .before .before .before .before .before .before .before .before .before .before .before .before .before .before .before .before .bytes .ensures .0 ∙ ap (λ (w : List ℕ). hexIn w (length text)) fourth) ∙ c .before .before .before .before .before .before .before .before .before .before .before .before .bytes2 .given .1)
+    (sym (c .before .before .before .before .before .before .before .before .numbers .ensures .0 ∙ ap (λ (w : List ℕ). numbersIn w (length tape)) fifth) ∙ c .before .before .before .before .enum-told3 .given .1))
+    (c .before .before .bad3 .ensures) (c .before .before .before .before .before .before .before .before .before .before .before .before .before .before .before .before .bytes .ensures .1 ∙ ap (λ (w : List ℕ). over (pairs w) text) fourth) (c .before .before .before .before .before .before .before .before .numbers .ensures .1 ∙ ap (λ (w : List ℕ). over (numbersOf w) tape) fifth) refl
+
+part-requires : tie.Need-part-requires
+part-requires c κs = search needs
+
+first-requires : tie.Need-first-requires
+first-requires c κs = search needs
+
+answer-requires : tie.Need-answer-requires
+answer-requires c κs = search needs
+
+same-length-7 : tie.Need-same-length-7
+same-length-7 c = search needs
+
+same-length-8 : tie.Need-same-length-8
+same-length-8 c = search needs
+
+same-length-9 : tie.Need-same-length-9
+same-length-9 c = search needs
+
+same-length-10 : tie.Need-same-length-10
+same-length-10 c = search needs
+
+returns-4 : tie.Need-returns-4
+returns-4 c =
+    let words : List ℕ = c .before .before .before .before .before .before .before .before .before .before .before .before .before .before .before .before .before .before .before .before .before .before .before .before .before .before .before .before .before .before .before .before .before .before .before .before .before .before .before .args .words .now in
+    let text : List ℕ = c .before .before .before .before .before .before .before .before .before .before .before .before .before .before .before .before .before .before .before .before .before .before .before .before .before .before .before .before .before .before .before .before .before .before .before .before .before .before .before .args .text .now in
+    let tape : List ℕ = c .before .before .before .before .before .before .before .before .before .before .before .before .before .before .before .before .before .before .before .before .before .before .before .before .before .before .before .before .before .before .before .before .before .before .before .before .before .before .before .args .tape .now in
+    let links : List ℕ = c .before .before .before .before .before .before .before .before .before .before .before .before .before .before .before .before .before .before .before .before .before .before .before .before .before .before .before .before .before .before .before .before .before .before .before .before .before .before .before .args .links .now in
+    let fourth = c .before .before .before .before .before .before .before .before .before .before .before .before .before .before .before .before .before .before .before .before .before .before .before .before .before .before .word .ensures ∙ ap (λ (w : List ℕ). firstWord w) (behinds words _ _ _ (c .before .before .before .before .before .before .before .before .before .before .before .before .before .before .before .before .before .before .before .before .before .before .before .before .before .before .before .before .before .behind .ensures) (c .before .before .before .before .before .before .before .before .before .before .before .before .before .before .before .before .before .before .before .before .before .before .before .before .before .before .before .before .behind2 .ensures) (c .before .before .before .before .before .before .before .before .before .before .before .before .before .before .before .before .before .before .before .before .before .before .before .before .before .before .before .behind3 .ensures)) in
+    let fifth = c .before .before .before .before .before .before .before .before .before .before .before .before .before .before .before .before .before .before .behind4 .ensures ∙ ap (λ (w : List ℕ). behindWord w) (behinds words _ _ _ (c .before .before .before .before .before .before .before .before .before .before .before .before .before .before .before .before .before .before .before .before .before .before .before .before .before .before .before .before .before .behind .ensures) (c .before .before .before .before .before .before .before .before .before .before .before .before .before .before .before .before .before .before .before .before .before .before .before .before .before .before .before .before .behind2 .ensures) (c .before .before .before .before .before .before .before .before .before .before .before .before .before .before .before .before .before .before .before .before .before .before .before .before .before .before .before .behind3 .ensures)) in
+    any-goes words text tape links (c .before .before .before .before .before .before .before .before .before .before .before .before .before .before .before .before .before .before .before .before .before .before .before .before .before .before .before .before .before .before .before .asked .given .0 .0) (sym (c .before .before .before .before .before .before .before .before .before .before .before .before .before .before .before .before .before .before .before .before .before .before .before .before .before .before .before .before .before .before .before .before .before .front .ensures) ∙ c .before .before .before .before .before .before .before .before .before .before .before .before .before .before .before .before .before .before .before .before .before .before .before .before .before .before .before .before .before .before .before .asked .given .1) (c .before .before .before .before .before .before .before .before .before .before .before .before .before .before .before .before .before .before .before .before .bytes2 .given .0 .0) (sym (c .before .before .before .before .before .before .before .before .before .before .before .before .before .before .before .before .before .before .before .before .before .before .before .before .bytes .ensures .0 ∙ ap (λ (w : List ℕ). hexIn w (length text)) fourth) ∙ c .before .before .before .before .before .before .before .before .before .before .before .before .before .before .before .before .before .before .before .before .bytes2 .given .1)
+    (c .before .before .before .before .before .before .before .before .before .before .before .before .last .given .0 .0) (sym (c .before .before .before .before .before .before .before .before .before .before .before .before .before .before .before .before .numbers .ensures .0 ∙ ap (λ (w : List ℕ). numbersIn w (length tape)) fifth) ∙ c .before .before .before .before .before .before .before .before .before .before .before .before .last .given .1)
+    _ _ _ _ _ (c .before .before .before .before .before .before .before .before .before .before .before .before .before .before .before .before .before .before .before .before .before .before .before .before .before .before .before .before .before .before .before .before .before .before .before .before .before .before .before .args .o .now, c .before .before .before .before .before .before .before .before .before .before .before .before .before .before .before .before .before .before .before .before .before .before .before .before .before .before .before .before .before .before .before .before .before .before .before .before .before .before .before .args .at) _ (c .before .before .before .before .before .before .before .before .before .before .before .before .before .before .before .before .before .before .before .before .before .before .before .before .bytes .ensures .1 ∙ ap (λ (w : List ℕ). over (pairs w) text) fourth) (c .before .before .before .before .before .before .before .before .before .part .ensures) (c .before .before .before .before .before .before .before .before .before .before .before .before .before .before .before .before .numbers .ensures .1 ∙ ap (λ (w : List ℕ). over (numbersOf w) tape) fifth) (c .before .before .before .before .before .before .before .first .ensures) (c .before .before .before .before .answer .ensures)
 
 pub answer-spec : {M : Type 1} → statement M
 answer-spec =
@@ -109,16 +163,28 @@ answer-spec =
     behind-requires
     behind-requires-2
     behind-requires-3
-    numbers-requires
-    enum-known-last
+    word-requires
+    bytes-requires
+    enum-known-bytes
     enum-told-2
     bad-requires-2
     same-length-2
     same-length-3
     returns-2
-    first-requires
-    answer-requires
+    behind-requires-4
+    numbers-requires
+    enum-known-last
+    enum-told-3
+    bad-requires-3
     same-length-4
     same-length-5
     same-length-6
-    returns-3)
+    returns-3
+    part-requires
+    first-requires
+    answer-requires
+    same-length-7
+    same-length-8
+    same-length-9
+    same-length-10
+    returns-4)

@@ -28,9 +28,10 @@ same-length-2 c = search needs
 returns : tie.Need-returns
 unfolding walkIn
 returns c =
-    let tape : List ℕ = c .before .before .before .before .before .before .before .before .before .before .before .args .tape .now in
-    let q : Asked = c .before .before .before .before .before .before .before .before .before .before .before .args .q in
-    lent-front (walksText tape q) (linksLeft tape q) (q .room) (c .before .before .before .before .before .before .before .before .before .before .before .args .links .now) (c .before .before .before .before .before .before .before .before .before .before .before .args .o .now, c .before .before .before .before .before .before .before .before .before .before .before .args .at) _ _ (c .before .before .before .before .walked .ensures)
+    let text : List ℕ = c .before .before .before .before .before .before .before .before .before .before .before .before .args .text .now in
+    let tape : List ℕ = c .before .before .before .before .before .before .before .before .before .before .before .before .args .tape .now in
+    let q : Asked = c .before .before .before .before .before .before .before .before .before .before .before .before .args .q in
+    lent-front (walksText text tape q) (linksLeft text tape q) (q .room) (c .before .before .before .before .before .before .before .before .before .before .before .before .args .links .now) (c .before .before .before .before .before .before .before .before .before .before .before .before .args .o .now, c .before .before .before .before .before .before .before .before .before .before .before .before .args .at) _ _ (c .before .before .before .before .walked .ensures)
 
 walked-requires-2 : tie.Need-walked-requires-2
 walked-requires-2 c κs = search needs
@@ -44,9 +45,10 @@ same-length-4 c = search needs
 returns-2 : tie.Need-returns-2
 unfolding walkIn
 returns-2 c =
-    let tape : List ℕ = c .before .before .before .before .before .before .before .before .before .before .before .args .tape .now in
-    let q : Asked = c .before .before .before .before .before .before .before .before .before .before .before .args .q in
-    lent-whole (walksText tape q) (linksLeft tape q) (q .room) (c .before .before .before .before .before .before .before .before .before .before .before .args .links .now) (c .before .before .before .before .before .before .before .before .before .before .before .args .o .now, c .before .before .before .before .before .before .before .before .before .before .before .args .at) _ _ (c .before .before .before .before .before .before .before .if1 .left) (c .before .before .before .before .walked2 .ensures)
+    let text : List ℕ = c .before .before .before .before .before .before .before .before .before .before .before .before .args .text .now in
+    let tape : List ℕ = c .before .before .before .before .before .before .before .before .before .before .before .before .args .tape .now in
+    let q : Asked = c .before .before .before .before .before .before .before .before .before .before .before .before .args .q in
+    lent-whole (walksText text tape q) (linksLeft text tape q) (q .room) (c .before .before .before .before .before .before .before .before .before .before .before .before .args .links .now) (c .before .before .before .before .before .before .before .before .before .before .before .before .args .o .now, c .before .before .before .before .before .before .before .before .before .before .before .before .args .at) _ _ (c .before .before .before .before .before .before .before .if1 .left) (c .before .before .before .before .walked2 .ensures)
 
 pub answer-spec : {M : Type 1} → statement M
 answer-spec =

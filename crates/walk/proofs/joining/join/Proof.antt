@@ -16,12 +16,12 @@ abbrev μ-loop : tie.MeasureT-loop
 μ-loop tape count links₀ open₀ depth₀ i₀ links «open» depth i = count - i
 
 -- an opening bracket has room on the stack
-opens-fit : (c : tie.After-enum-told Inv-loop μ-loop) → c .before .before .before .before .before .before .loop .depth < 128
-opens-fit c = open-fits (c .before .before .before .before .before .before .before .before .before .args .tape .now) (c .before .before .before .before .before .before .before .before .before .args .count) (c .before .before .before .before .before .before .before .before .before .args .links .now) (c .before .before .before .before .before .before .loop .«open») (c .before .before .before .before .before .before .loop .depth) (c .before .before .before .before .before .before .loop .i) (c .before .before .before .before .before .before .loop .links) (c .before .before .before .before .before .before .loop .inv .4) (c .before .before .before .kind-of .result) (omega arith) (c .before .before .before .kind-of .ensures ∙ ap (λ (x : Entry). kindOf (x .kind)) (c .before .before .before .before .entry .ensures)) (sym (c .before .before .side-of .ensures) ∙ c .enum-told .given .1)
+opens-fit : (c : tie.After-enum-told Inv-loop μ-loop) → c .before .before .before .before .before .loop .depth < 128
+opens-fit c = open-fits (c .before .before .before .before .before .before .before .before .args .tape .now) (c .before .before .before .before .before .before .before .before .args .count) (c .before .before .before .before .before .before .before .before .args .links .now) (c .before .before .before .before .before .loop .«open») (c .before .before .before .before .before .loop .depth) (c .before .before .before .before .before .loop .i) (c .before .before .before .before .before .loop .links) (c .before .before .before .before .before .loop .inv .4) (kindOf (c .before .before .before .entry .result .kind)) (omega arith) (ap (λ (x : Entry). kindOf (x .kind)) (c .before .before .before .entry .ensures)) (sym (c .before .before .side-at .ensures) ∙ c .enum-told .given .1)
 
 -- a closing bracket has one that is open before it
-closes-fit : (c : tie.After-enum-told2 Inv-loop μ-loop) → (0 < c .before .before .before .before .before .before .loop .depth) × (getD (c .before .before .before .before .before .before .loop .«open») (c .before .before .before .before .before .before .loop .depth - 1) 0 < c .before .before .before .before .before .before .loop .i)
-closes-fit c = close-fits (c .before .before .before .before .before .before .before .before .before .args .tape .now) (c .before .before .before .before .before .before .before .before .before .args .count) (c .before .before .before .before .before .before .before .before .before .args .links .now) (c .before .before .before .before .before .before .loop .«open») (c .before .before .before .before .before .before .loop .depth) (c .before .before .before .before .before .before .loop .i) (c .before .before .before .before .before .before .loop .links) (c .before .before .before .before .before .before .loop .inv .4) (c .before .before .before .kind-of .result) (omega arith) (c .before .before .before .kind-of .ensures ∙ ap (λ (x : Entry). kindOf (x .kind)) (c .before .before .before .before .entry .ensures)) (sym (c .before .before .side-of .ensures) ∙ c .enum-told2 .given .1)
+closes-fit : (c : tie.After-enum-told2 Inv-loop μ-loop) → (0 < c .before .before .before .before .before .loop .depth) × (getD (c .before .before .before .before .before .loop .«open») (c .before .before .before .before .before .loop .depth - 1) 0 < c .before .before .before .before .before .loop .i)
+closes-fit c = close-fits (c .before .before .before .before .before .before .before .before .args .tape .now) (c .before .before .before .before .before .before .before .before .args .count) (c .before .before .before .before .before .before .before .before .args .links .now) (c .before .before .before .before .before .loop .«open») (c .before .before .before .before .before .loop .depth) (c .before .before .before .before .before .loop .i) (c .before .before .before .before .before .loop .links) (c .before .before .before .before .before .loop .inv .4) (kindOf (c .before .before .before .entry .result .kind)) (omega arith) (ap (λ (x : Entry). kindOf (x .kind)) (c .before .before .before .entry .ensures)) (sym (c .before .before .side-at .ensures) ∙ c .enum-told2 .given .1)
 
 loop-holds : tie.Need-loop-holds Inv-loop μ-loop
 loop-holds c = (search needs, search needs, refl, refl, joins-start (c .before .before .args .tape .now) (c .before .before .args .count) (c .before .before .args .links .now) _ (c .before .before .pre .3))
@@ -29,11 +29,8 @@ loop-holds c = (search needs, search needs, refl, refl, joins-start (c .before .
 entry-requires : tie.Need-entry-requires Inv-loop μ-loop
 entry-requires c κs = search needs
 
-kind-of-requires : tie.Need-kind-of-requires Inv-loop μ-loop
-kind-of-requires c κs = search needs
-
-side-of-requires : tie.Need-side-of-requires Inv-loop μ-loop
-side-of-requires c κs = search needs
+side-at-requires : tie.Need-side-at-requires Inv-loop μ-loop
+side-at-requires c κs = search needs
 
 enum-told : tie.Need-enum-told Inv-loop μ-loop
 enum-told c = search needs
@@ -63,7 +60,7 @@ loop-less : tie.Need-loop-less Inv-loop μ-loop
 loop-less c = search needs
 
 loop-again : tie.Need-loop-again Inv-loop μ-loop
-loop-again c = (search needs, omega (arith, opens-fit c), length-set (c .before .before .before .before .before .before .loop .links) (c .before .before .before .before .before .before .loop .i) (c .before .before .before .before .before .before .loop .i) ∙ c .before .before .before .before .before .before .loop .inv .2, length-set (c .before .before .before .before .before .before .loop .«open») (c .before .before .before .before .before .before .loop .depth) (c .before .before .before .before .before .before .loop .i) ∙ c .before .before .before .before .before .before .loop .inv .3, join-opens (c .before .before .before .before .before .before .before .before .before .args .tape .now) (c .before .before .before .before .before .before .before .before .before .args .count) (c .before .before .before .before .before .before .before .before .before .args .links .now) (c .before .before .before .before .before .before .loop .«open») (c .before .before .before .before .before .before .loop .depth) (c .before .before .before .before .before .before .loop .i) (c .before .before .before .before .before .before .loop .links) (c .before .before .before .before .before .before .loop .inv .4) (c .before .before .before .kind-of .result) (omega arith) (c .before .before .before .kind-of .ensures ∙ ap (λ (x : Entry). kindOf (x .kind)) (c .before .before .before .before .entry .ensures)) (sym (c .before .before .side-of .ensures) ∙ c .enum-told .given .1) (c .before .before .before .before .before .before .loop .inv .3))
+loop-again c = (search needs, omega (arith, opens-fit c), length-set (c .before .before .before .before .before .loop .links) (c .before .before .before .before .before .loop .i) (c .before .before .before .before .before .loop .i) ∙ c .before .before .before .before .before .loop .inv .2, length-set (c .before .before .before .before .before .loop .«open») (c .before .before .before .before .before .loop .depth) (c .before .before .before .before .before .loop .i) ∙ c .before .before .before .before .before .loop .inv .3, join-opens (c .before .before .before .before .before .before .before .before .args .tape .now) (c .before .before .before .before .before .before .before .before .args .count) (c .before .before .before .before .before .before .before .before .args .links .now) (c .before .before .before .before .before .loop .«open») (c .before .before .before .before .before .loop .depth) (c .before .before .before .before .before .loop .i) (c .before .before .before .before .before .loop .links) (c .before .before .before .before .before .loop .inv .4) (kindOf (c .before .before .before .entry .result .kind)) (omega arith) (ap (λ (x : Entry). kindOf (x .kind)) (c .before .before .before .entry .ensures)) (sym (c .before .before .side-at .ensures) ∙ c .enum-told .given .1) (c .before .before .before .before .before .loop .inv .3))
 
 enum-told-2 : tie.Need-enum-told-2 Inv-loop μ-loop
 enum-told-2 c = search needs
@@ -102,7 +99,7 @@ loop-less-2 : tie.Need-loop-less-2 Inv-loop μ-loop
 loop-less-2 c = search needs
 
 loop-again-2 : tie.Need-loop-again-2 Inv-loop μ-loop
-loop-again-2 c = (search needs, omega arith, simp length-set (c .before .before .before .before .before .before .loop .inv .2), c .before .before .before .before .before .before .loop .inv .3, join-closes (c .before .before .before .before .before .before .before .before .before .args .tape .now) (c .before .before .before .before .before .before .before .before .before .args .count) (c .before .before .before .before .before .before .before .before .before .args .links .now) (c .before .before .before .before .before .before .loop .«open») (c .before .before .before .before .before .before .loop .depth) (c .before .before .before .before .before .before .loop .i) (c .before .before .before .before .before .before .loop .links) (c .before .before .before .before .before .before .loop .inv .4) (c .before .before .before .kind-of .result) (omega arith) (c .before .before .before .kind-of .ensures ∙ ap (λ (x : Entry). kindOf (x .kind)) (c .before .before .before .before .entry .ensures)) (sym (c .before .before .side-of .ensures) ∙ c .enum-told2 .given .1))
+loop-again-2 c = (search needs, omega arith, simp length-set (c .before .before .before .before .before .loop .inv .2), c .before .before .before .before .before .loop .inv .3, join-closes (c .before .before .before .before .before .before .before .before .args .tape .now) (c .before .before .before .before .before .before .before .before .args .count) (c .before .before .before .before .before .before .before .before .args .links .now) (c .before .before .before .before .before .loop .«open») (c .before .before .before .before .before .loop .depth) (c .before .before .before .before .before .loop .i) (c .before .before .before .before .before .loop .links) (c .before .before .before .before .before .loop .inv .4) (kindOf (c .before .before .before .entry .result .kind)) (omega arith) (ap (λ (x : Entry). kindOf (x .kind)) (c .before .before .before .entry .ensures)) (sym (c .before .before .side-at .ensures) ∙ c .enum-told2 .given .1))
 
 enum-told-3 : tie.Need-enum-told-3 Inv-loop μ-loop
 enum-told-3 c = search needs
@@ -123,7 +120,7 @@ loop-less-3 : tie.Need-loop-less-3 Inv-loop μ-loop
 loop-less-3 c = search needs
 
 loop-again-3 : tie.Need-loop-again-3 Inv-loop μ-loop
-loop-again-3 c = (search needs, search needs, length-set (c .before .before .before .before .before .before .loop .links) (c .before .before .before .before .before .before .loop .i) (c .before .before .before .before .before .before .loop .i) ∙ c .before .before .before .before .before .before .loop .inv .2, c .before .before .before .before .before .before .loop .inv .3, join-passes (c .before .before .before .before .before .before .before .before .before .args .tape .now) (c .before .before .before .before .before .before .before .before .before .args .count) (c .before .before .before .before .before .before .before .before .before .args .links .now) (c .before .before .before .before .before .before .loop .«open») (c .before .before .before .before .before .before .loop .depth) (c .before .before .before .before .before .before .loop .i) (c .before .before .before .before .before .before .loop .links) (c .before .before .before .before .before .before .loop .inv .4) (c .before .before .before .kind-of .result) (omega arith) (c .before .before .before .kind-of .ensures ∙ ap (λ (x : Entry). kindOf (x .kind)) (c .before .before .before .before .entry .ensures)) (sym (c .before .before .side-of .ensures) ∙ c .enum-told3 .given .1))
+loop-again-3 c = (search needs, search needs, length-set (c .before .before .before .before .before .loop .links) (c .before .before .before .before .before .loop .i) (c .before .before .before .before .before .loop .i) ∙ c .before .before .before .before .before .loop .inv .2, c .before .before .before .before .before .loop .inv .3, join-passes (c .before .before .before .before .before .before .before .before .args .tape .now) (c .before .before .before .before .before .before .before .before .args .count) (c .before .before .before .before .before .before .before .before .args .links .now) (c .before .before .before .before .before .loop .«open») (c .before .before .before .before .before .loop .depth) (c .before .before .before .before .before .loop .i) (c .before .before .before .before .before .loop .links) (c .before .before .before .before .before .loop .inv .4) (kindOf (c .before .before .before .entry .result .kind)) (omega arith) (ap (λ (x : Entry). kindOf (x .kind)) (c .before .before .before .entry .ensures)) (sym (c .before .before .side-at .ensures) ∙ c .enum-told3 .given .1))
 
 same-length : tie.Need-same-length Inv-loop μ-loop
 same-length c = search needs
@@ -139,8 +136,7 @@ join-spec =
     μ-loop
     loop-holds
     entry-requires
-    kind-of-requires
-    side-of-requires
+    side-at-requires
     enum-told
     cast-links
     mul-links

@@ -1,0 +1,4 @@
+pub mod Names
+pub mod Apart
+pub mod Fields
+pub mod inner

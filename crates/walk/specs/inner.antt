@@ -1,0 +1,3 @@
+-- What no call's promise rests on: the contracts of inner functions.
+pub mod Gathered
+pub mod Turns
