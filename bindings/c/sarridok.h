@@ -2,7 +2,7 @@
  *
  * Link the archive libsarridok_c.a (x86-64 Linux), which bindings/archive proves and builds and bindings/install installs. It asks the C library for memset and
  * nothing else: no heap, no files. It keeps nothing between calls: any number of threads may call it at once. A call uses at most 14 KiB of stack; a
- * walk, which keeps the entries that name fields there, at most 66 KiB: about 10 KiB for a tape of up to 8,192 entries, about 2.5 KiB for one of up to 512 (bench/stack).
+ * walk, which keeps the entries that name fields there, 66 KiB, however small the tape (bench/stack).
  *
  * What each function answers and writes is proved for all bytes and all numbers, of one definition each (crates/sarridok_c). No input is unfit to be given.
  * What the compiler cannot ask of a C program, and its writer must keep:
