@@ -74,21 +74,29 @@ unfolding limitAt widthAt
 wide false = omega arith
 wide true = omega arith
 
-module _ (t : List ℕ) (some : 0 < run digit t) (few : run digit t ≤ 9) where
-  nine-run : (minus : Bool) → runOf (limitAt (widest minus) minus) 10 (take (run digit t) t) ≡ Value (valueOf 10 (take (run digit t) t))
-  nine-run minus =
+module _ (t : List ℕ) (some : 0 < run digit t) where
+  -- digits read as their value wherever the limit allows it
+  run-is : (limit : ℕ) → valueOf 10 (take (run digit t) t) ≤ limit → runOf limit 10 (take (run digit t) t) ≡ Value (valueOf 10 (take (run digit t) t))
+  run-is limit fits =
       let n : ℕ = run digit t in
       let part : List ℕ = take n t in
       let long : length part ≡ n = length-take-le n t (run-le digit t) in
       let only = run-only t n (omega arith) in
       let first = digit-in (getD part 0 0) (only 0 (omega arith)) in
-      sym (digits-run (limitAt (widest minus) minus) 10 part (λ z. omega arith) (λ z. omega arith))
-      ∙ digits-exact (limitAt (widest minus) minus) 10 part (valueOf 10 part) (omega arith) .1
+      sym (digits-run limit 10 part (λ z. omega arith) (λ z. omega arith))
+      ∙ digits-exact limit 10 part (valueOf 10 part) (omega arith) .1
       (record {
         only = λ i k. inr (let d = digit-in (getD part i 0) (only i k) in omega (arith, digit-value (getD part i 0) (only i k)));
         value = refl;
-        fits = omega (arith, wide minus, value-nine part only (omega (arith, long, few)));
+        fits = fits;
       })
+
+  -- and that of 64 bits allows nine
+  nine-fits : run digit t ≤ 9 → (minus : Bool) → valueOf 10 (take (run digit t) t) ≤ limitAt (widest minus) minus
+  nine-fits few minus =
+      let part : List ℕ = take (run digit t) t in
+      let long : length part ≡ run digit t = length-take-le (run digit t) t (run-le digit t) in
+      omega (arith, wide minus, value-nine part (run-only t (run digit t) (omega arith)) (omega (arith, long, few)))
 
 -- ---- the whole
 
@@ -97,19 +105,21 @@ module _ (s : List ℕ) (some : 0 < run digit (drop (signOf s .end) s)) (quiet :
   unfolding floatAhead
   not-ahead = let t : List ℕ = drop (signOf s .end) s in rw (int-run t some quiet, float-run t some quiet) (le-ltb (run digit t) (run digit t) (omega arith))
 
-  front-is : frontOf s ≡ record { minus = signOf s .minus; base = 10; end = signOf s .end }
+  pub front-is : frontOf s ≡ record { minus = signOf s .minus; base = 10; end = signOf s .end }
   front-is =
       sym (front-said s (signOf s) (record { base = 10; end = 0 }) refl (sym (no-prefix (drop (signOf s .end) s) some quiet)))
       ∙ ap (λ (e : ℕ). record { minus = signOf s .minus; base = 10; end = e }) (add-zero (signOf s .end))
 
-  numeral-is : run digit (drop (signOf s .end) s) ≤ 9 → numeralOf (widest (signOf s .minus)) (signOf s .minus) 10 (drop (signOf s .end) s)
+  -- digits in a width that holds their value
+  pub numeral-is : (asked : ℕ) → valueOf 10 (take (run digit (drop (signOf s .end) s)) (drop (signOf s .end) s)) ≤ limitAt asked (signOf s .minus)
+      → numeralOf asked (signOf s .minus) 10 (drop (signOf s .end) s)
       ≡ numeral.Read (valueOf 10 (take (run digit (drop (signOf s .end) s)) (drop (signOf s .end) s))) 0 (run digit (drop (signOf s .end) s))
   unfolding numeralOf
-  numeral-is few =
+  numeral-is asked fits =
       let t : List ℕ = drop (signOf s .end) s in
       let n : ℕ = run digit t in
       let long : length (take n t) ≡ n = length-take-le n t (run-le digit t) in
-      rw (int-run t some quiet, no-letters t some quiet, nine-run t some few (signOf s .minus), long, add-zero n)
+      rw (int-run t some quiet, no-letters t some quiet, run-is t some (limitAt asked (signOf s .minus)) fits, long, add-zero n)
 
   pub integer-is : run digit (drop (signOf s .end) s) ≤ 9 → numberOf s
       ≡ Int (firstFit (signOf s .minus) (valueOf 10 (take (run digit (drop (signOf s .end) s)) (drop (signOf s .end) s)))) (signOf s .end + run digit (drop (signOf s .end) s))
@@ -117,4 +127,4 @@ module _ (s : List ℕ) (some : 0 < run digit (drop (signOf s .end) s)) (quiet :
   integer-is few =
       let t : List ℕ = drop (signOf s .end) s in
       let long : 0 < length s = omega (arith, length-drop (signOf s .end) s, run-le digit t) in
-      rw (not-ahead, ne-eqb (length s) 0 (λ z. omega arith), front-is, numeral-is few)
+      rw (not-ahead, ne-eqb (length s) 0 (λ z. omega arith), front-is, numeral-is (widest (signOf s .minus)) (nine-fits t some few (signOf s .minus)))

@@ -1,8 +1,10 @@
 pub mod Runs
 pub mod Values
 pub mod Said
+pub mod ShortLaws
 pub mod Begins
 pub mod Integers
+pub mod ShortIntegers
 pub mod Floats
 pub mod PlainNumbers
 pub mod Worked

@@ -1,2 +1,3 @@
 -- What no call's promise rests on: the contracts of inner functions.
 pub mod PlainNumbers
+pub mod Shorts

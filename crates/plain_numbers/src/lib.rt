@@ -14,6 +14,7 @@ ghost use lib.ListN.{length};
 ghost use Rattle.plain_numbers.specs.inner.PlainNumbers.{plainNumber, behindSign};
 
 pub mod parts;
+pub mod short;
 pub mod width;
 
 fn told(len: usize, kind: u32, detail: usize) -> Lexeme

@@ -1,6 +1,8 @@
 pub mod SkipDetermined
 pub mod IntegerDetermined
 pub mod Places
+pub mod ItemLaws
+pub mod IntegersLaws
 pub mod ReadDetermined
 pub mod ContentsLaws
 pub mod ContentsDetermined

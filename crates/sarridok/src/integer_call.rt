@@ -42,7 +42,7 @@ fn byte_as(byte: ByteAnswer, width: Width) -> Integer
 }
 
 // The integer at the front of a part.
-fn integer_at(s: &[u8], width: Width) -> Integer
+pub fn integer_at(s: &[u8], width: Width) -> Integer
     ensures { λ r. ⌜ r ≡ integerAt width (now (s .entry)) ⌝ }
 {
     if check_str(s, b"b'") {

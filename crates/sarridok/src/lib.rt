@@ -1,10 +1,13 @@
-// The calls that a host may make (document 01, "What the calls do"): read, walk, repair, integer, contents, decoded, struct_kind, skip.
+// The calls that a host may make (document 01, "What the calls do"): read, walk, repair, integer, contents, decoded, struct_kind, skip; and integers (document
+// 02, CR 7).
 //
 // None has a `requires`, and each promise is one definition of the whole answer and of every lent number afterwards. proofs/*Determined show that two
 // answers which meet a promise are equal. One page with all promises is proofs/Promises.antt of crate promises; docs/PROMISES.md has them in words.
 mod contents_call;
 mod decoded_call;
 mod integer_call;
+mod integers_call;
+mod items;
 mod read_call;
 mod repair_call;
 mod skip_call;
@@ -22,6 +25,8 @@ pub use integer_call::IntegerAnswer;
 pub use integer_call::integer;
 pub use integers::Value;
 pub use integers::Width;
+pub use integers_call::IntegersAnswer;
+pub use integers_call::integers;
 pub use read::measure::ReadAnswer;
 pub use read_call::read;
 pub use repair::repairer::RepairAnswer;
