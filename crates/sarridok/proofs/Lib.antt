@@ -3,6 +3,8 @@ pub mod IntegerDetermined
 pub mod Places
 pub mod ItemLaws
 pub mod IntegersLaws
+pub mod IntegersMeans
+pub mod IntegersDetermined
 pub mod ReadDetermined
 pub mod ContentsLaws
 pub mod ContentsDetermined

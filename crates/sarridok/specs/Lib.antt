@@ -1,6 +1,7 @@
 pub mod Skip
 pub mod Typed
 pub mod Integers
+pub mod Listed
 pub mod Contents
 pub mod Walked
 pub mod StructKind

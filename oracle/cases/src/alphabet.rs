@@ -23,6 +23,15 @@ const INTEGER: Alphabet = Alphabet {
     longest: 5,
 };
 
+/// The same with what parts one number from the next.
+const NUMBERS: Alphabet = Alphabet {
+    pieces: &[
+        " ", ",", "\n", "0", "1", "255", "300", "7", "a", "f", "_", "-", "+", ".", "0x", "0b", "0o", "b'", "'", "\\",
+        "u8", "i8", "u16", "i64", "e5", "b'a'", "-5", "é",
+    ],
+    longest: 5,
+};
+
 const CONTENTS: Alphabet = Alphabet {
     pieces: &[
         "\"", "\"", "\\", "r", "#", "b", "n", "x", "\\x", "\\xc3", "\\xA9", "\\u{", "}", "41", "D800", "\n", "\r", " ",
@@ -68,6 +77,7 @@ pub fn of_call(call: u8) -> &'static Alphabet {
     match call {
         b's' => &SKIP,
         b'i' => &INTEGER,
+        b'n' => &NUMBERS,
         b'c' | b'C' => &CONTENTS,
         b'k' => &STRUCT,
         b'w' => &WALK,
@@ -126,7 +136,7 @@ mod tests {
 
     #[test]
     fn strides_visit_every_text() {
-        for alphabet in [&SKIP, &INTEGER, &CONTENTS, &STRUCT, &READ, &WALK, &EDITED] {
+        for alphabet in [&SKIP, &INTEGER, &NUMBERS, &CONTENTS, &STRUCT, &READ, &WALK, &EDITED] {
             assert_ne!(texts(alphabet.pieces.len() as u64, alphabet.longest) % STRIDE, 0);
         }
         let all = texts(EDGES.len() as u64, LONGEST_EDGES);

@@ -4,7 +4,7 @@ use crate::edits::Edit;
 use crate::random::Random;
 use crate::tapes::WIDTH;
 use crate::{
-    alphabet, damage, edits, fields, gaps, limits, line, names, numbers, places, repairs, strings, tapes, walks,
+    alphabet, damage, edits, fields, gaps, limits, line, many, names, numbers, places, repairs, strings, tapes, walks,
 };
 
 /// One case in so many that have no short text has one at the size limit: one in 20,000 of all.
@@ -28,6 +28,8 @@ pub fn case(seed: u64, n: u64, calls: &[u8], into: &mut Vec<u8>) {
         b'P' => line::repair(into, &repairs::any(&mut r)),
         b'W' => line::walk_of(into, &walks::any(&mut r)),
         b'w' if round % 2 == 1 => walk(&mut r, into),
+        b'I' => line::integers_of(into, &many::any(&mut r)),
+        b'n' if round % 4 != 0 => integers(&mut r, into),
         _ => {
             let sample = match round % 4 {
                 0 => Sample { text: short(&mut r, seed, round / 4, call), ..Sample::default() },
@@ -65,6 +67,18 @@ fn walk(r: &mut Random, into: &mut Vec<u8>) {
         damage::damage(r, &mut text);
     }
     line::walk(into, fields::limit(r, &tokens), &text);
+}
+
+/// A text of numbers of many kinds, most of which are read; at times damaged.
+fn integers(r: &mut Random, into: &mut Vec<u8>) {
+    if r.once_in(LIMITS) {
+        return line::integers(into, &limits::text(r));
+    }
+    let mut text = many::text(r);
+    if r.once_in(8) {
+        damage::damage(r, &mut text);
+    }
+    line::integers(into, &text);
 }
 
 /// The short texts, from a place that the seed chooses, behind what makes the call look further;
@@ -186,6 +200,7 @@ fn write(r: &mut Random, call: u8, sample: &Sample, into: &mut Vec<u8>) {
         }
         b'R' => line::read_into(into, room(r, sample.entries), text),
         b'w' => line::walk(into, tapes::limit(r), text),
+        b'n' => line::integers(into, text),
         _ => line::read(into, text),
     }
 }

@@ -92,7 +92,7 @@ pub fn text(r: &mut Random, entries: usize) -> Laid {
 
 impl Laid {
     /// A token, mostly with a mark behind it, or a mark.
-    fn step(&mut self, r: &mut Random) {
+    pub fn step(&mut self, r: &mut Random) {
         match r.below(8) {
             0 => self.mark(r, b"([{"),
             1 => self.mark(r, b")]}"),
@@ -112,7 +112,7 @@ impl Laid {
         self.text.extend_from_slice(r.pick(GAPS).as_bytes());
     }
 
-    fn mark(&mut self, r: &mut Random, marks: &[u8]) {
+    pub fn mark(&mut self, r: &mut Random, marks: &[u8]) {
         if r.once_in(6) {
             self.gap(r);
         }

@@ -13,6 +13,7 @@ pub mod generator;
 pub mod laid;
 pub mod limits;
 pub mod line;
+pub mod many;
 pub mod names;
 pub mod numbers;
 pub mod places;

@@ -1,5 +1,6 @@
 //! A case line: the call's letter, then words.
 use crate::edits::Edit;
+use crate::many::Many;
 use crate::repairs::Repair;
 use crate::walks::Walk;
 
@@ -49,6 +50,23 @@ pub fn integer(line: &mut Vec<u8>, width: u64, place: u64, text: &[u8]) {
     line.push(b'i');
     number(line, width);
     number(line, place);
+    bytes(line, text);
+}
+
+/// `I LISTROOM CODEROOM COUNT E,E,.. HEX N,N,..`.
+pub fn integers_of(line: &mut Vec<u8>, many: &Many) {
+    line.push(b'I');
+    number(line, many.rooms[0]);
+    number(line, many.rooms[1]);
+    number(line, many.count);
+    tape(line, &many.list);
+    bytes(line, &many.text);
+    tape(line, &many.tape);
+}
+
+/// `n HEX`.
+pub fn integers(line: &mut Vec<u8>, text: &[u8]) {
+    line.push(b'n');
     bytes(line, text);
 }
 

@@ -1,12 +1,16 @@
 //! The words of a case line. Every function answers `None` for what is no such word.
 
-/// Buffers that serve from case to case: the text's bytes, those that an edit puts in, and the tape.
+/// Buffers that serve from case to case: the text's bytes, those that an edit puts in, the tape, and the list of entries.
 #[derive(Default)]
 pub struct Store {
     pub text: Vec<u8>,
     pub put: Vec<u8>,
     pub tape: Vec<u32>,
+    pub list: Vec<u32>,
 }
+
+/// Entry numbers in the longest list that is a word of a case.
+const LONGEST_LIST: usize = 65_536;
 
 /// The words behind the call's letter, separated by exactly one space.
 pub struct Line<'a> {
@@ -85,6 +89,12 @@ impl<'a> Line<'a> {
             }
         }
         Some(())
+    }
+
+    /// Entry numbers, written as a tape is; no more than the longest list has.
+    pub fn list(&mut self, into: &mut Vec<u32>) -> Option<()> {
+        self.tape(into)?;
+        (into.len() <= LONGEST_LIST).then_some(())
     }
 }
 

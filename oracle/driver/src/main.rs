@@ -2,6 +2,7 @@
 mod contents;
 mod grammar;
 mod integer;
+mod integers;
 mod line;
 mod read;
 mod refusal;
@@ -24,6 +25,8 @@ fn answer(line: &[u8], store: &mut Store, out: &mut Vec<u8>) -> Option<Answer> {
         b'r' => read::with_room_enough(&mut words, store, out),
         b'R' => read::with_numbers(&mut words, store, out),
         b'i' => integer::typed(&mut words, store, out),
+        b'I' => integers::of_any_tape(&mut words, store, out),
+        b'n' => integers::of_text(&mut words, store, out),
         b'c' => contents::of_one_entry(&mut words, store, out),
         b'C' => contents::of_any_tape(&mut words, store, out),
         b'k' => structs::kind(&mut words, store, out),

@@ -30,7 +30,7 @@ fn cut(line: &str) -> String {
 /// The text of a case, to be read by people: the word that holds it, out of hex.
 fn readable(case: &str) -> String {
     let word = match case.bytes().next() {
-        Some(b'r') => 1,
+        Some(b'r' | b'n') => 1,
         Some(b'R' | b'w') => 2,
         Some(b'i' | b'c') => 3,
         Some(b'k' | b's' | b'C' | b'p' | b'W') => 4,

@@ -1,17 +1,21 @@
-//! `laid COUNT SEED`: texts that `laid.rs` and `fields.rs` lay out and the answers that their tapes say, as lines of `corners.txt`.
+//! `laid COUNT SEED`: texts that `laid.rs`, `fields.rs` and `many.rs` lay out and the answers that their tapes say, as lines of `corners.txt`.
 use std::io::{self, Write};
 
-use cases::{fields, laid, line, random::Random, tapes::WIDTH};
+use cases::{fields, laid, line, many, random::Random, tapes::WIDTH};
 
 fn main() -> io::Result<()> {
     let mut words = std::env::args().skip(1).map(|word| word.parse::<u64>().unwrap_or(0));
     let (count, seed) = (words.next().unwrap_or(0), words.next().unwrap_or(0));
     for n in 0..count {
         let mut r = Random::of_case(seed, n);
-        let laid = match n % 2 {
+        let laid = match n % 3 {
             0 => {
                 let entries = r.below(30);
                 laid::text(&mut r, entries)
+            }
+            1 => {
+                let entries = r.below(30);
+                many::laid(&mut r, entries)
             }
             _ => {
                 let tokens = fields::document(&mut r);

@@ -3,6 +3,7 @@ mod contents;
 mod fields;
 mod gaps;
 mod integers;
+mod many;
 mod names;
 mod read;
 mod reasons;
@@ -52,5 +53,6 @@ pub fn lines(call: u8) -> Lines {
     reasons::lines(&mut lines, call);
     gaps::lines(&mut lines, call);
     fields::lines(&mut lines, call);
+    many::lines(&mut lines, call);
     lines
 }
