@@ -2,9 +2,11 @@
 use Prim.Native.Nat.{ℕ}
 use mathlib.Core.Bool.{cond}
 use mathlib.Core.List.{List}
-use lib.ListN.{drop}
+use native.Mathlib.Omega.{arith}
+use lib.Dec.{ltb}
+use lib.ListN.{drop, length}
 use Rattle.text.specs.Judged.{behindFront, placeFits}
-use Rattle.text.specs.Refusals.{refused, unfit}
+use Rattle.text.specs.Refusals.{notInOrder, refused, unfit}
 use Rattle.cursor.specs.Skip.{cursorFits, skipWsOf}
 use Rattle.cursor.specs.declared.ParserCursor.{ParserCursor}
 use Rattle.entries.specs.Contents.{byNamed, contentsIn, decodedIn}
@@ -18,14 +20,17 @@ use Rattle.structs.specs.Structs.{structTypeOf}
 use Rattle.structs.specs.declared.kinds.NewtypeMode.{NewtypeMode}
 use Rattle.structs.specs.declared.kinds.TupleMode.{TupleMode}
 use Rattle.sarridok.specs.Contents.{contentsOf, decodedAnswer}
+use Rattle.sarridok.specs.Integers.{inRoom, integersOf, itemsFrom}
 use Rattle.sarridok.specs.Skip.{skipOf, toldSkip}
 use Rattle.sarridok.specs.StructKind.{structKindOf, toldStruct}
 use Rattle.sarridok.specs.Typed.{integerAt, integerOf, placedAt, toldInteger as toldTyped}
+use Rattle.given.proofs.Front.{number-in, told-number}
+use Rattle.given.proofs.Listed.{integers-own}
 use Rattle.given.proofs.Owns.{contents-own, decoded-own, or-unfit, skip-own, struct-own}
 use Rattle.given.proofs.Repairs.{fitted-own, repaired-own}
 use Rattle.given.proofs.Typed.{integer-own}
 use Rattle.fronts.specs.Fronts.{FrontOf}
-use Rattle.fronts.proofs.Judgement.{front}
+use Rattle.fronts.proofs.Judgement.{front, front-judged}
 
 -- ---- calls at a place
 
@@ -57,6 +62,13 @@ pub decoded-front : (text tape : List ℕ) (count entry room : ℕ)
     → FrontOf text (decodedAnswer text tape count entry room) (byNamed (namedOf text tape count entry) (λ bytes place. decodedIn place room (literalOf bytes (drop place text))))
 unfolding decodedAnswer
 decoded-front text tape count entry room = front text _ (decoded-own text tape count entry room)
+
+-- integers asks of its count, then of its items
+pub integers-front : (text tape : List ℕ) (count : ℕ) (items : List ℕ) (m c : ℕ)
+    → FrontOf text (integersOf text tape count items m c) (cond (ltb (roomOf (length tape)) count) (refused notInOrder) (inRoom (length items) m c (itemsFrom text tape count items 0)))
+unfolding integersOf
+integers-front text tape count items m c =
+    front-judged text _ (λ fit r e. omega (arith, number-in 4 29 r (told-number 29 _ r (integers-own text fit tape count items m c) e)))
 
 -- ---- whole texts
 

@@ -50,12 +50,12 @@ judged-low text r e = low-number (judgedOf text) r (low text) e
 same : {A : Type 0} (q r : Refusal) → _≡_ {A = Told A} (refused q) (refused r) → q ≡ r
 same q r e = cc
 
--- a call whose own refusals are higher
-module _ {A : Type 0} (own : Told A) (higher : (r : Refusal) → own ≡ refused r → 2 < r .number) where
+-- a call whose own refusals are higher, where the text is fit
+module _ {A : Type 0} (own : Told A) where
   -- 1 and 2 are the judgement's
-  judged : (j : Judged) (r : Refusal) → r .number ≤ 2 → (behindJudged j own ≡ refused r) ↔ (j ≡ Refused r)
-  judged Fit r l = (λ e. absurd (omega (arith, higher r e)), λ e. (let z : _≡_ {A = ℕ} 0 1 = cc in absurd (omega arith)))
-  judged (Refused q) r l = (λ e. ap Refused (same q r e), λ e. (let s : q ≡ r = cc in ap refused s))
+  judged : (j : Judged) → (j ≡ Fit → (r : Refusal) → own ≡ refused r → 2 < r .number) → (r : Refusal) → r .number ≤ 2 → (behindJudged j own ≡ refused r) ↔ (j ≡ Refused r)
+  judged Fit higher r l = (λ e. absurd (omega (arith, higher refl r e)), λ e. (let z : _≡_ {A = ℕ} 0 1 = cc in absurd (omega arith)))
+  judged (Refused q) higher r l = (λ e. ap Refused (same q r e), λ e. (let s : q ≡ r = cc in ap refused s))
 
   -- a higher refusal is not
   fit : (j : Judged) (r : Refusal) → Low j → behindJudged j own ≡ refused r → 2 < r .number → j ≡ Fit
@@ -72,13 +72,14 @@ through : {A B C : Type 0} → A ↔ B → B ↔ C → A ↔ C
 through (f, g) (h, k) = (λ a. h (f a), λ c. g (k c))
 
 -- the front of every call
-pub front-higher : {A : Type 0} (text : List ℕ) (own : Told A) → ((r : Refusal) → own ≡ refused r → 2 < r .number) → FrontOf text (behindJudged (judgedOf text) own) own
-front-higher text own h = record {
-  long = through (judged own h j tooLong (lit≤ tt)) (long-exactly text);
-  bad = λ p. through (judged own h j (notUtf8 p) (lit≤ tt)) (bad-exactly text p);
+pub front-judged : {A : Type 0} (text : List ℕ) (own : Told A) → (judgedOf text ≡ Fit → (r : Refusal) → own ≡ refused r → 2 < r .number)
+    → FrontOf text (behindJudged (judgedOf text) own) own
+front-judged text own h = record {
+  long = through (judged own j h tooLong (lit≤ tt)) (long-exactly text);
+  bad = λ p. through (judged own j h (notUtf8 p) (lit≤ tt)) (bad-exactly text p);
   past = past;
-  accepts = λ a e. fit-exactly text .0 (accepts own h j a e);
-  refuses = λ r e. (λ k. fit-exactly text .0 (fit own h j r (low text) e k), λ s. h r (sym (past s) ∙ e));
+  accepts = λ a e. fit-exactly text .0 (accepts own j a e);
+  refuses = λ r e. (λ k. fit-exactly text .0 (fit own j r (low text) e k), λ s. h (fit-exactly text .1 s) r (sym (past s) ∙ e));
 }
   where
     j : Judged
@@ -86,6 +87,10 @@ front-higher text own h = record {
 
     past : Sound text → behindJudged j own ≡ own
     past s = rw (fit-exactly text .1 s)
+
+-- of those whose own refusals are higher over any text
+pub front-higher : {A : Type 0} (text : List ℕ) (own : Told A) → ((r : Refusal) → own ≡ refused r → 2 < r .number) → FrontOf text (behindJudged (judgedOf text) own) own
+front-higher text own h = front-judged text own (λ f. h)
 
 -- and so of those that refuse with 4 to 29
 pub front : {A : Type 0} (text : List ℕ) (own : Told A) → Own-told own → FrontOf text (behindJudged (judgedOf text) own) own

@@ -20,4 +20,5 @@ pub mod Structs
 pub mod Walks
 pub mod Typed
 pub mod Owns
+pub mod Listed
 pub mod Calls

@@ -1,12 +1,14 @@
 -- What is promised of the interface for C: nothing of an answer is cut off where it is packed into one number, so that a host which takes the number
 -- apart, as bindings/c/sarridok.h says, gets every number of the answer back. Each line is a theorem's statement; its proof only says where it is proved.
 -- Assumes nothing.
-use Prim.Native.Nat.{ℕ}
+use Prim.Native.Nat.{ℕ, _^_, _≤_}
 use mathlib.Core.List.{List}
+use lib.ListN.{length}
 use Rattle.cursor.specs.declared.ParserCursor.{ParserCursor}
 use Rattle.read.specs.Read.{readAnswer}
 use Rattle.repair.specs.Repair.{repairOf}
 use Rattle.sarridok.specs.Contents.{contentsOf, decodedAnswer}
+use Rattle.sarridok.specs.Integers.{done, integersOf}
 use Rattle.sarridok.specs.Skip.{skipOf}
 use Rattle.sarridok.specs.Walked.{walkOf}
 use Rattle.sarridok_c.specs.Numbered.{integerNumbered, kindNumbered}
@@ -37,3 +39,7 @@ walk-whole = cut.walk-whole
 
 pub repair-whole : (tape : List ℕ) (count o a b : ℕ) (text : List ℕ) → Whole repairedWord repairedParts (repairOf tape count o a b text)
 repair-whole = cut.repair-whole
+
+-- The place of a refused item is whole in a list of at most 2^32 items; of a longer one an item behind is told as the last of 32 bits.
+pub integers-whole : (text tape : List ℕ) (count : ℕ) (items : List ℕ) (m c : ℕ) → length items ≤ 2 ^ 32 → Whole doneWord doneParts (done (integersOf text tape count items m c))
+integers-whole = cut.integers-whole

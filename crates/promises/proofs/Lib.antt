@@ -1,5 +1,6 @@
 pub mod Skips
 pub mod Integers
+pub mod Lists
 pub mod Strings
 pub mod StructKinds
 pub mod Readings

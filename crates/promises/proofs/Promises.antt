@@ -1,9 +1,10 @@
 -- What is promised: the index, and what all calls share. What the calls promise themselves stands in their contracts, crates/sarridok/src: the answer,
 -- told in the paper's words, is what a definition says of the arguments, and so is each lent slice afterwards; none has a `requires`. Beside this file:
--- Skips         skip; gaps and comments; 4, 5 and 6     Integers      integer; 6 to 10 and 27; digit runs, byte literals     Strings       contents,
+-- Skips         skip; gaps and comments; 4, 5 and 6     Integers      integer; 6 to 10 and 27; digit runs, byte literals     Lists         integers; the
+-- single calls that it is, and what refuses it     Strings       contents,
 -- contents_part, decoded; escapes, strings, chars     StructKinds   struct_kind     Readings      read; what it reads, what is shut out; names, floats
 -- Walks         walk; 24, 25, 26 and 31; links     Repairs       repair; the third demand     Hosts         the interface for C: nothing of an answer is cut
--- off Demand 1: `refused-read`, `refused-decoded`, `refused-walk`, `refused-repair`; the other calls are lent nothing to write. Demand 2: what is said of
+-- off Demand 1: `refused-read`, `refused-decoded`, `refused-walk`, `refused-repair`, `refused-integers`; the other calls are lent nothing to write. Demand 2: what is said of
 -- each call. Demand 3: `repair-as-read`. In both a refusal is its number, place and reason. Each line is a theorem's statement; its proof only says where it is proved. Assumes nothing.
 use Prim.Native.Nat.{ℕ, _<_, _≤_}
 use mathlib.Core.Bool.{true}
@@ -26,9 +27,10 @@ use Rattle.given.proofs.Calls.{never-three}
 use Rattle.given.proofs.Calls as calls
 use Rattle.worked.specs.Fields.{fieldTexts}
 use Rattle.worked.specs.Gaps.{gapTexts}
+use Rattle.worked.specs.Lists.{listTexts}
 use Rattle.worked.specs.Reasons.{reasonTexts}
 use Rattle.worked.specs.Texts.{AllHold, texts}
-use Rattle.worked.proofs.Worked.{worked, worked-fields, worked-gaps, worked-reasons}
+use Rattle.worked.proofs.Worked.{worked, worked-fields, worked-gaps, worked-lists, worked-reasons}
 
 -- ---- the front of every call with a text
 
@@ -93,3 +95,7 @@ gaps-hold = worked-gaps
 -- Those of change request 2: fields that come again and those that do not, before and behind other refusals, and 23 where a raw name is none or an entry ends past the text.
 pub fields-hold : AllHold fieldTexts
 fields-hold = worked-fields
+
+-- Those of change request 7: a list of integers read in one call, and each way in which one is refused.
+pub lists-hold : AllHold listTexts
+lists-hold = worked-lists

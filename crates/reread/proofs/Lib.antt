@@ -4,4 +4,5 @@ pub mod IntegerTokens
 pub mod TokenKinds
 pub mod Decodable
 pub mod Retyped
+pub mod Relisted
 pub mod WideNames

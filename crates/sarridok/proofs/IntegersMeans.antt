@@ -3,7 +3,7 @@ use Prim.Native.Nat.{ℕ, zero, suc, _+_, _≤_, _<_}
 use native.Mathlib.Nat.{add-zero, lt-irrefl, zero-add}
 use native.Mathlib.Omega.{arith}
 use mathlib.Core.Bool.{Bool, true, false, cond, not, _||_}
-use mathlib.Core.List.{List, [], _∷_}
+use mathlib.Core.List.{List, [], _∷_, _++_, map}
 use mathlib.Core.Logic.{_↔_, _⊎_, inl, inr}
 use mathlib.Core.Path.{_≡_, ap, refl, subst, sym, _∙_}
 use lib.Dec.{eqb, le→leb, ltb}
@@ -35,7 +35,7 @@ use Rattle.strings.specs.Chars.{byteOf}
 use Rattle.strings.specs.declared.chars.ByteAnswer.{ByteAnswer}
 use Rattle.strings.specs.declared.chars.ByteAnswer.the-variants as byte
 use Rattle.sarridok.specs.Typed.{Typed, byteAs, integerAt, integerOf, placedAt, signedNumber, toldInteger}
-use Rattle.sarridok.specs.Integers.{Coded, before, codedAs, codeFor, entryInteger, integersOf, itemOf, itemsFrom, namesInteger}
+use Rattle.sarridok.specs.Integers.{Coded, before, codedAs, codeFor, codesAfter, entryInteger, integersOf, itemOf, itemsFrom, magnitudesAfter, namesInteger}
 use Rattle.sarridok.specs.Listed.{Entered, FirstRefused, ItemReads, ItemRefused, ListReads, ListRefused, Tells, Written, byCount, byItem, byRoom, byText, noEntry, noInteger, noPlace, single, unread}
 use Rattle.sarridok.specs.inner.Items.{verdictOf}
 use Rattle.sarridok.proofs.IntegersLaws as laws
@@ -193,6 +193,16 @@ module _ (text tape : List ℕ) (count : ℕ) where
   reads-all (i ∷ is) [] k n h = absurd (omega (arith, n))
   reads-all (i ∷ is) (c ∷ cs) k n h = reads-next i is c cs k (h 0 (omega arith)) (reads-all is cs (k + 1) (omega (arith, n)) (λ j l. h (suc j) (omega (arith, l))))
 
+  -- whatever they read as
+  pub makes-all : (items : List ℕ) (k : ℕ) → ((j : ℕ) → j < length items → (c : Coded) × (itemOf text tape count (getD items j 0) ≡ accepted c))
+      → (cs : List Coded) × (itemsFrom text tape count items k ≡ accepted cs)
+  unfolding itemsFrom
+  makes-all [] k h = ([], refl)
+  makes-all (i ∷ is) k h =
+      let first = h 0 (omega arith) in
+      let rest = makes-all is (k + 1) (λ j l. h (suc j) (omega (arith, l))) in
+      (first .0 ∷ rest .0, reads-next i is (first .0) (rest .0) k (first .1) (rest .1))
+
   -- the first item that is refused refuses the list
   stops-next : (i : ℕ) (is : List ℕ) (c : Coded) (k : ℕ) (q : Refusal) → itemOf text tape count i ≡ accepted c → itemsFrom text tape count is (k + 1) ≡ refused q
       → itemsFrom text tape count (i ∷ is) k ≡ refused q
@@ -345,3 +355,21 @@ module _ (text tape : List ℕ) (count : ℕ) (items : List ℕ) (m c : ℕ) whe
       back q (byCount j h) = laws.by-count text tape count items m c j h
       back q (byItem k s g f) = laws.by-item text tape count items m c (g .0) (g .1) (atPlace s k) (ap verdictOf (first-stops text tape count (g .0) items k s f))
       back q (byRoom cs g l s) = full-answer g cs (list-reads text tape count (g .0) items cs .1 l) s
+
+-- ---- the buffers
+
+module _ (text tape : List ℕ) (count : ℕ) (items ms cs : List ℕ) where
+  -- an accepted call leaves one number of each item at the front of each buffer, and what stood behind them
+  pub accepted-fills : (vs : List Coded) → integersOf text tape count items (length ms) (length cs) ≡ accepted vs
+      → (magnitudesAfter text tape count items ms cs ≡ map (λ (v : Coded). v .magnitude) vs ++ drop (length items) ms)
+      × (codesAfter text tape count items ms cs ≡ map (λ (v : Coded). v .code) vs ++ drop (length items) cs)
+  unfolding magnitudesAfter codesAfter
+  accepted-fills vs e =
+      let many : length vs ≡ length items = integers-accepted text tape count items (length ms) (length cs) vs .0 e .3 .as-many in
+      rw (e, many) (refl, refl)
+
+  -- a refused one leaves both
+  pub refused-leaves : (r : Refusal) → integersOf text tape count items (length ms) (length cs) ≡ refused r
+      → (magnitudesAfter text tape count items ms cs ≡ ms) × (codesAfter text tape count items ms cs ≡ cs)
+  unfolding magnitudesAfter codesAfter
+  refused-leaves r e = rw e (refl, refl)

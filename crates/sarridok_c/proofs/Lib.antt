@@ -4,4 +4,5 @@ pub mod Unpacking
 pub mod CallPlaces
 pub mod WalkPlaces
 pub mod ReadPlaces
+pub mod ListPlaces
 pub mod NothingCut

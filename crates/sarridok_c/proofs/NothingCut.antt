@@ -1,11 +1,13 @@
 -- Nothing is ever cut off: from the number that each call answers a host gets back whether it was refused, and every number of the answer.
---     read-whole, walk-whole, repair-whole, integer-whole, contents-whole, decoded-whole, struct-whole, skip-whole
--- They hold of any text, tape and numbers. Assumes nothing.
-use Prim.Native.Nat.{ℕ}
+--     read-whole, walk-whole, repair-whole, integer-whole, contents-whole, decoded-whole, struct-whole, skip-whole, integers-whole
+-- They hold of any text, tape and numbers; the last of lists of at most 2^32 items. Assumes nothing.
+use Prim.Native.Nat.{ℕ, _^_, _≤_, _<_}
+use native.Mathlib.Omega.{arith}
 use mathlib.Core.Bool.{_&&_}
 use mathlib.Core.List.{List}
 use mathlib.Core.Path.{_≡_, refl}
 use lib.Dec.{leb}
+use lib.ListN.{length}
 use Rattle.text.specs.Refusals.{Told, accepted, refused}
 use Rattle.text.specs.declared.refusal.Refusal.{Refusal}
 use Rattle.cursor.specs.declared.ParserCursor.{ParserCursor}
@@ -15,20 +17,23 @@ use Rattle.structs.specs.declared.kinds.StructType.the-variants.{AnyTuple, Empt
 use Rattle.read.specs.Read.{readAnswer}
 use Rattle.repair.specs.Repair.{repairOf}
 use Rattle.sarridok.specs.Contents.{contentsOf, decodedAnswer}
+use Rattle.sarridok.specs.Integers.{done, integersOf}
 use Rattle.sarridok.specs.Skip.{skipOf}
 use Rattle.sarridok.specs.StructKind.{structKindOf}
 use Rattle.sarridok.specs.Typed.{integerOf}
 use Rattle.sarridok.specs.Walked.{walkOf}
 use Rattle.given.proofs.Both.{both}
 use Rattle.given.proofs.Calls.{contents-given, decoded-given, integer-given, read-given, repair-given, skip-given, struct-given, walk-given}
+use Rattle.given.proofs.Listed.{integers-given}
 use Rattle.given.specs.Given.{Given}
 use Rattle.sarridok_c.specs.Numbered.{integerNumbered, kindNumbered, newtypeAt, tupleAt}
 use Rattle.sarridok_c.specs.Packed.{atMost, pairOf}
 use Rattle.sarridok_c.specs.Whole.{Whole, countParts, cursorParts, doneParts, kindParts, repairedParts, spanParts, typedParts}
 use Rattle.sarridok_c.specs.Words.{countWord, cursorWord, doneWord, kindWord, repairedWord, spanWord, typedWord}
 use Rattle.sarridok_c.proofs.CallPlaces.{contents-low, decoded-low, integer-low, skip-low, struct-low}
+use Rattle.sarridok_c.proofs.ListPlaces.{done-refused, list-place}
 use Rattle.sarridok_c.proofs.ReadPlaces.{read-low, repair-low}
-use Rattle.sarridok_c.proofs.Unpacking.{Low, Short, given-low, got-back, unfit-low}
+use Rattle.sarridok_c.proofs.Unpacking.{Low, Short, given-low, got-back, unfit-low, unpack-pair, unpack-refusal}
 use Rattle.sarridok_c.proofs.WalkPlaces.{walk-low}
 
 -- ---- widths and modes by their numbers
@@ -118,3 +123,14 @@ struct-whole text place newtype tuple =
 -- skip: the cursor's place
 pub skip-whole : (text : List ℕ) (c : ParserCursor) → Whole cursorWord cursorParts (skipOf text c)
 skip-whole text c = got-back cursorWord cursorParts (λ c. refl) (skipOf text c) (λ r e. given-low r (skip-given text c r e)) (skip-low text c)
+
+-- integers: nothing but a refusal, and its place whole for a list of at most 2^32 items
+done-whole : (t : Told Unit) → ((r : Refusal) → t ≡ refused r → Short r × (r .place < 2 ^ 32)) → Whole doneWord doneParts t
+unfolding pairOf atMost
+done-whole (accepted u) h = unpack-pair 0 0 (omega arith) (omega arith)
+done-whole (refused r) h = let n = h r refl in unpack-refusal r (n .0) (n .1)
+
+pub integers-whole : (text tape : List ℕ) (count : ℕ) (items : List ℕ) (m c : ℕ) → length items ≤ 2 ^ 32 → Whole doneWord doneParts (done (integersOf text tape count items m c))
+integers-whole text tape count items m c h =
+    done-whole (done (integersOf text tape count items m c))
+    (λ r e. (given-low r (integers-given text tape count items m c r (done-refused (integersOf text tape count items m c) r e)), list-place text tape count items m c h r e))

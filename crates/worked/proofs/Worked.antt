@@ -53,6 +53,7 @@ use Rattle.entries.specs.Named.{byKind, insideOf, namedOf}
 use Rattle.structs.specs.Passes.{pastGap, pastChar, pastString, pastByteString}
 use Rattle.structs.specs.Structs.{decided, afterName, insideBrackets as contentsOf·structs, unlessEmpty, parenthesized, insideNewtype, structTypeOf}
 use Rattle.sarridok.specs.Contents.{contentsOf as contentsOf·sarridok, decodedAnswer, decodedOut}
+use Rattle.sarridok.specs.Integers.{entryInteger, itemOf as itemOf·sarridok, itemsFrom, integersOf, magnitudesAfter, codesAfter}
 use Rattle.sarridok.specs.Skip.{skipOf}
 use Rattle.sarridok.specs.StructKind.{structKindOf}
 use Rattle.sarridok.specs.Typed.{integerAt, integerOf}
@@ -63,17 +64,19 @@ use Rattle.fields.specs.Fields.{againFrom, isNamed, same}
 use Rattle.fields.specs.Names.{rawFits, rawsFit}
 use Rattle.worked.specs.Fields.{fieldTexts}
 use Rattle.worked.specs.Gaps.{gapTexts}
+use Rattle.worked.specs.Lists.{listTexts}
 use Rattle.worked.specs.Reasons.{reasonTexts}
 use Rattle.worked.specs.Texts.{AllHold, texts}
 
 -- the lists, by one computation
-all-worked : AllHold texts × AllHold reasonTexts × AllHold gapTexts × AllHold fieldTexts
-unfolding within blank blank1 blank2 blank3 blankWidth digit letter hexDigit intChar floatChar asciiFirst asciiNext asciiRaw nextAhead identFirst identNext identRaw continuationBlank judgedOf·text judgedOf·floats placeFits behindFront run run2 asciiFor encode secondByte behindThree behindFour widthOf charLen utf8From utf8Of codeOf4 codeOf scalar encodedLen encodeAnswer encodedInto markOf blockFrom blockEnd behindSlash commentOf itemOf·comments itemOf·attributes gapFrom gapOf lineFrom lineEnd·comments lineEnd·strings hexOf secondDigit twoDigits closeOf digitsOf unicodeEscape nextByte moreBytes hexEscape simpleOf escapeOf orderly inOrderFrom inOrder entryAt entriesOf written flat laid anyQuiet countOf keptBefore lastQuiet isMoved areMoved allBehind areKept largest keptBehind quietByte place entries counted endOf tokensFrom charIf charsFrom chars beginsFloat suffixed named missing wordOf·names wordOf·attributes nameLen plainOf rawOf·names rawOf·strings skipIdentifierOf strictOf identifierOf startsWith beginsString beginsRaw turnOf digitsFrom runOf valueFrom·digits valueFrom·attributes signOf prefixOf frontOf numeralOf typedOf anyOf widthAt limitAt firstFit suffixWord suffixOf identOf firstOf floatGoes runAt floatOf stepOf·floats stepOf·structs accepts wellTo stripped floatAhead numberOf charEnds charOf byteEnds byteOf unquoted plain behindBackslash pieceOf decodedLen bodyFrom bodyOf decodedOf measured quotedOf rawEnd rawContents stringOf byteStringOf stringDecoded byteStringDecoded enableFrom keywordFrom openedOf attributeOf noEnd listEnd closeList stringEnd stringFrom isWord firstNamed extensionOf addedTo otherChar itemEnd behindName listFrom listOf skipFrom consumeFrom signAt signFrom byWord keywordAt ronToken markKind startsNumber behindB behindR shapeOf tokenOf readAnswer readTape cutFits repairFits leading joins scanOf·repair scanOf·structs repairAnswerOf cleared repairTapeOf repairOf repairedTape laidAt byKind insideOf namedOf pastGap pastChar pastString pastByteString markedBy pastSpurious afterComma scanFrom decided afterName contentsOf·structs contentsOf·sarridok unlessEmpty parenthesized insideNewtype structTypeOf decodedAnswer decodedOut skipOf structKindOf integerAt integerOf behindWalkFront walkOf linksAfter kindOf kindsOf check link againFrom isNamed same rawFits rawsFit
+all-worked : AllHold texts × AllHold reasonTexts × AllHold gapTexts × AllHold fieldTexts × AllHold listTexts
+unfolding within blank blank1 blank2 blank3 blankWidth digit letter hexDigit intChar floatChar asciiFirst asciiNext asciiRaw nextAhead identFirst identNext identRaw continuationBlank judgedOf·text judgedOf·floats placeFits behindFront run run2 asciiFor encode secondByte behindThree behindFour widthOf charLen utf8From utf8Of codeOf4 codeOf scalar encodedLen encodeAnswer encodedInto markOf blockFrom blockEnd behindSlash commentOf itemOf·comments itemOf·attributes gapFrom gapOf lineFrom lineEnd·comments lineEnd·strings hexOf secondDigit twoDigits closeOf digitsOf unicodeEscape nextByte moreBytes hexEscape simpleOf escapeOf orderly inOrderFrom inOrder entryAt entriesOf written flat laid anyQuiet countOf keptBefore lastQuiet isMoved areMoved allBehind areKept largest keptBehind quietByte place entries counted endOf tokensFrom charIf charsFrom chars beginsFloat suffixed named missing wordOf·names wordOf·attributes nameLen plainOf rawOf·names rawOf·strings skipIdentifierOf strictOf identifierOf startsWith beginsString beginsRaw turnOf digitsFrom runOf valueFrom·digits valueFrom·attributes signOf prefixOf frontOf numeralOf typedOf anyOf widthAt limitAt firstFit suffixWord suffixOf identOf firstOf floatGoes runAt floatOf stepOf·floats stepOf·structs accepts wellTo stripped floatAhead numberOf charEnds charOf byteEnds byteOf unquoted plain behindBackslash pieceOf decodedLen bodyFrom bodyOf decodedOf measured quotedOf rawEnd rawContents stringOf byteStringOf stringDecoded byteStringDecoded enableFrom keywordFrom openedOf attributeOf noEnd listEnd closeList stringEnd stringFrom isWord firstNamed extensionOf addedTo otherChar itemEnd behindName listFrom listOf skipFrom consumeFrom signAt signFrom byWord keywordAt ronToken markKind startsNumber behindB behindR shapeOf tokenOf readAnswer readTape cutFits repairFits leading joins scanOf·repair scanOf·structs repairAnswerOf cleared repairTapeOf repairOf repairedTape laidAt byKind insideOf namedOf pastGap pastChar pastString pastByteString markedBy pastSpurious afterComma scanFrom decided afterName contentsOf·structs contentsOf·sarridok unlessEmpty parenthesized insideNewtype structTypeOf decodedAnswer decodedOut skipOf structKindOf integerAt integerOf behindWalkFront walkOf linksAfter kindOf kindsOf check link againFrom isNamed same rawFits rawsFit entryInteger itemOf·sarridok itemsFrom integersOf magnitudesAfter codesAfter
 all-worked = (
   ((refl, refl), ((refl, refl), ((refl, refl), ((refl, refl), ((refl, refl), (refl, (refl, (refl, (refl, (refl, ((refl, refl), (refl, ((refl, refl), tt))))))))))))),
   ((refl, refl), ((refl, refl), ((refl, refl), ((refl, refl), ((refl, refl), ((refl, refl), ((refl, refl), ((refl, refl), (refl, ((refl, refl), (refl, ((refl, refl), tt)))))))))))),
   ((refl, refl), ((refl, refl), ((refl, refl), ((refl, refl), ((refl, refl), ((refl, refl), ((refl, refl), tt))))))),
   ((refl, refl), ((refl, refl), ((refl, refl), ((refl, refl), ((refl, refl), ((refl, refl), ((refl, refl), ((refl, refl), tt)))))))),
+  ((refl, refl, refl), ((refl, refl, refl), ((refl, refl, refl), ((refl, refl, refl), ((refl, refl, refl), ((refl, refl, refl), tt)))))),
 )
 
 -- document 01, "Worked texts"
@@ -91,3 +94,7 @@ worked-gaps = all-worked .2
 -- fields that come again, and raw names that are none
 pub worked-fields : AllHold fieldTexts
 worked-fields = all-worked .3
+
+-- lists of integers
+pub worked-lists : AllHold listTexts
+worked-lists = all-worked .4

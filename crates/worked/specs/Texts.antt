@@ -17,6 +17,7 @@ use Rattle.structs.specs.declared.kinds.StructType.{StructType}
 use Rattle.structs.specs.declared.kinds.StructType.the-variants.{NewtypeTuple}
 use Rattle.repair.specs.Repair.{Repaired, repairOf, repairedTape}
 use Rattle.sarridok.specs.Typed.{Typed, integerOf}
+use Rattle.sarridok.specs.Integers.{done, integersOf, magnitudesAfter, codesAfter}
 use Rattle.sarridok.specs.Contents.{decodedAnswer, decodedOut}
 use Rattle.sarridok.specs.StructKind.{structKindOf}
 use Rattle.sarridok.specs.Walked.{walkOf, linksAfter}
@@ -29,10 +30,11 @@ pub data Claim : Type 0 where
   repairs : List ℕ → ℕ → ℕ → ℕ → ℕ → List ℕ → Told Repaired → List ℕ → Claim
   walks : List ℕ → List ℕ → ℕ → ℕ → List ℕ → Told Unit → List ℕ → Claim
   struct-is : List ℕ → NewtypeMode → TupleMode → Told StructType → Claim
+  lists : List ℕ → List ℕ → ℕ → List ℕ → List ℕ → List ℕ → Told Unit → List ℕ → List ℕ → Claim
 
 -- That it is so: a text read into a tape; typed at its front; the first of a tape's one entry decoded into a buffer; its struct kind at the
 -- front; the tape of an old text of so many bytes, of which those from a to b were replaced, repaired; and a text and so many entries of a tape walked with a
--- limit, into links.
+-- limit, into links; and a list of so many entries of a tape read, into magnitudes and codes.
 abbrev pub Holds : Claim → Type 0
 Holds (reads text tape answer after) = (readAnswer text (length tape) ≡ answer) × (readTape text tape ≡ after)
 Holds (types text width answer) = integerOf text 0 width ≡ answer
@@ -40,6 +42,9 @@ Holds (decodes text tape out answer after) = (decodedAnswer text tape 1 0 (lengt
 Holds (repairs tape count old a b text answer after) = (repairOf tape count old a b text ≡ answer) × (repairedTape tape count old a b text ≡ after)
 Holds (walks text tape count limit links answer after) = (walkOf text tape count limit (length links) ≡ answer) × (linksAfter text tape count limit links ≡ after)
 Holds (struct-is text newtype tuple answer) = structKindOf text 0 newtype tuple ≡ answer
+Holds (lists text tape count items ms cs answer ms′ cs′) =
+    (done (integersOf text tape count items (length ms) (length cs)) ≡ answer) × (magnitudesAfter text tape count items ms cs ≡ ms′)
+    × (codesAfter text tape count items ms cs ≡ cs′)
 
 -- That each of a list is so.
 abbrev pub AllHold : List Claim → Type 0
