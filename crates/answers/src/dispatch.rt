@@ -1,11 +1,12 @@
 // A line of the case format: a letter, a space and the letter's own words.
 
-// The answer at a place of the output; text and tape are room for what a line says, links and spare for what a call writes.
+// The answer at a place of the output; text, tape and links are room for what a line says, links, numbers and spare for what a call writes.
 pub fn answer(
     line: &[u8],
     text: &mut [u8],
     tape: &mut [u32],
     links: &mut [u32],
+    numbers: &mut [u64],
     spare: &mut [u8],
     o: &mut [u8],
     at: usize,
@@ -24,6 +25,8 @@ pub fn answer(
         b'r' => tapes::read_text::answer(&line[2..], text, tape, o, at),
         b'W' => tapes::walk_any::answer(&line[2..], text, tape, links, o, at),
         b'w' => tapes::walk_text::answer(&line[2..], text, tape, links, o, at),
+        b'I' => lists::list_any::answer(&line[2..], text, tape, links, numbers, spare, o, at),
+        b'n' => lists::list_text::answer(&line[2..], text, tape, links, numbers, spare, o, at),
         b'C' => cases::any_c::answer(&line[2..], text, tape, spare, o, at),
         b'c' => cases::c::answer(&line[2..], text, spare, o, at),
         b'i' => cases::i::answer(&line[2..], text, o, at),

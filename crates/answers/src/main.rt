@@ -22,6 +22,7 @@ fn answer(
     text: &mut [u8],
     tape: &mut [u32],
     links: &mut [u32],
+    numbers: &mut [u64],
     spare: &mut [u8],
     o: &mut [u8],
     at: usize,
@@ -29,7 +30,7 @@ fn answer(
     if passing {
         return at;
     }
-    let a = dispatch::answer(line, text, tape, links, spare, o, at);
+    let a = dispatch::answer(line, text, tape, links, numbers, spare, o, at);
     out::byte(o, a, b'\n')
 }
 
@@ -41,6 +42,7 @@ fn line(
     text: &mut [u8],
     tape: &mut [u32],
     links: &mut [u32],
+    numbers: &mut [u64],
     spare: &mut [u8],
     o: &mut [u8],
 ) -> State {
@@ -51,6 +53,7 @@ fn line(
         text,
         tape,
         links,
+        numbers,
         spare,
         o,
         s.at,
@@ -72,6 +75,7 @@ fn last(
     text: &mut [u8],
     tape: &mut [u32],
     links: &mut [u32],
+    numbers: &mut [u64],
     spare: &mut [u8],
     o: &mut [u8],
 ) -> State {
@@ -81,6 +85,7 @@ fn last(
         text,
         tape,
         links,
+        numbers,
         spare,
         o,
         s.at,
@@ -101,6 +106,7 @@ fn too_long(
     text: &mut [u8],
     tape: &mut [u32],
     links: &mut [u32],
+    numbers: &mut [u64],
     spare: &mut [u8],
     o: &mut [u8],
 ) -> State {
@@ -108,7 +114,17 @@ fn too_long(
         from: 0,
         to: 0,
         ended: false,
-        at: answer(s.passing, b"too long", text, tape, links, spare, o, s.at),
+        at: answer(
+            s.passing,
+            b"too long",
+            text,
+            tape,
+            links,
+            numbers,
+            spare,
+            o,
+            s.at,
+        ),
         passing: true,
         on: true,
     }
@@ -135,6 +151,7 @@ fn turn(
     text: &mut [u8],
     tape: &mut [u32],
     links: &mut [u32],
+    numbers: &mut [u64],
     spare: &mut [u8],
     o: &mut [u8],
 ) -> State {
@@ -142,13 +159,13 @@ fn turn(
     let left = rest.len();
     let n = lines::line_end(rest);
     if n < left {
-        return line(s, n, &buf[..], text, tape, links, spare, o);
+        return line(s, n, &buf[..], text, tape, links, numbers, spare, o);
     }
     if s.ended {
-        return last(s, rest, text, tape, links, spare, o);
+        return last(s, rest, text, tape, links, numbers, spare, o);
     }
     if left == buf.len() {
-        return too_long(s, text, tape, links, spare, o);
+        return too_long(s, text, tape, links, numbers, spare, o);
     }
     more(s, buf, &o[..])
 }
@@ -159,6 +176,7 @@ fn run(
     text: &mut [u8],
     tape: &mut [u32],
     links: &mut [u32],
+    numbers: &mut [u64],
     spare: &mut [u8],
     o: &mut [u8],
 ) {
@@ -172,7 +190,7 @@ fn run(
     };
     let mut turns = u64::MAX;
     while 0 < turns {
-        s = turn(s, buf, text, tape, links, spare, o);
+        s = turn(s, buf, text, tape, links, numbers, spare, o);
         if !s.on {
             return;
         }
@@ -186,19 +204,21 @@ fn lend(
     text: &mut [u8; 1600000],
     tape: &mut [u32; 327696],
     links: &mut [u32; 327696],
+    numbers: &mut [u64; 65552],
     spare: &mut [u8; 65552],
     o: &mut [u8; 65536],
 ) {
-    run(buf, text, tape, links, spare, o);
+    run(buf, text, tape, links, numbers, spare, o);
 }
 
-// A line of 3,200,000 bytes with its LF, the bytes that it can say in hex, a tape of 65,536 entries, a buffer for what a text can fill and a few
-// bytes behind, and room for answers.
+// A line of 3,200,000 bytes with its LF, the bytes that it can say in hex, a tape of 65,536 entries, buffers for what a text or a list can fill
+// and a few numbers and bytes behind, and room for answers.
 fn main() {
     let mut buf = [0u8; 3200001];
     let mut text = [0u8; 1600000];
     let mut tape = [0u32; 327696];
     let mut links = [0u32; 327696];
+    let mut numbers = [0u64; 65552];
     let mut spare = [0u8; 65552];
     let mut o = [0u8; 65536];
     lend(
@@ -206,6 +226,7 @@ fn main() {
         &mut text,
         &mut tape,
         &mut links,
+        &mut numbers,
         &mut spare,
         &mut o,
     );

@@ -1,13 +1,25 @@
--- The row of a number that names none of the first seven widths, the last one's; and what the widths without a sign hold below 0. Assumes nothing.
+-- A width is that of its number; the row of a number that names none of the first seven widths, the last one's; and what the widths without a sign hold below 0. Assumes nothing.
 use Prim.Native.Nat.{ℕ, suc, zero}
 use native.Mathlib.Omega.{arith}
 use mathlib.Core.Bool.{false, true}
 use mathlib.Core.List.{List, [], _∷_}
 use mathlib.Core.Path.{_≡_, ap, refl}
 use lib.ListN.{length}
-use Rattle.integers.specs.Width.{limitAt, limitOf, row, suffixWord, widthAt}
+use Rattle.integers.specs.Width.{codeOf, limitAt, limitOf, row, suffixWord, widthAt}
 use Rattle.integers.specs.declared.width.Width.{Width}
-use Rattle.integers.specs.declared.width.Width.the-variants.{U64}
+use Rattle.integers.specs.declared.width.Width.the-variants.{I8, I16, I32, I64, U8, U16, U32, U64}
+
+-- a width by its number
+pub width-of : (w : Width) → widthAt (codeOf w) ≡ w
+unfolding widthAt
+width-of I8 = refl
+width-of I16 = refl
+width-of I32 = refl
+width-of I64 = refl
+width-of U8 = refl
+width-of U16 = refl
+width-of U32 = refl
+width-of U64 = refl
 
 -- none of the first seven
 pub last-row : (code : ℕ) → (code ≡ 1 → ⊥) → (code ≡ 2 → ⊥) → (code ≡ 3 → ⊥) → (code ≡ 4 → ⊥) → (code ≡ 5 → ⊥) → (code ≡ 6 → ⊥) → (code ≡ 7 → ⊥) → widthAt code ≡ U64

@@ -5,7 +5,7 @@ use mathlib.Core.List.{List, [], _∷_}
 use lib.Dec.{eqb}
 use lib.ListN.{set}
 
--- The mark of place i among numbers: larger than any that a call writes.
+-- The mark of place i among numbers, of 32 bits or 64: larger than any entry or link that a call writes.
 unfoldable pub markAt : ℕ → ℕ
 markAt i = 4294967295 - i % 65536
 

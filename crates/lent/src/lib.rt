@@ -2,4 +2,5 @@
 // it).
 pub mod bytes;
 pub mod copies;
+pub mod magnitudes;
 pub mod numbers;

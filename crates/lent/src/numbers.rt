@@ -4,8 +4,8 @@ ghost use mathlib.Core.Path.{_≡_};
 ghost use lib.ListN.{length, drop};
 ghost use Rattle.lent.specs.Marks.{markAt, marked, keptFrom};
 
-// The mark of a place: larger than any number that a call writes, and not that of the next place.
-fn mark_at(i: usize) -> u32
+// The mark of a place: larger than any entry or link that a call writes, and not that of the next place.
+pub fn mark_at(i: usize) -> u32
     ensures { λ r. ⌜ r ≡ markAt i ⌝ }
 {
     let low = (i % 65536) as u32;

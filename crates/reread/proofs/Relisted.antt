@@ -22,7 +22,7 @@ use Rattle.sarridok.specs.Integers.{Coded, codeFor, entryInteger, integersOf, i
 use Rattle.sarridok.specs.inner.Items.{verdictOf}
 use Rattle.sarridok.proofs.IntegersLaws.{by-room}
 use Rattle.sarridok.proofs.IntegersMeans.{makes-all}
-use Rattle.written.proofs.TypedWritten.{width-of}
+use Rattle.integers.proofs.WidthRows.{width-of}
 use Rattle.reread.proofs.EntryTokens.{accepted-fit, row-token}
 use Rattle.reread.proofs.Retyped.{held-integer}
 use Rattle.reread.proofs.TokenKinds.{entry-fits, entry-integer, reread}

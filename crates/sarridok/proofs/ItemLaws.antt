@@ -20,9 +20,9 @@ use Rattle.text.specs.Refusals.{Told, accepted, refused, atPlace, otherKind, un
 use Rattle.text.specs.Utf8.{In}
 use Rattle.text.specs.declared.refusal.Refusal.{Refusal}
 use Rattle.text.specs.declared.judge.Judged.the-variants as judged
+use Rattle.integers.proofs.WidthRows.{width-of}
 use Rattle.integers.specs.Width.{codeOf, limitAt, limitOf, row, widthAt}
 use Rattle.integers.specs.declared.width.Width.{Width}
-use Rattle.integers.specs.declared.width.Width.the-variants.{I8, I16, I32, I64, U8, U16, U32, U64}
 use Rattle.integers.specs.declared.integer.Integer.{Integer}
 use Rattle.integers.specs.declared.integer.Integer.the-variants as integer
 use Rattle.plain_numbers.proofs.ShortIntegers.{Held, held-begins, held-read, short-held}
@@ -43,20 +43,9 @@ coded-placed width place k integer.OtherSuffix = refl
 coded-placed width place k (integer.Refused r) = refl
 
 -- a short integer without the general reader
-width-back : (w : Width) → widthAt (codeOf w) ≡ w
-unfolding widthAt
-width-back I8 = refl
-width-back I16 = refl
-width-back I32 = refl
-width-back I64 = refl
-width-back U8 = refl
-width-back U16 = refl
-width-back U32 = refl
-width-back U64 = refl
-
 same-limit : (width : ℕ) → limitAt (codeOf (widthAt width)) false ≡ limitAt width false
 unfolding limitAt
-same-limit width = ap (λ (w : Width). limitOf (row w .signed) (row w .bits) false) (width-back (widthAt width))
+same-limit width = ap (λ (w : Width). limitOf (row w .signed) (row w .bits) false) (width-of (widthAt width))
 
 pub short-item : (width k v : ℕ) (s : List ℕ) → shortOf width s ≡ Value v
     → accepted (record { magnitude = v; code = width }) ≡ atItem k (codedIn width (integerAt (widthAt width) s))

@@ -128,8 +128,8 @@ pub fn judge_items(text: &[u8], tape: &[u32], count: usize, items: &[u32]) -> Ju
 {
     let mut k: usize = 0;
     while k < items.len() {
-        let read = item_at(text, tape, count, items[k], k);
-        if let Item::Refused(refusal) = read {
+        let judged = item_at(text, tape, count, items[k], k);
+        if let Item::Refused(refusal) = judged {
             return Judged::Refused(refusal);
         }
         k += 1;

@@ -1,4 +1,5 @@
 pub mod ContentsLaws
 pub mod HexLaws
+pub mod ManyLaws
 pub mod ShownLaws
 pub mod SignLaws

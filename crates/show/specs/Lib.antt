@@ -2,6 +2,7 @@ pub mod Answers
 pub mod Hexes
 pub mod Contents
 pub mod Integers
+pub mod Many
 pub mod Readings
 pub mod Walks
 pub mod Repairs

@@ -2,6 +2,7 @@
 pub mod contents;
 pub mod hex;
 pub mod integer;
+pub mod many;
 pub mod reading;
 pub mod repair;
 pub mod skip;

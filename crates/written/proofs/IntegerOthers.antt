@@ -14,6 +14,7 @@ use Rattle.text.specs.Words.{startsWith}
 use Rattle.text.specs.declared.refusal.Refusal.{Refusal}
 use Rattle.digits.specs.declared.Run.{Run}
 use Rattle.digits.specs.declared.Run.the-variants.{Value, Empty, Underscore, NotDigit, Over}
+use Rattle.integers.proofs.WidthRows.{width-of}
 use Rattle.integers.proofs.Exactly.{reads-exactly}
 use Rattle.integers.proofs.Fronts.{front-base}
 use Rattle.integers.specs.Front.{frontOf}
@@ -33,7 +34,7 @@ use Rattle.written.proofs.Asking.Source.{at-end, cut, no-byte, other-by
 use Rattle.written.proofs.CutBytes.{cut-begins, cut-byte}
 use Rattle.written.proofs.IntegerWritten.{at-front, byte-at}
 use Rattle.written.proofs.RunAnswers.{answered, asked-answer, at-run, refusalOf, run-refused, runHere}
-use Rattle.written.proofs.TypedWritten.{one-width, width-of, width-some}
+use Rattle.written.proofs.TypedWritten.{one-width, width-some}
 
 module _ (text : List ℕ) (place : ℕ) (width : Width) where
   -- what stands at the front of the part is answered at the place

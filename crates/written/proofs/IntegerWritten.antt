@@ -19,6 +19,7 @@ use Rattle.text.specs.declared.judge.Judged.the-variants.{Fit, Refused as NotFi
 use Rattle.text.specs.Words.{startsWith}
 use Rattle.digits.specs.Digits.{hexOf}
 use Rattle.digits.specs.Value.{Fit as DigitFit}
+use Rattle.integers.proofs.WidthRows.{width-of}
 use Rattle.integers.specs.Front.{frontOf, prefixOf, signOf}
 use Rattle.integers.specs.Integer.{typedOf, numberRead}
 use Rattle.integers.specs.Range.{InWidth}
@@ -33,7 +34,7 @@ use Rattle.strings.specs.declared.chars.ByteAnswer.{ByteAnswer}
 use Rattle.strings.specs.declared.chars.ByteAnswer.the-variants as byte
 use Rattle.sarridok.specs.Typed.{Typed, byteAs, integerAt, integerOf, signedNumber, placedAt, toldInteger}
 use Rattle.written.specs.Written.{AsByte, AsWritten, IsWritten, bitsOf, byteLiteral, isSigned, magnitudeIn, writtenLen}
-use Rattle.written.proofs.TypedWritten.{typed-written, width-of, written-typed}
+use Rattle.written.proofs.TypedWritten.{typed-written, written-typed}
 
 -- an accepted call's text and place fit, and the answer is its own
 pub front-accepted : {A : Type 0} (text : List ℕ) (fits : Bool) (own : Told A) (a : A) → behindFront text fits own ≡ accepted a

@@ -19,6 +19,7 @@ use Rattle.digits.specs.declared.Run.{Run}
 use Rattle.digits.specs.declared.Run.the-variants.{Value, Empty, Underscore, NotDigit, Over}
 use Rattle.integers.proofs.Exactly.{reads-exactly}
 use Rattle.integers.proofs.Fronts.{front-base}
+use Rattle.integers.proofs.WidthRows.{width-of}
 use Rattle.integers.specs.Front.{frontOf}
 use Rattle.integers.specs.Integer.{behindRun, chosenOf, numeralOf, otherSuffix, typedAs, typedOf, numberRead}
 use Rattle.integers.specs.Range.{Reads, signedOf}
@@ -57,17 +58,6 @@ width-some U32 e = omega arith
 width-some U64 e = omega arith
 
 -- a width by its number
-pub width-of : (w : Width) → widthAt (codeOf w) ≡ w
-unfolding widthAt
-width-of I8 = refl
-width-of I16 = refl
-width-of I32 = refl
-width-of I64 = refl
-width-of U8 = refl
-width-of U16 = refl
-width-of U32 = refl
-width-of U64 = refl
-
 pub one-width : (v w : Width) → codeOf v ≡ codeOf w → v ≡ w
 one-width v w e = sym (width-of v) ∙ ap widthAt e ∙ width-of w
 

@@ -5,84 +5,71 @@ use Rattle.answers.proofs.run.Statement.{statement}
 use Rattle.answers.proofs.run.Tie as tie
 
 abbrev Inv-loop : tie.InvT-loop
-Inv-loop buf₀ text₀ tape₀ links₀ spare₀ o₀ s₀ turns₀ buf text tape links spare o s turns = (length buf ≡ length buf₀) × (length text ≡ length text₀) × (length tape ≡ length tape₀) × (length links ≡ length links₀) × (length spare ≡ length spare₀) × (length o ≡ length o₀)
+Inv-loop buf₀ text₀ tape₀ links₀ numbers₀ spare₀ o₀ s₀ turns₀ buf text tape links numbers spare o s turns = (length buf ≡ length buf₀) × (length text ≡ length text₀) × (length tape ≡ length tape₀) × (length links ≡ length links₀) × (length numbers ≡ length numbers₀) × (length spare ≡ length spare₀) × (length o ≡ length o₀)
 
 abbrev μ-loop : tie.MeasureT-loop
-μ-loop buf₀ text₀ tape₀ links₀ spare₀ o₀ s₀ turns₀ buf text tape links spare o s turns = turns
+μ-loop buf₀ text₀ tape₀ links₀ numbers₀ spare₀ o₀ s₀ turns₀ buf text tape links numbers spare o s turns = turns
 
--- src/main.rt:160:5
 loop-holds : tie.Need-loop-holds Inv-loop μ-loop
 loop-holds c = search needs
 
--- src/main.rt:161:9
 turn-requires : tie.Need-turn-requires Inv-loop μ-loop
 turn-requires c κs = search needs
 
--- src/main.rt:163:13
 same-length : tie.Need-same-length Inv-loop μ-loop
 same-length c = search needs
 
--- src/main.rt:163:13
 same-length-2 : tie.Need-same-length-2 Inv-loop μ-loop
 same-length-2 c = search needs
 
--- src/main.rt:163:13
 same-length-3 : tie.Need-same-length-3 Inv-loop μ-loop
 same-length-3 c = search needs
 
--- src/main.rt:163:13
 same-length-4 : tie.Need-same-length-4 Inv-loop μ-loop
 same-length-4 c = search needs
 
--- src/main.rt:163:13
 same-length-5 : tie.Need-same-length-5 Inv-loop μ-loop
 same-length-5 c = search needs
 
--- src/main.rt:163:13
 same-length-6 : tie.Need-same-length-6 Inv-loop μ-loop
 same-length-6 c = search needs
 
--- src/main.rt:163:13
-returns : tie.Need-returns Inv-loop μ-loop
-returns c = search needs
-
--- src/main.rt:165:9
-sub-turns : tie.Need-sub-turns Inv-loop μ-loop
-sub-turns c = search needs
-
--- src/main.rt:160:5
-loop-less : tie.Need-loop-less Inv-loop μ-loop
-loop-less c = search needs
-
--- src/main.rt:160:5
-loop-again : tie.Need-loop-again Inv-loop μ-loop
-loop-again c = search needs
-
--- src/main.rt:149:1
 same-length-7 : tie.Need-same-length-7 Inv-loop μ-loop
 same-length-7 c = search needs
 
--- src/main.rt:149:1
+returns : tie.Need-returns Inv-loop μ-loop
+returns c = search needs
+
+sub-turns : tie.Need-sub-turns Inv-loop μ-loop
+sub-turns c = search needs
+
+loop-less : tie.Need-loop-less Inv-loop μ-loop
+loop-less c = search needs
+
+loop-again : tie.Need-loop-again Inv-loop μ-loop
+loop-again c = search needs
+
 same-length-8 : tie.Need-same-length-8 Inv-loop μ-loop
 same-length-8 c = search needs
 
--- src/main.rt:149:1
 same-length-9 : tie.Need-same-length-9 Inv-loop μ-loop
 same-length-9 c = search needs
 
--- src/main.rt:149:1
 same-length-10 : tie.Need-same-length-10 Inv-loop μ-loop
 same-length-10 c = search needs
 
--- src/main.rt:149:1
 same-length-11 : tie.Need-same-length-11 Inv-loop μ-loop
 same-length-11 c = search needs
 
--- src/main.rt:149:1
 same-length-12 : tie.Need-same-length-12 Inv-loop μ-loop
 same-length-12 c = search needs
 
--- src/main.rt:149:1
+same-length-13 : tie.Need-same-length-13 Inv-loop μ-loop
+same-length-13 c = search needs
+
+same-length-14 : tie.Need-same-length-14 Inv-loop μ-loop
+same-length-14 c = search needs
+
 returns-2 : tie.Need-returns-2 Inv-loop μ-loop
 returns-2 c = search needs
 
@@ -100,14 +87,16 @@ run-spec =
     same-length-4
     same-length-5
     same-length-6
+    same-length-7
     returns
     sub-turns
     loop-less
     loop-again
-    same-length-7
     same-length-8
     same-length-9
     same-length-10
     same-length-11
     same-length-12
+    same-length-13
+    same-length-14
     returns-2)

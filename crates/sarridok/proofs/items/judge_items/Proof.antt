@@ -26,11 +26,11 @@ shared-slice-read-item-at c = search needs
 item-at-requires : tie.Need-item-at-requires Inv-loop μ-loop
 item-at-requires c κs = search needs
 
-enum-known-read : tie.Need-enum-known-read Inv-loop μ-loop
-enum-known-read c = search needs
+enum-known-judged : tie.Need-enum-known-judged Inv-loop μ-loop
+enum-known-judged c = search needs
 
 returns : tie.Need-returns Inv-loop μ-loop
-returns c = sym (judge-stops (c .before .before .before .before .before .before .before .before .before .before .args .text .now) (c .before .before .before .before .before .before .before .before .before .before .args .tape .now) (c .before .before .before .before .before .before .before .before .before .before .args .count) (c .before .before .before .before .before .before .before .before .before .before .args .items .now) (c .before .before .before .before .before .before .loop .k) _ (c .before .before .before .before .before .loop-test .taken) (ap toldItem (sym (c .before .read .given .1)) ∙ c .before .before .before .item-at .ensures)) ∙ c .before .before .before .before .before .before .loop .inv .1
+returns c = sym (judge-stops (c .before .before .before .before .before .before .before .before .before .before .args .text .now) (c .before .before .before .before .before .before .before .before .before .before .args .tape .now) (c .before .before .before .before .before .before .before .before .before .before .args .count) (c .before .before .before .before .before .before .before .before .before .before .args .items .now) (c .before .before .before .before .before .before .loop .k) _ (c .before .before .before .before .before .loop-test .taken) (ap toldItem (sym (c .before .judged .given .1)) ∙ c .before .before .before .item-at .ensures)) ∙ c .before .before .before .before .before .before .loop .inv .1
 
 enum-told : tie.Need-enum-told Inv-loop μ-loop
 enum-told c = search needs
@@ -57,7 +57,7 @@ judge-items-spec =
     mul-item-at
     shared-slice-read-item-at
     item-at-requires
-    enum-known-read
+    enum-known-judged
     returns
     enum-told
     add-k

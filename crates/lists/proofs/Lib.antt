@@ -1,0 +1,3 @@
+pub mod GatherLaws
+pub mod ListedLaws
+pub mod LineLaws

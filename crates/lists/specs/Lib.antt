@@ -1,0 +1,3 @@
+pub mod Gathers
+pub mod Listed
+pub mod Lists
