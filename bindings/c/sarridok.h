@@ -15,10 +15,11 @@
  * The answer of every function is one number:
  *   accepted   below 2^63; which of the functions below takes out what it holds is said at each call
  *   refused    2^63 + (number + 256 * reason) * 2^32 + place; such a call has written nothing. The reason says why an escape is not valid (13), and is else 0
- * Where an accepted answer holds two numbers they are first * 2^32 + second. Nothing is ever cut off: no place and no count is above 3 * 65,536, no number and no reason
- * above 255, and each is got back by a shift and a mask. That is proved of every function (crates/promises/proofs/Hosts.antt).
+ * Where an accepted answer holds two numbers they are first * 2^32 + second. Nothing is ever cut off, but the number of an item behind the first 2^32 of a list
+ * (sarridok_integers): no other place and no count is above 3 * 65,536, no number and no reason above 255, and each is got back by a shift and a mask. That is proved of
+ * every function (crates/promises/proofs/Hosts.antt).
  *
- * Names begin with what they are: SARRIDOK_KIND_, _EXTENSION_, _WIDTH_, _NEWTYPE_, _TUPLE_, _STRUCT_, _REFUSED_, _REASON_.
+ * Names begin with what they are: SARRIDOK_KIND_, _EXTENSION_, _WIDTH_, _NEWTYPE_, _TUPLE_, _STRUCT_, _CODE_, _REFUSED_, _REASON_.
  */
 #ifndef SARRIDOK_H
 #define SARRIDOK_H
@@ -35,7 +36,7 @@ _Static_assert(sizeof(size_t) == 8, "sarridok: the archive is for a size_t of 64
 
 /* ---- Version: major * 10000 + minor * 100 + patch */
 
-#define SARRIDOK_VERSION 500
+#define SARRIDOK_VERSION 600
 
 /* The version that the archive was built with: SARRIDOK_VERSION where the header belongs to it. */
 uint32_t sarridok_version(void);
@@ -93,6 +94,10 @@ enum sarridok_width {
     SARRIDOK_WIDTH_U64 = 8
 };
 
+/* ---- Codes of a list of integers: the width, with this added where the value is below zero */
+
+#define SARRIDOK_CODE_BELOW_ZERO 16
+
 /* ---- Modes and types of structs, in the order of the crate's enums */
 
 enum sarridok_newtype_mode {
@@ -118,7 +123,8 @@ enum sarridok_struct_type {
 
 #define SARRIDOK_UNCLOSED_LINE UINT64_MAX
 
-/* ---- Refusals: the number, and behind it which place such a refusal has. Names, places and sentences are those of docs/refusals.txt */
+/* ---- Refusals: the number, and behind it which place such a refusal has; of an item of a list (sarridok_integers) it is the item's number. Names, places and sentences are
+ * those of docs/refusals.txt */
 
 /* refusals: written by docs/refusals */
 enum sarridok_refusal {
@@ -282,6 +288,10 @@ static inline size_t sarridok_count(uint64_t answer) { return (size_t)answer; }
 static inline int sarridok_integer_minus(uint64_t answer) { return answer >> 32 != 0; }
 static inline size_t sarridok_integer_end(uint64_t answer) { return (uint32_t)answer; }
 
+/* Of a code that integers wrote, the width, and whether the value is below zero. */
+static inline enum sarridok_width sarridok_code_width(uint8_t code) { return (enum sarridok_width)(code % SARRIDOK_CODE_BELOW_ZERO); }
+static inline int sarridok_code_minus(uint8_t code) { return code >= SARRIDOK_CODE_BELOW_ZERO; }
+
 /* Of accepted contents, the places where they begin and end. */
 static inline size_t sarridok_contents_start(uint64_t answer) { return (size_t)(answer >> 32); }
 static inline size_t sarridok_contents_end(uint64_t answer) { return (uint32_t)answer; }
@@ -341,6 +351,16 @@ uint64_t sarridok_repair(uint32_t *tape, size_t tape_len, size_t count, size_t o
  * Accepted: minus * 2^32 + the place behind it (sarridok_integer_minus, _end); minus is 0 or 1. *magnitude is the number without its minus; there is no minus at 0.
  * Refused: 1, 2, 28 for a place or a width that is unfit, 6 to 15 of reading, 27 for another suffix. */
 uint64_t sarridok_integer(const uint8_t *text, size_t text_len, size_t place, uint32_t width, uint64_t *magnitude);
+
+/* The integers that a list of entry numbers names, each in its entry's width, as sarridok_integer reads it at the entry's start. Entries may come in any order and more than once;
+ * of each only kind, start and detail are looked at.
+ * Accepted: 0. For each item, in the list's order, the number without its minus stands in `magnitudes` and in `codes` the width, with SARRIDOK_CODE_BELOW_ZERO added below zero
+ * (sarridok_code_width, _minus); behind them both are as they were.
+ * Refused: 1, 2, 23 for a count above the tape's room, then the first item that has a refusal, with the item's number in the list, from 0, for its place: 28 for an entry number
+ * not below the count or a start that is unfit, 27 for an entry that is no integer of a width, 6 to 15 of reading, 27 for another suffix. 22 last, where `magnitudes` or `codes`
+ * is shorter than the list. An item's number above 2^32 - 1 is told as 2^32 - 1. */
+uint64_t sarridok_integers(const uint8_t *text, size_t text_len, const uint32_t *tape, size_t tape_len, size_t count, const uint32_t *items, size_t items_len,
+                           uint64_t *magnitudes, size_t magnitudes_len, uint8_t *codes, size_t codes_len);
 
 /* The bytes inside the string or byte string that an entry names, where nothing in it was escaped. Of the entry only kind and start are looked at.
  * Accepted: start * 2^32 + end (sarridok_contents_start, _end), a part of the text.

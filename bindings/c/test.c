@@ -208,6 +208,118 @@ static void test_integer(void) {
     HOLDS(magnitude == 5);
 }
 
+/* Integers of every kind; its entries of odd numbers are the values. */
+#define LISTED "[7, -5, 300, b'a', -0, -9223372036854775808, 0xFFu8, 1_000, 1.5]"
+
+enum { ROOM = 12 }; /* of the magnitudes and codes below */
+static uint64_t magnitudes[ROOM];
+static uint8_t codes[ROOM];
+
+/* Marks both, and asks for the integers of a list. */
+static uint64_t listed(const char *of, size_t count, const uint32_t *items, size_t items_len, size_t room, size_t code_room) {
+    for (size_t k = 0; k < ROOM; k++) {
+        magnitudes[k] = 77;
+        codes[k] = 77;
+    }
+    return sarridok_integers(bytes(of), strlen(of), tape, tape_len, count, items, items_len, magnitudes, room, codes, code_room);
+}
+
+/* Whether nothing was written from an item on. */
+static int unwritten(size_t from) {
+    for (size_t k = from; k < ROOM; k++)
+        if (magnitudes[k] != 77 || codes[k] != 77) return 0;
+    return 1;
+}
+
+/* A list in no order, with one entry twice: what is written, and that it is what single calls answer. */
+static void test_integers(void) {
+    static const uint32_t items[] = {11, 1, 3, 3, 5, 7, 9, 13, 15};
+    static const uint64_t values[] = {9223372036854775808u, 7, 5, 5, 300, 97, 0, 255, 1000};
+    static const uint8_t wanted[] = {20, 5, 17, 17, 6, 5, 1, 5, 6};
+    enum { ITEMS = sizeof items / sizeof *items };
+    size_t count = sarridok_count(sarridok_read(bytes(LISTED), strlen(LISTED), tape, tape_len));
+    HOLDS(count == 19);
+    HOLDS(listed(LISTED, count, items, ITEMS, ROOM, ITEMS) == 0);
+    HOLDS(memcmp(magnitudes, values, sizeof values) == 0 && memcmp(codes, wanted, sizeof wanted) == 0);
+    HOLDS(unwritten(ITEMS));
+    for (size_t k = 0; k < ITEMS; k++) {
+        uint64_t magnitude = 78;
+        struct sarridok_entry e = sarridok_entry(tape, items[k]);
+        uint64_t single = sarridok_integer(bytes(LISTED), strlen(LISTED), e.start, sarridok_code_width(codes[k]), &magnitude);
+        HOLDS(magnitude == magnitudes[k] && sarridok_integer_minus(single) == sarridok_code_minus(codes[k]));
+    }
+    HOLDS(sarridok_code_width(20) == SARRIDOK_WIDTH_I64 && sarridok_code_minus(20) && !sarridok_code_minus(4));
+    HOLDS(SARRIDOK_WIDTH_I64 + SARRIDOK_CODE_BELOW_ZERO == 20);
+    /* As long as the list is room enough. One less of either is 22, and only where every item reads: what comes first is told. */
+    HOLDS(listed(LISTED, count, items, ITEMS, ITEMS, ROOM) == 0);
+    HOLDS(refused(listed(LISTED, count, items, ITEMS, ITEMS - 1, ITEMS), SARRIDOK_REFUSED_NO_ROOM, 0) && unwritten(0));
+    HOLDS(refused(listed(LISTED, count, items, ITEMS, ITEMS, ITEMS - 1), SARRIDOK_REFUSED_NO_ROOM, 0) && unwritten(0));
+    static const uint32_t wrong_last[] = {1, 3, 19};
+    HOLDS(refused(listed(LISTED, count, wrong_last, 3, 0, 0), SARRIDOK_REFUSED_UNFIT, 2) && unwritten(0));
+    static const uint32_t wrong_twice[] = {1, 2, 19};
+    HOLDS(refused(listed(LISTED, count, wrong_twice, 3, ROOM, ROOM), SARRIDOK_REFUSED_OTHER_KIND, 1) && unwritten(0));
+    /* No item, no room: nothing is read or written. */
+    HOLDS(listed(LISTED, count, NULL, 0, 0, 0) == 0 && unwritten(0));
+    HOLDS(sarridok_integers(bytes(LISTED), strlen(LISTED), tape, tape_len, count, NULL, 0, NULL, 0, NULL, 0) == 0);
+    HOLDS(sarridok_integers(NULL, 0, NULL, 0, 0, NULL, 0, NULL, 0, NULL, 0) == 0);
+    HOLDS(refused(sarridok_integers(NULL, 0, NULL, 0, 0, items, ITEMS, NULL, 0, NULL, 0), SARRIDOK_REFUSED_UNFIT, 0));
+    HOLDS(refused(sarridok_integers(bytes(LISTED), strlen(LISTED), tape, tape_len, count, items, ITEMS, NULL, 0, NULL, 0), SARRIDOK_REFUSED_NO_ROOM, 0));
+}
+
+/* What is asked before the items: of the text 1 and 2, then 23 for the count. */
+static void test_integers_front(void) {
+    static const uint8_t longer[SARRIDOK_MAX_TEXT + 1] = {0};
+    static const uint32_t items[] = {1, 99};
+    HOLDS(refused(sarridok_integers(longer, sizeof longer, NULL, 0, 1, items, 2, NULL, 0, NULL, 0), SARRIDOK_REFUSED_TOO_LONG, 0));
+    HOLDS(refused(listed("7\xFF", tape_len, items, 2, 0, 0), SARRIDOK_REFUSED_NOT_UTF8, 1) && unwritten(0));
+    HOLDS(refused(listed("7", tape_len / SARRIDOK_ENTRY + 1, items, 2, 0, 0), SARRIDOK_REFUSED_NOT_IN_ORDER, 0) && unwritten(0));
+    HOLDS(refused(listed("7", SIZE_MAX, NULL, 0, ROOM, ROOM), SARRIDOK_REFUSED_NOT_IN_ORDER, 0));
+    HOLDS(refused(sarridok_integers(bytes("7"), 1, tape, SARRIDOK_ENTRY - 1, 1, NULL, 0, NULL, 0, NULL, 0), SARRIDOK_REFUSED_NOT_IN_ORDER, 0));
+}
+
+/* An entry over a text that begins with a 7, and what an item that names it is refused with: never at a place of the text, but at the item's number. */
+static const struct {
+    const char *text;
+    uint32_t kind, start, width;
+    uint32_t number, reason;
+} unlisted[] = {
+    {"7", SARRIDOK_KIND_INTEGER, 2, SARRIDOK_WIDTH_U8, SARRIDOK_REFUSED_UNFIT, 0},
+    {"7", SARRIDOK_KIND_INTEGER, UINT32_MAX, SARRIDOK_WIDTH_U8, SARRIDOK_REFUSED_UNFIT, 0},
+    {"7\xC3\xA9", SARRIDOK_KIND_INTEGER, 2, SARRIDOK_WIDTH_U8, SARRIDOK_REFUSED_UNFIT, 0},
+    {"7\xC3\xA9", SARRIDOK_KIND_NAME, 2, SARRIDOK_WIDTH_U8, SARRIDOK_REFUSED_UNFIT, 0}, /* the start before the kind */
+    {"7", SARRIDOK_KIND_FLOAT, 0, 0, SARRIDOK_REFUSED_OTHER_KIND, 0},
+    {"7", SARRIDOK_KIND_COMMA, 0, SARRIDOK_WIDTH_U8, SARRIDOK_REFUSED_OTHER_KIND, 0},
+    {"7", 0, 0, SARRIDOK_WIDTH_U8, SARRIDOK_REFUSED_OTHER_KIND, 0},
+    {"7", SARRIDOK_KIND_INTEGER, 0, 0, SARRIDOK_REFUSED_OTHER_KIND, 0},
+    {"7", SARRIDOK_KIND_INTEGER, 0, 9, SARRIDOK_REFUSED_OTHER_KIND, 0},
+    {"7", SARRIDOK_KIND_INTEGER, 0, 256 + SARRIDOK_WIDTH_U8, SARRIDOK_REFUSED_OTHER_KIND, 0},
+    {"7 1u16", SARRIDOK_KIND_INTEGER, 2, SARRIDOK_WIDTH_U8, SARRIDOK_REFUSED_OTHER_KIND, 0},
+    {"7", SARRIDOK_KIND_INTEGER, 1, SARRIDOK_WIDTH_U8, SARRIDOK_REFUSED_EOF, 0},
+    {"7 x", SARRIDOK_KIND_INTEGER, 2, SARRIDOK_WIDTH_U8, SARRIDOK_REFUSED_EXPECTED_INTEGER, 0},
+    {"7 _1", SARRIDOK_KIND_INTEGER, 2, SARRIDOK_WIDTH_U8, SARRIDOK_REFUSED_UNDERSCORE_AT_BEGINNING, 0},
+    {"7 0b2", SARRIDOK_KIND_INTEGER, 2, SARRIDOK_WIDTH_U8, SARRIDOK_REFUSED_INVALID_INTEGER_DIGIT, 0},
+    {"7 256", SARRIDOK_KIND_INTEGER, 2, SARRIDOK_WIDTH_U8, SARRIDOK_REFUSED_INTEGER_OUT_OF_BOUNDS, 0},
+    {"7 -1", SARRIDOK_KIND_INTEGER, 2, SARRIDOK_WIDTH_U64, SARRIDOK_REFUSED_INTEGER_OUT_OF_BOUNDS, 0},
+    {"7 b'ab'", SARRIDOK_KIND_INTEGER, 2, SARRIDOK_WIDTH_U8, SARRIDOK_REFUSED_EXPECTED_BYTE_LITERAL, 0},
+    {"7 b'\\x4'", SARRIDOK_KIND_INTEGER, 2, SARRIDOK_WIDTH_U8, SARRIDOK_REFUSED_INVALID_ESCAPE, SARRIDOK_REASON_DIGIT_NOT_HEX},
+    {"7 b'\\u{41}'", SARRIDOK_KIND_INTEGER, 2, SARRIDOK_WIDTH_U8, SARRIDOK_REFUSED_INVALID_ESCAPE, SARRIDOK_REASON_UNICODE_IN_BYTE_LITERAL},
+};
+
+static void test_unlisted(void) {
+    static const uint32_t items[] = {0, 0, 0, 1, 0};
+    for (size_t i = 0; i < sizeof unlisted / sizeof *unlisted; i++) {
+        const uint32_t made[2 * SARRIDOK_ENTRY] = {SARRIDOK_KIND_INTEGER, 0, 1, SARRIDOK_WIDTH_U8, 0, unlisted[i].kind, unlisted[i].start, 0, unlisted[i].width, 0};
+        memcpy(tape, made, sizeof made);
+        HOLDS(listed(unlisted[i].text, 2, items, 3, ROOM, ROOM) == 0 && magnitudes[2] == 7 && codes[2] == SARRIDOK_WIDTH_U8 && unwritten(3));
+        HOLDS(refused_for(listed(unlisted[i].text, 2, items, 5, ROOM, ROOM), unlisted[i].number, unlisted[i].reason, 3) && unwritten(0));
+        HOLDS(refused(listed(unlisted[i].text, 1, items, 5, ROOM, ROOM), SARRIDOK_REFUSED_UNFIT, 3) && unwritten(0));
+    }
+    /* Where an entry ends is not looked at, nor its gap. */
+    const uint32_t made[SARRIDOK_ENTRY] = {SARRIDOK_KIND_INTEGER, 1, 0, SARRIDOK_WIDTH_U8, 77};
+    memcpy(tape, made, sizeof made);
+    HOLDS(listed("-1.5", 1, items, 1, ROOM, ROOM) == 0 && magnitudes[0] == 1 && codes[0] == SARRIDOK_WIDTH_U8);
+}
+
 static void test_strings(void) {
     uint8_t out[7] = "------";
     uint64_t answer = sarridok_contents(text, text_len, tape, NUMBERS, COUNT, 8);
@@ -443,5 +555,8 @@ int main(void) {
     test_refusals();
     test_escapes();
     test_reasons();
+    test_integers();
+    test_integers_front();
+    test_unlisted();
     return wrong;
 }

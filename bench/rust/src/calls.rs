@@ -2,6 +2,7 @@
 use crate::clock::{medians, Call};
 use crate::contents::{contents, Contents};
 use crate::edits::Edit;
+use crate::lists::{self, Listed};
 use crate::run::{cursor, parser_at};
 use crate::sides::Sides;
 use crate::texts::{self, Kind, KINDS};
@@ -13,6 +14,7 @@ pub fn tables() {
     walks();
     repairs();
     integers();
+    lists();
     strings();
 }
 
@@ -121,6 +123,20 @@ fn integers() {
     integer_row("65,535 zeros and a one", &at(long("zeros and a one"), 0, 8));
     integer_row("65,536 ones (refused)", &at(long("integer of ones"), 0, 8));
     println!();
+}
+
+fn lists() {
+    println!("## Many integers of 64 KiB in one call, beside single calls and the crate\n");
+    println!("A single call judges the text each time; for the crate it is judged once, and each integer read at its entry's start.\n");
+    println!("| list | items | one call us | ns an item | single calls us | ratio | crate us | ratio |\n|---|--:|--:|--:|--:|--:|--:|--:|");
+    let [by_singles, by_crate] = lists::node_rows();
+    lists::row("the `id` fields of the canal network", &Listed::ids(KINDS[0].text(SIZE)));
+    lists::row("all of the canal network", &Listed::all(KINDS[0].text(SIZE)));
+    for name in ["integers", "suffixed integers", "hex"] {
+        let kind = KINDS.iter().find(|k| k.name == name).expect("a kind");
+        lists::row(&format!("all of the text `{name}`"), &Listed::all(kind.text(SIZE)));
+    }
+    println!("\nThe least ratios of node numbers are {by_singles:.0} (goal: 20) and {by_crate:.2} (goal: 2).\n");
 }
 
 fn alone() -> Vec<Typed> {

@@ -1,11 +1,12 @@
 //! One call, to be counted from outside.
 use crate::calls::walk;
 use crate::edits::Edit;
+use crate::lists::Listed;
 use crate::sides::Sides;
-use crate::texts::{Kind, KINDS, RECORDS, SHORT, WORST};
+use crate::texts::{Kind, KINDS, NODES, RECORDS, SHORT, WORST};
 
 fn all() -> impl Iterator<Item = &'static Kind> {
-    KINDS.iter().chain([&SHORT]).chain(RECORDS).chain(WORST)
+    KINDS.iter().chain([&SHORT, &NODES]).chain(RECORDS).chain(WORST)
 }
 
 pub fn kinds() {
@@ -27,17 +28,20 @@ pub extern "Rust" fn versus_measured(call: &mut dyn FnMut()) {
     call();
 }
 
-/// Prints the bytes of the text. CALL: a read by `ours`, `crate` or `lean`; a `walk`; a `repair` in the middle.
+/// Prints the bytes of the text. CALL: a read by `ours`, `crate` or `lean`; a `walk`; a `repair` in the middle;
+/// `integers`, all of the text.
 pub fn one(call: &str, name: &str, size: &str) {
     let kind = all().find(|k| k.name == name).expect("no such kind");
     let sides = Sides::of(kind.text(size.parse().expect("no number of bytes")));
-    let edit = Edit::of_same(&sides);
+    let (edit, listed) = (Edit::of_same(&sides), Listed::all(sides.text.clone()));
     let mut call = match call {
         "ours" => sides.ours(),
         "crate" => sides.theirs(),
         "lean" => sides.lean(),
         "walk" => walk(&sides),
         "repair" => edit.there_only(),
+        "integers" => listed.one_call(),
+        "crate integers" => listed.crate_call(),
         _ => panic!("no such call"),
     };
     versus_measured(&mut call);

@@ -3,6 +3,7 @@
 use crate::calls::{decoded, part, us, walk, Typed};
 use crate::clock::{medians, Call};
 use crate::edits::Edit;
+use crate::lists::{Listed, MANY};
 use crate::ours;
 use crate::sides::Sides;
 use crate::texts::{fields, Kind, KINDS, NAMES, WORST};
@@ -12,12 +13,15 @@ const NEWTYPE_TUPLE: u64 = 2;
 const SIZES: [usize; 4] = [1024, 4096, 16_384, 65_536];
 /// Fields of one record.
 const FIELDS: [usize; 4] = [10, 100, 1000, 10_000];
+/// Items of one list.
+const ITEMS: [usize; 4] = [10, 100, 1000, MANY];
 
 pub fn tables() {
     println!("## Cost of a byte, in nanoseconds, at four sizes\n");
     println!("| call | text | 1 KiB | 4 KiB | 16 KiB | 64 KiB |\n|---|---|--:|--:|--:|--:|");
     calls();
     records();
+    lists();
     println!("\n## Worst cases of reading: nanoseconds a byte\n");
     println!("| text | 1 KiB | 4 KiB | 16 KiB | 64 KiB | crate, 64 KiB | ratio |\n|---|--:|--:|--:|--:|--:|--:|");
     WORST.iter().for_each(worst);
@@ -90,6 +94,17 @@ fn record(names: &str, count: usize, name: impl Fn(usize) -> String) {
         time / count as f64,
         own / (count as f64).log2()
     );
+}
+
+/// The judging of the text, which the shortest list has to pay for too, is told apart.
+fn lists() {
+    println!("\n## Lists of node numbers of one text of 64 KiB\n");
+    println!("| items | call us | of no items us | ns an item |\n|--:|--:|--:|--:|");
+    for count in ITEMS {
+        let [listed, none] = [count, 0].map(Listed::nodes);
+        let [time, judging] = medians([listed.one_call(), none.one_call()]);
+        println!("| {count} | {} | {} | {:.1} |", us(time), us(judging), (time - judging) / count as f64);
+    }
 }
 
 fn named(name: &str) -> &'static Kind {

@@ -26,6 +26,7 @@ mod clock;
 mod count;
 mod edits;
 mod growth;
+mod lists;
 mod ours;
 mod reading;
 mod sides;

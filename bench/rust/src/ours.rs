@@ -57,6 +57,32 @@ pub fn integer(text: &[u8], place: usize, width: u32) -> (u64, u64) {
     (answer, magnitude)
 }
 
+/// Nothing but whether it is refused; the magnitudes and codes are written.
+pub fn integers(
+    text: &[u8],
+    tape: &[u32],
+    count: usize,
+    items: &[u32],
+    magnitudes: &mut [u64],
+    codes: &mut [u8],
+) -> u64 {
+    unsafe {
+        raw::sarridok_integers(
+            text.as_ptr(),
+            text.len(),
+            tape.as_ptr(),
+            tape.len(),
+            count,
+            items.as_ptr(),
+            items.len(),
+            magnitudes.as_mut_ptr(),
+            magnitudes.len(),
+            codes.as_mut_ptr(),
+            codes.len(),
+        )
+    }
+}
+
 pub fn contents(text: &[u8], tape: &[u32], count: usize, entry: usize) -> u64 {
     unsafe { raw::sarridok_contents(text.as_ptr(), text.len(), tape.as_ptr(), tape.len(), count, entry) }
 }

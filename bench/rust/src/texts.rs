@@ -89,6 +89,9 @@ pub const RECORDS: &[Kind] = &[
     kind("records1000", |r, size| records(r, 1000, size)),
 ];
 
+/// Nodes of the canal network's shape, of little but their own and other nodes' numbers.
+pub const NODES: Kind = kind("nodes", |r, size| nodes(r, size));
+
 /// How the fields of one record are named, by their number and of how many: in no order, counted up, and counted up between ends that they
 /// have in common, as long as the largest text has room for.
 pub const NAMES: [(&str, fn(usize, usize) -> String); 3] = [
@@ -226,6 +229,32 @@ fn canal(size: usize) -> String {
     });
     let (end, _) = ends.last().expect("a node fits");
     format!("{}{CANAL_END}", &CANAL[..end])
+}
+
+/// Reaches, locks and junctions, of three node numbers each.
+fn nodes(r: &mut Random, size: usize) -> String {
+    let mut text = String::from("Network(\n    nodes: [\n");
+    for id in 1000.. {
+        let (from, to) = (id - 1, id + 1);
+        let node = match r.below(3) {
+            0 => format!("        Reach(id: {id}, from: {from}, to: {to}),\n"),
+            1 => format!("        Lock(id: {id}, gates: [{to}, {}]),\n", id + 2),
+            _ => format!("        Junction(id: {id}, of: ({from}, {to})),\n"),
+        };
+        if size < text.len() + node.len() + CANAL_END.len() {
+            break;
+        }
+        text += &node;
+    }
+    text + "    ],\n)\n"
+}
+
+/// In no order.
+pub fn shuffled(items: &mut [u32]) {
+    let mut r = Random(1);
+    for k in (1..items.len()).rev() {
+        items.swap(k, r.below(k as u64 + 1) as usize);
+    }
 }
 
 fn name(r: &mut Random) -> String {

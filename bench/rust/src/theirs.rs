@@ -134,3 +134,19 @@ fn attribute(parser: &mut Parser) -> ron::error::Result<(u32, usize, usize)> {
     let end = if found.is_some() { pre } else { cursor };
     Ok((16, end, found.unwrap_or(0)))
 }
+
+/// The magnitude of the integer at a place in a width, and whether it is below zero.
+pub fn integer(text: &str, place: usize, width: u32) -> ron::error::Result<(u64, bool)> {
+    let parser = &mut parser_at(text, place);
+    let signed = |value: i64| (value.unsigned_abs(), value < 0);
+    Ok(match width {
+        1 => signed(parser.integer::<i8>()?.into()),
+        2 => signed(parser.integer::<i16>()?.into()),
+        3 => signed(parser.integer::<i32>()?.into()),
+        4 => signed(parser.integer::<i64>()?),
+        5 => (parser.integer::<u8>()?.into(), false),
+        6 => (parser.integer::<u16>()?.into(), false),
+        7 => (parser.integer::<u32>()?.into(), false),
+        _ => (parser.integer::<u64>()?, false),
+    })
+}

@@ -5,10 +5,10 @@ use crate::raw;
 use crate::{NewtypeMode, ParserCursor, Refused, Repaired, StructType, TupleMode, Value, Width};
 use core::ops::Range;
 
-/// The version of the archive that was linked: major * 10,000 + minor * 100 + patch, so 500 is 0.5.0.
+/// The version of the archive that was linked: major * 10,000 + minor * 100 + patch, so 600 is 0.6.0.
 ///
 /// ```
-/// assert_eq!(sarridok::version(), 500);
+/// assert_eq!(sarridok::version(), 600);
 /// ```
 pub fn version() -> u32 {
     // Safety: it takes and writes nothing.
@@ -143,6 +143,53 @@ pub fn integer(text: &[u8], place: usize, width: Width) -> Result<(Value, usize)
     let answer = unsafe { raw::sarridok_integer(text.as_ptr(), text.len(), place, width.number(), &mut magnitude) };
     let pair = taken_apart(answer)?;
     Ok((Value::new(pair.high == 1, magnitude), pair.size()))
+}
+
+/// The integers that a list of entry numbers names, each in its entry's width, as [`integer`] reads it at the entry's start. For each item, in the list's order, the number
+/// without its minus stands at the front of `magnitudes`, and at that of `codes` the width's number, with [`BELOW_ZERO`](crate::BELOW_ZERO) added below 0; what is behind them stays.
+/// [`Value::coded`] puts the two together, and [`Document::integers`](crate::Document::integers) hands the values out in turn.
+///
+/// Entries may come in any order and more than once; of each only kind, start and detail are looked at.
+///
+/// # Errors
+/// Refused as `TooLong`, `NotUtf8`, `NotInOrder` for a count above the tape's room, then by the first item that has a refusal, with the item's number in the list, from 0, for the
+/// place: `Unfit` for an entry number not below the count or a start that is unfit, `OtherKind` for an entry that is no integer of a width, those of reading (6 to 15), and
+/// `OtherKind` for another suffix. As `NoRoom` last, where `magnitudes` or `codes` is shorter than the list. An item's number above 2^32 - 1 is told as 2^32 - 1.
+///
+/// ```
+/// use sarridok::{integers, read, Refusal, Refused, ENTRY};
+/// let text = b"[7, -5, 300]";
+/// let mut tape = [0; ENTRY * 7];
+/// let count = read(text, &mut tape)?;
+/// let (mut magnitudes, mut codes) = ([0; 3], [0; 3]);
+/// integers(text, &tape, count, &[5, 3, 1], &mut magnitudes, &mut codes)?;
+/// assert_eq!((magnitudes, codes), ([300, 5, 7], [6, 16 + 1, 5]));
+///
+/// // Entry 2 is a comma: item 1 of the list refuses all of it.
+/// let refused = integers(text, &tape, count, &[1, 2], &mut magnitudes, &mut codes).unwrap_err();
+/// assert_eq!(refused, Refused::new(Refusal::OtherKind, 1));
+/// assert_eq!((magnitudes, codes), ([300, 5, 7], [6, 16 + 1, 5]));
+/// # Ok::<(), sarridok::Refused>(())
+/// ```
+pub fn integers(text: &[u8], tape: &[u32], count: usize, items: &[u32], magnitudes: &mut [u64], codes: &mut [u8]) -> Result<(), Refused> {
+    // Safety: the slices are valid for the call, and the two that are written are borrowed alone.
+    let answer = unsafe {
+        raw::sarridok_integers(
+            text.as_ptr(),
+            text.len(),
+            tape.as_ptr(),
+            tape.len(),
+            count,
+            items.as_ptr(),
+            items.len(),
+            magnitudes.as_mut_ptr(),
+            magnitudes.len(),
+            codes.as_mut_ptr(),
+            codes.len(),
+        )
+    };
+    taken_apart(answer)?;
+    Ok(())
 }
 
 /// The bytes inside the string or byte string that an entry names, where nothing in it was escaped. Of the entry only kind and start are looked at.

@@ -1,7 +1,7 @@
 //! A text, its tape and the number of its entries, kept together.
 
-use crate::{contents, decoded, entries, integer, read, repair, walk};
-use crate::{Entries, Entry, Refusal, Refused, Repaired, Value, ENTRY};
+use crate::{contents, decoded, entries, integer, integers, read, repair, walk};
+use crate::{Entries, Entry, Integers, Refusal, Refused, Repaired, Value, ENTRY};
 use core::ops::Range;
 
 /// A text that was read: the text and its tape, both lent, and the number of its entries.
@@ -127,6 +127,33 @@ impl<'a> Document<'a> {
         let width = entry.width().ok_or(Refused::new(Refusal::OtherKind, 0))?;
         let (value, _) = integer(self.text, entry.start, width)?;
         Ok(value)
+    }
+
+    /// The values of the integers that a list of entry numbers names, each with its width, in the list's order: one call, which judges the text once.
+    /// The two buffers, each as long as the list, are what it writes them into.
+    ///
+    /// # Errors
+    /// As [`integers`]; the place of an item's refusal is the item's number in the list.
+    ///
+    /// ```
+    /// use sarridok::{Document, Refusal, Refused, Width, ENTRY};
+    /// let mut tape = [0; ENTRY * 7];
+    /// let document = Document::read(b"[7, -5, 300]", &mut tape)?;
+    /// let (mut magnitudes, mut codes) = ([0; 3], [0; 3]);
+    /// let values = document.integers(&[5, 3, 1], &mut magnitudes, &mut codes)?;
+    /// assert_eq!(values.len(), 3);
+    /// let values: Vec<(i32, Width)> = values.map(|(value, width)| (i32::try_from(value).unwrap(), width)).collect();
+    /// assert_eq!(values, [(300, Width::U16), (-5, Width::I8), (7, Width::U8)]);
+    ///
+    /// let refused = document.integers(&[1, 2], &mut magnitudes, &mut codes).unwrap_err();
+    /// assert_eq!(refused, Refused::new(Refusal::OtherKind, 1));
+    /// let refused = document.integers(&[1, 3], &mut magnitudes[..1], &mut codes).unwrap_err();
+    /// assert_eq!(refused, Refused::new(Refusal::NoRoom, 0));
+    /// # Ok::<(), sarridok::Refused>(())
+    /// ```
+    pub fn integers<'o>(&self, items: &[u32], magnitudes: &'o mut [u64], codes: &'o mut [u8]) -> Result<Integers<'o>, Refused> {
+        integers(self.text, self.tape, self.count, items, magnitudes, codes)?;
+        Ok(Integers::new(magnitudes, codes, items.len()))
     }
 
     /// Makes this the document of `text`, in which the bytes of `cut` of the old text were replaced.

@@ -24,7 +24,7 @@
 //! # Ok::<(), sarridok::Refused>(())
 //! ```
 //!
-//! Below it stand the calls themselves, by their names: [`read`], [`walk`], [`repair`], [`integer`], [`contents`], [`decoded`], [`struct_kind`] and [`skip`].
+//! Below it stand the calls themselves, by their names: [`read`], [`walk`], [`repair`], [`integer`], [`integers`], [`contents`], [`decoded`], [`struct_kind`] and [`skip`].
 //!
 //! Nothing is allocated, and without the feature `std`, which adds `std::error::Error` for the errors, no standard library is asked for. The archive itself asks
 //! for `memset`, and links only into x86-64 programs.
@@ -40,15 +40,17 @@ mod answer;
 mod calls;
 mod document;
 mod entry;
+mod integers;
 mod kinds;
 mod numbered;
 mod raw;
 mod refusal;
 mod value;
 
-pub use calls::{contents, decoded, integer, read, repair, skip, struct_kind, version, walk};
+pub use calls::{contents, decoded, integer, integers, read, repair, skip, struct_kind, version, walk};
 pub use document::Document;
 pub use entry::{entries, Entries, Entry};
+pub use integers::Integers;
 pub use kinds::{Extension, Kind, NewtypeMode, ParserCursor, Repaired, StructType, TupleMode, Width};
 pub use numbered::UnknownNumber;
 pub use refusal::{EscapeReason, Refusal, Refused};
@@ -59,6 +61,9 @@ pub const MAX_TEXT: usize = 65_536;
 
 /// The highest depth limit of a walk.
 pub const MAX_DEPTH: usize = 128;
+
+/// What a code of [`integers`] has above its width's number where the value is below 0.
+pub const BELOW_ZERO: u8 = 16;
 
 /// How many numbers of a tape an entry has: kind, start, end, detail, gap. A tape has room for its length divided by it, rounded down. Later versions may have more.
 pub const ENTRY: usize = 5;

@@ -26,6 +26,19 @@ extern "C" {
         behind: *mut u64,
     ) -> u64;
     pub fn sarridok_integer(text: *const u8, text_len: usize, place: usize, width: u32, magnitude: *mut u64) -> u64;
+    pub fn sarridok_integers(
+        text: *const u8,
+        text_len: usize,
+        tape: *const u32,
+        tape_len: usize,
+        count: usize,
+        items: *const u32,
+        items_len: usize,
+        magnitudes: *mut u64,
+        magnitudes_len: usize,
+        codes: *mut u8,
+        codes_len: usize,
+    ) -> u64;
     pub fn sarridok_contents(text: *const u8, text_len: usize, tape: *const u32, tape_len: usize, count: usize, entry: usize) -> u64;
     pub fn sarridok_decoded(
         text: *const u8,

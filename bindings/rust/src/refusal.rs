@@ -168,7 +168,7 @@ pub struct Refused {
     /// Why.
     pub refusal: Refusal,
     /// A byte of the text; for [`Refusal::DepthLimitPassed`], [`Refusal::NotAllowedHere`] and [`Refusal::RepeatedField`] an entry's number, for
-    /// [`Refusal::TapeEndsEarly`] the number of entries.
+    /// [`Refusal::TapeEndsEarly`] the number of entries. For an item of a list of [`integers`](crate::integers), the item's number.
     pub place: usize,
     /// Why the escape is not valid, for [`Refusal::InvalidEscape`]; `None` for every other refusal, and for a reason of a later archive.
     pub reason: Option<EscapeReason>,

@@ -1,5 +1,6 @@
 //! The value of an integer.
 
+use crate::{Width, BELOW_ZERO};
 use core::fmt;
 
 /// An integer; 0 has no minus.
@@ -24,6 +25,20 @@ pub struct Value {
 impl Value {
     pub(crate) const fn new(minus: bool, magnitude: u64) -> Value {
         Value { minus, magnitude }
+    }
+
+    /// The value and its width, of a magnitude and a code as [`integers`](crate::integers) writes them. `None` where no width has that code, or 0 a minus.
+    ///
+    /// ```
+    /// use sarridok::{Value, Width};
+    /// assert_eq!(Value::coded(5, 16 + 1), Some((Value::from(-5), Width::I8)));
+    /// assert_eq!(Value::coded(300, 6), Some((Value::from(300), Width::U16)));
+    /// assert_eq!((Value::coded(5, 0), Value::coded(0, 16 + 1)), (None, None));
+    /// ```
+    pub fn coded(magnitude: u64, code: u8) -> Option<(Value, Width)> {
+        let minus = BELOW_ZERO <= code;
+        let width = Width::try_from(if minus { code - BELOW_ZERO } else { code }).ok()?;
+        (!minus || magnitude != 0).then_some((Value::new(minus, magnitude), width))
     }
 }
 

@@ -314,6 +314,107 @@ fn largest_texts() {
     }
 }
 
+/// A list in any order, with entries that come twice: the values and their codes.
+#[test]
+fn lists_of_integers() {
+    let text = b"[7, -5, 300, b'a', -0, -9223372036854775808, -0u8, 0xFF, 1_000i64, 18446744073709551615]";
+    let (tape, count) = checked_read(text).unwrap();
+    let items = [11, 1, 3, 3, 5, 7, 9, 13, 15, 17, 19];
+    let values = checked_integers(text, &tape, count, &items, [12, 13]).unwrap();
+    let values: Vec<(i128, u32)> = values.iter().map(|(value, width)| ((*value).into(), width.number())).collect();
+    let (lowest, highest) = (i64::MIN.into(), u64::MAX.into());
+    let wanted = [
+        (lowest, 4),
+        (7, 5),
+        (-5, 1),
+        (-5, 1),
+        (300, 6),
+        (97, 5),
+        (0, 1),
+        (0, 5),
+        (255, 5),
+        (1000, 4),
+        (highest, 8),
+    ];
+    assert_eq!(values, wanted);
+    let mut codes = [0; 11];
+    integers(text, &tape, count, &items, &mut [0; 11], &mut codes).unwrap();
+    assert_eq!(codes, [20, 5, 17, 17, 6, 5, 1, 5, 5, 4, 8]);
+    // No item over a count that fits is accepted, in no room; what is asked first is told first.
+    assert_eq!(checked_integers(text, &tape, count, &[], [0, 0]), Ok(vec![]));
+    assert_eq!(checked_integers(b"", &[], 0, &[], [0, 0]), Ok(vec![]));
+    for (items, rooms, refusal, place) in [
+        (&[1, 3, 21][..], [3, 3], Refusal::Unfit, 2),
+        (&[1, 2, 21], [0, 0], Refusal::OtherKind, 1),
+        (&[u32::MAX, 2], [2, 2], Refusal::Unfit, 0),
+        (&[1, 3], [1, 2], Refusal::NoRoom, 0),
+        (&[1, 3], [2, 1], Refusal::NoRoom, 0),
+    ] {
+        let answer = checked_integers(text, &tape, count, items, rooms);
+        assert_eq!(answer, Err(refused(refusal, place)), "{items:?}");
+    }
+    let room = tape.len() / ENTRY;
+    for count in [room + 1, usize::MAX] {
+        let answer = checked_integers(text, &tape, count, &[99], [0, 0]);
+        assert_eq!(answer, Err(refused(Refusal::NotInOrder, 0)));
+    }
+    let answer = checked_integers(b"7\xFF", &tape, usize::MAX, &[99], [0, 0]);
+    assert_eq!(answer, Err(refused(Refusal::NotUtf8, 1)));
+    let answer = checked_integers(&[b'7'; MAX_TEXT + 1], &tape, usize::MAX, &[99], [0, 0]);
+    assert_eq!(answer, Err(refused(Refusal::TooLong, 0)));
+}
+
+/// Entries of no integer, and integers that do not read in their entry's width: the number is the single call's, the place the item's.
+#[test]
+fn items_that_are_refused() {
+    use Refusal::*;
+    for (text, kind, start, width, refusal) in [
+        ("7", 11, 2, 5, Unfit),
+        ("7", 11, u32::MAX, 5, Unfit),
+        ("7é", 11, 2, 5, Unfit),
+        ("7é", 9, 2, 5, Unfit),
+        ("7", 12, 0, 5, OtherKind),
+        ("7", 0, 0, 5, OtherKind),
+        ("7", 77, 0, 5, OtherKind),
+        ("7", 11, 0, 0, OtherKind),
+        ("7", 11, 0, 9, OtherKind),
+        ("7", 11, 0, 256 + 5, OtherKind),
+        ("7 1u16", 11, 2, 5, OtherKind),
+        ("7", 11, 1, 5, Eof),
+        ("7 x", 11, 2, 5, ExpectedInteger),
+        ("7 _1", 11, 2, 5, UnderscoreAtBeginning),
+        ("7 0b2", 11, 2, 5, InvalidIntegerDigit),
+        ("7 256", 11, 2, 5, IntegerOutOfBounds),
+        ("7 -129", 11, 2, 1, IntegerOutOfBounds),
+        ("7 b'ab'", 11, 2, 5, ExpectedByteLiteral),
+    ] {
+        let tape = [11, 0, 1, 5, 0, kind, start, 0, width, 0];
+        let answer = checked_integers(text.as_bytes(), &tape, 2, &[0, 0, 1, 0], [4, 4]);
+        assert_eq!(answer, Err(refused(refusal, 2)), "{text}");
+    }
+    for (text, reason) in [
+        (r"7 b'\x4'", EscapeReason::DigitNotHex),
+        (r"7 b'\u{41}'", EscapeReason::UnicodeInByteLiteral),
+    ] {
+        let answer = checked_integers(text.as_bytes(), &[11, 2, 0, 5, 0], 1, &[0], [1, 1]);
+        assert_eq!(answer, Err(Refused::invalid_escape(reason, 0)), "{text}");
+    }
+    // Where an entry ends is not looked at.
+    let answer = checked_integers(b"1.5", &[11, 0, 0, 5, 7], 1, &[0], [1, 1]);
+    assert_eq!(answer, Ok(vec![(Value::from(1), Width::U8)]));
+}
+
+/// As many integers as a text has room for, each asked for twice.
+#[test]
+fn longest_lists() {
+    let text = format!("[{}]", "7,".repeat((MAX_TEXT - 2) / 2));
+    let (tape, count) = checked_read(text.as_bytes()).unwrap();
+    let items: Vec<u32> = (0..2).flat_map(|_| (1..count as u32 - 1).step_by(2)).collect();
+    let (mut magnitudes, mut codes) = (vec![0; items.len()], vec![0; items.len()]);
+    assert_eq!(integers(text.as_bytes(), &tape, count, &items, &mut magnitudes, &mut codes), Ok(()));
+    assert!(items.len() == 65_534 && magnitudes.iter().all(|n| *n == 7) && codes.iter().all(|code| *code == 5));
+}
+
 /// Numbers that name no width and no mode are refused 28 at 0, behind 1 and 2 of the text; nothing is written.
 #[test]
 fn unfit_numbers() {

@@ -128,6 +128,7 @@ fn parts_of_no_document() {
     );
     assert_eq!(document.integer(2).unwrap_err().refusal, Refusal::OtherKind);
     assert_eq!(document.integer(3).unwrap_err().refusal, Refusal::Unfit);
+    assert_eq!(document.integers(&[], &mut [], &mut []).unwrap_err().refusal, Refusal::NotInOrder);
     assert_eq!(document.contents(0).unwrap_err().refusal, Refusal::NotInOrder);
     assert_eq!(document.decoded(0, &mut []).unwrap_err().refusal, Refusal::NotInOrder);
     assert_eq!(document.walk(MAX_DEPTH, &mut []).unwrap_err().refusal, Refusal::NotInOrder);
@@ -145,6 +146,37 @@ fn entries_end_at_the_count() {
     let document = Document::from_parts(b"a b", &mut tape, 1);
     assert_eq!(document.entries().count(), 1);
     assert_eq!((document.text_of(0), document.entry(1)), (Some(&b"a"[..]), None));
+}
+
+/// The values of a list have a length, which counts down, and are handed out in the list's order; the iterator may be copied.
+#[test]
+fn values_of_a_list() {
+    let mut tape = [0; ENTRY * 8];
+    let document = Document::read(b"[7, -8, 900]", &mut tape).unwrap();
+    let (mut magnitudes, mut codes) = ([1; 5], [1; 4]);
+    let mut values = document.integers(&[5, 1, 3], &mut magnitudes, &mut codes).unwrap();
+    assert_eq!((values.len(), values.size_hint()), (3, (3, Some(3))));
+    assert_eq!(values.next(), Some((Value::from(900), Width::U16)));
+    let rest = values.clone();
+    assert_eq!((values.next(), values.len()), (Some((Value::from(7), Width::U8)), 1));
+    assert_eq!(values.next(), Some((Value::from(-8), Width::I8)));
+    assert_eq!((values.next(), values.next(), values.len()), (None, None, 0));
+    assert_eq!(rest.map(|(value, _)| i128::from(value)).sum::<i128>(), -1);
+    let none = document.integers(&[], &mut [], &mut []).unwrap();
+    assert_eq!((none.len(), none.last()), (0, None));
+    assert_eq!((magnitudes, codes), ([900, 7, 8, 1, 1], [6, 5, 17, 1]));
+}
+
+#[test]
+fn codes_of_values() {
+    for code in 0..=u8::MAX {
+        let width = Width::try_from(code % BELOW_ZERO).ok().filter(|_| code < 2 * BELOW_ZERO);
+        let minus = BELOW_ZERO <= code;
+        let coded = Value::coded(7, code);
+        assert_eq!(coded.map(|(_, width)| width), width);
+        assert!(coded.map_or(true, |(value, _)| (value.minus, value.magnitude) == (minus, 7)));
+        assert_eq!(Value::coded(0, code).is_some(), width.is_some() && !minus);
+    }
 }
 
 /// A document may be repaired as often as a host likes, with each text in a buffer of its own.

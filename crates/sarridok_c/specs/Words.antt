@@ -12,7 +12,7 @@ use Rattle.sarridok_c.specs.Packed.{pairOf, bitOf}
 abbrev pub countWord : ℕ → ℕ
 countWord n = pairOf 0 n
 
--- Walk: nothing.
+-- Walk and integers: nothing.
 abbrev pub doneWord : Unit {0} → ℕ
 doneWord t = 0
 

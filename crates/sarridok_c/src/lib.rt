@@ -6,6 +6,7 @@
 mod contents_c;
 mod decoded_c;
 mod integer_c;
+mod integers_c;
 mod packing;
 mod read_c;
 mod repair_c;
@@ -17,6 +18,7 @@ mod walk_c;
 pub use contents_c::sarridok_contents;
 pub use decoded_c::sarridok_decoded;
 pub use integer_c::sarridok_integer;
+pub use integers_c::sarridok_integers;
 pub use read_c::sarridok_read;
 pub use repair_c::sarridok_repair;
 pub use skip_c::sarridok_skip;

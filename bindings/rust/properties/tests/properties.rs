@@ -69,6 +69,81 @@ fn any_tape() {
     holds(4000, property as fn(Tape, Good, Near, Near, Near));
 }
 
+/// A list of entries of what was read, of all or of integers only, and of numbers behind them: what single calls say, in the list's order.
+#[test]
+fn lists_are_single_calls() {
+    static MET: AtomicU64 = AtomicU64::new(0);
+    fn property(text: Good, list: List, only: bool, room: Near, code_room: Near) {
+        let (tape, count) = checked_read(text.0).expect("a good text");
+        let numbers: Vec<u32> = entries(&tape, count)
+            .zip(0..)
+            .filter(|(entry, _)| !only || entry.kind == Kind::Integer)
+            .map(|(_, number)| number)
+            .collect();
+        let items = list.of(numbers.len()).into_iter();
+        let items: Vec<u32> = items.map(|item| numbers.get(item).copied().unwrap_or(item as u32)).collect();
+        let rooms = [room, code_room].map(|room| room.of(items.len()).min(items.len() + 3));
+        let answer = checked_integers(text.0, &tape, count, &items, rooms);
+        if !items.is_empty() {
+            MET.fetch_or(1 << answer.err().map_or(0, |refused| refused.number()), Ordering::Relaxed);
+        }
+    }
+    holds(4000, property as fn(Good, List, bool, Near, Near));
+    let met = MET.load(Ordering::Relaxed);
+    for number in [0, 22, 27, 28] {
+        assert!(met >> number & 1 == 1, "never met: {number}");
+    }
+}
+
+/// The same over tapes that no read has written: each refusal that an item can have is met.
+#[test]
+fn lists_over_any_tape() {
+    static MET: AtomicU64 = AtomicU64::new(0);
+    fn property(numerals: Numerals, count: Near, list: List, room: Near) {
+        let (text, tape) = (numerals.text.as_bytes(), &numerals.tape);
+        let rows = tape.len() / ENTRY;
+        let items: Vec<u32> = list.of(rows).into_iter().map(|item| item as u32).collect();
+        let room = room.of(items.len()).min(items.len() + 3);
+        for count in [rows, count.of(rows)] {
+            let answer = checked_integers(text, tape, count, &items, [room, items.len()]);
+            if !items.is_empty() {
+                MET.fetch_or(1 << answer.err().map_or(0, |refused| refused.number()), Ordering::Relaxed);
+            }
+        }
+    }
+    holds(8000, property as fn(Numerals, Near, List, Near));
+    let met = MET.load(Ordering::Relaxed);
+    for number in [0, 6, 7, 8, 9, 10, 13, 22, 23, 27, 28] {
+        assert!(met >> number & 1 == 1, "never met: {number}");
+    }
+}
+
+/// And over any text and tape at all.
+#[test]
+fn lists_of_anything() {
+    fn property(tape: Tape, text: Text, count: Near, list: List, room: Near) {
+        let (tape, rows) = (&tape.0, tape.0.len() / ENTRY);
+        let items: Vec<u32> = list.of(rows).into_iter().map(|item| item as u32).collect();
+        let room = room.of(items.len()).min(items.len() + 3);
+        let _ = checked_integers(&text.0, tape, count.of(rows), &items, [room, room + 1]);
+    }
+    holds(4000, property as fn(Tape, Text, Near, List, Near));
+}
+
+/// All `id` fields of the canal network, in one call and one by one.
+#[test]
+fn ids_of_the_canal_network() {
+    let text = include_bytes!("../../../../bench/canal.ron");
+    let (tape, count) = checked_read(text).expect("it is read");
+    let mut lent = tape.clone();
+    let document = Document::from_parts(text, &mut lent, count);
+    let is_id = |i: &usize| document.text_of(i - 2) == Some(&b"id"[..]) && document.text_of(i - 1) == Some(&b":"[..]);
+    let ids: Vec<u32> = (2..count).filter(is_id).map(|i| i as u32).collect();
+    let values = checked_integers(text, &tape, count, &ids, [ids.len(); 2]).expect("each is read");
+    assert!(values.iter().zip(1000u16..).all(|((value, _), id)| *value == Value::from(id)));
+    assert_eq!(values.len(), 527);
+}
+
 #[test]
 fn any_tape_and_cut_in_a_repair() {
     static FIT: AtomicU64 = AtomicU64::new(0);

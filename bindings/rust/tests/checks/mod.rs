@@ -263,6 +263,98 @@ pub fn checked_place(text: &[u8], place: usize) {
     }
 }
 
+/// What the call for one integer says of an item of a list, in its entry's width.
+fn single(text: &str, tape: &[u32], count: usize, item: u32) -> Result<(Value, Width), Refused> {
+    let [unfit, other_kind] = [Refusal::Unfit, Refusal::OtherKind].map(|refusal| Refused::new(refusal, 0));
+    if count <= item as usize {
+        return Err(unfit);
+    }
+    let (kind, start, detail) = match tape[ENTRY * item as usize..] {
+        [kind, start, _, detail, ..] => (kind, start as usize, detail),
+        _ => panic!("the count fits the tape"),
+    };
+    if !text.is_char_boundary(start) {
+        return Err(unfit);
+    }
+    let width = Width::try_from(detail)
+        .ok()
+        .filter(|_| kind == Kind::Integer.number())
+        .ok_or(other_kind)?;
+    integer(text.as_bytes(), start, width).map(|(value, _)| (value, width))
+}
+
+/// What a list is answered with, told by single calls: item by item, each refusal at the item's number, and then the room.
+pub fn by_singles(text: &[u8], tape: &[u32], count: usize, items: &[u32], room: usize) -> Result<Vec<(Value, Width)>, Refused> {
+    if MAX_TEXT < text.len() {
+        return Err(Refused::new(Refusal::TooLong, 0));
+    }
+    let text = std::str::from_utf8(text).map_err(|bad| Refused::new(Refusal::NotUtf8, bad.valid_up_to()))?;
+    if tape.len() / ENTRY < count {
+        return Err(Refused::new(Refusal::NotInOrder, 0));
+    }
+    let mut values = Vec::new();
+    for (place, item) in items.iter().enumerate() {
+        values.push(single(text, tape, count, *item).map_err(|mut refused| {
+            refused.place = place;
+            refused
+        })?);
+    }
+    if room < items.len() {
+        return Err(Refused::new(Refusal::NoRoom, 0));
+    }
+    Ok(values)
+}
+
+/// Asks for the integers of a list in one call, with room for so many magnitudes and codes, and holds it against single calls.
+pub fn checked_integers(text: &[u8], tape: &[u32], count: usize, items: &[u32], rooms: [usize; 2]) -> Result<Vec<(Value, Width)>, Refused> {
+    let [room, code_room] = rooms;
+    let wanted = by_singles(text, tape, count, items, room.min(code_room));
+    let (mut magnitudes, mut codes) = (vec![u64::from(MARK); room], vec![0xEE; code_room]);
+    let answer = integers(text, tape, count, items, &mut magnitudes, &mut codes);
+    assert_eq!(answer.err(), wanted.as_ref().err().copied());
+    let written = wanted.as_ref().map_or(0, Vec::len);
+    assert!(magnitudes[written..].iter().all(|n| *n == MARK.into()) && codes[written..].iter().all(|code| *code == 0xEE));
+    for (k, (value, width)) in wanted.iter().flatten().enumerate() {
+        let code = width.number() + if value.minus { 16 } else { 0 };
+        assert_eq!((magnitudes[k], u32::from(codes[k])), (value.magnitude, code));
+        assert_eq!(Value::coded(magnitudes[k], codes[k]), Some((*value, *width)));
+    }
+    let (mut lent, before) = (tape.to_vec(), (magnitudes.clone(), codes.clone()));
+    let document = Document::from_parts(text, &mut lent, count);
+    let listed = document.integers(items, &mut magnitudes, &mut codes);
+    assert_eq!(listed.as_ref().map_or(0, |values| values.len()), written);
+    assert_eq!(listed.map(|values| values.collect()), wanted);
+    assert_eq!((magnitudes, codes), before);
+    if let Err(refused) = wanted {
+        has_its_reason(refused);
+    }
+    wanted
+}
+
+/// All integers of a tape in one call, forwards and backwards, and each entry alone, as well as one behind the last.
+pub fn checked_lists(text: &[u8], tape: &[u32], count: usize) {
+    let is_integer = |entry: &Entry| entry.width().is_some();
+    let numbered = entries(tape, count).zip(0..).filter(|(entry, _)| is_integer(entry));
+    let mut items: Vec<u32> = numbered.map(|(_, number)| number).collect();
+    let forwards = checked_integers(text, tape, count, &items, [items.len(); 2]).expect("each was read");
+    items.reverse();
+    let backwards = checked_integers(text, tape, count, &items, [items.len() + 2, items.len()]).expect("each was read");
+    assert!(forwards.iter().eq(backwards.iter().rev()));
+    if !items.is_empty() {
+        let (all, less) = (items.len(), items.len() - 1);
+        for rooms in [[all, less], [less, all], [0, 0]] {
+            let short = checked_integers(text, tape, count, &items, rooms);
+            assert_eq!(short, Err(Refused::new(Refusal::NoRoom, 0)));
+        }
+    }
+    for number in 0..=count {
+        items.push(number as u32);
+        let _ = checked_integers(text, tape, count, &items, [items.len(); 2]);
+        let _ = checked_integers(text, tape, count, &[number as u32], [0, 1]);
+        items.pop();
+    }
+}
+
 /// A document says of a text what the calls say.
 pub fn checked_document(text: &[u8], tape: &[u32], count: usize) {
     let mut room = vec![MARK; tape.len()];
@@ -299,6 +391,7 @@ pub fn all_calls(text: &[u8]) {
     }
     if let Ok((tape, count)) = checked_read(text) {
         checked_strings(text, &tape, count);
+        checked_lists(text, &tape, count);
         checked_document(text, &tape, count);
         for limit in [0, 1, 2, MAX_DEPTH, MAX_DEPTH + 1, usize::MAX] {
             let _ = checked_walk(text, &tape, count, limit, count);

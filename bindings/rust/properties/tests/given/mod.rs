@@ -191,6 +191,86 @@ impl Arbitrary for Near {
     }
 }
 
+/// A list of a few numbers, each below a bound but now and then one that need not be.
+#[derive(Clone, Debug)]
+pub struct List {
+    within: Vec<usize>,
+    other: Option<(usize, Near)>,
+}
+
+impl List {
+    /// The list for a bound.
+    pub fn of(&self, bound: usize) -> Vec<usize> {
+        let mut list: Vec<usize> = self.within.iter().map(|n| n % bound.max(1)).collect();
+        if let Some((at, other)) = &self.other {
+            list.insert(at % (list.len() + 1), other.of(bound));
+        }
+        list
+    }
+}
+
+impl Arbitrary for List {
+    fn arbitrary(g: &mut Gen) -> List {
+        let within = (0..below(g, 7)).map(|_| usize::arbitrary(g)).collect();
+        let other = (below(g, 3) == 0).then(|| Arbitrary::arbitrary(g));
+        List { within, other }
+    }
+}
+
+/// A text of integers that are nearly good, and a tape that names them, right for the most part.
+#[derive(Clone, Debug)]
+pub struct Numerals {
+    pub text: String,
+    pub tape: Vec<u32>,
+}
+
+const NUMERALS: &[&str] = &[
+    "7",
+    "-5",
+    "300",
+    "0",
+    "-0",
+    "+8",
+    "1_000",
+    "0xFF",
+    "0b101",
+    "0o17",
+    "65536",
+    "-129",
+    "4294967296",
+    "18446744073709551615",
+    "5u8",
+    "-7i16",
+    "9i64",
+    "b'a'",
+    r"b'\x41'",
+    r"b'\x4'",
+    "12x",
+    "_1",
+    "0b2",
+    "1u9",
+    "é",
+    "",
+    "1.5",
+];
+
+impl Arbitrary for Numerals {
+    fn arbitrary(g: &mut Gen) -> Numerals {
+        let (mut text, mut tape) = (String::new(), Vec::new());
+        for _ in 0..=below(g, 6) {
+            let (start, numeral) = (text.len() as u32, g.choose(NUMERALS).expect("there are some"));
+            text += numeral;
+            text += g.choose(&[",", " ", ")", "//", "é", ""]).expect("there are some");
+            let mut entry = [11, start, text.len() as u32, 1 + below(g, 8) as u32, 0];
+            if below(g, 12) == 0 {
+                *g.choose(&[0, 1, 3]).map(|at| &mut entry[*at]).expect("there are three") = number(g);
+            }
+            tape.extend(entry);
+        }
+        Numerals { text, tape }
+    }
+}
+
 /// Numbers of a tape, mostly of entries in order, mostly a whole number of them.
 #[derive(Clone, Debug)]
 pub struct Tape(pub Vec<u32>);
