@@ -7,7 +7,7 @@ ghost use mathlib.Core.Path.{_≡_};
 ghost use lib.ListN.{length};
 ghost use Rattle.read.specs.Read.{toldRead, readAnswer, readTape};
 
-// Four numbers an entry, from the front of the tape on; refused, it writes nothing.
+// Five numbers an entry, from the front of the tape on; refused, it writes nothing.
 pub fn read(text: &[u8], tape: &mut [u32]) -> ReadAnswer
     ensures { λ r. ⌜ (toldRead r ≡ readAnswer (now (text .entry)) (length (now (tape .entry))))
         × (now (tape .exit) ≡ readTape (now (text .entry)) (now (tape .entry))) ⌝ }
