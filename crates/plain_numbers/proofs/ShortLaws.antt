@@ -5,7 +5,7 @@ use native.Mathlib.Omega.{arith, min-cases}
 use mathlib.Core.Bool.{true, false}
 use mathlib.Core.List.{List, [], _∷_, _++_}
 use mathlib.Core.Path.{_≡_, ap, refl, sym, _∙_}
-use lib.ListN.{length, take, drop, getD, List·getD-eq-default}
+use lib.ListN.{length, take, drop, getD}
 use lib.Seq.{length-take-le, take-suc}
 use borrow.Author.Tests.{le-leb, le-ltb, lt-leb, lt-ltb}
 use Rattle.text.proofs.Choices.{and-false}
@@ -14,11 +14,10 @@ use Rattle.text.specs.Classes.{digit}
 use Rattle.text.specs.Runs.{run}
 use Rattle.digits.specs.Value.{digitStep, valueFrom, valueOf}
 use Rattle.integers.specs.Width.{limitAt}
-use Rattle.reading.specs.Owed.{quietByte}
 use Rattle.plain_numbers.proofs.Values.{run-only, step-digit, value-within}
 use Rattle.plain_numbers.specs.declared.short.Digits.{Digits}
 use Rattle.plain_numbers.specs.declared.short.Short.the-variants.{Other, Value}
-use Rattle.plain_numbers.specs.inner.Shorts.{digitsOf, most, shortBy, shortOf}
+use Rattle.plain_numbers.specs.inner.Shorts.{digitsOf, endsShort, most, shortBy, shortOf}
 
 -- one digit more behind a run
 value-last : (base acc : ℕ) (s : List ℕ) (c : ℕ) → valueFrom base acc (s ++ (c ∷ [])) ≡ digitStep base (valueFrom base acc s) c
@@ -74,15 +73,11 @@ module _ (code : ℕ) (s : List ℕ) (d : Digits) (e : d ≡ digitsOf s) where
   pub short-none : d .len ≡ 0 → Other ≡ shortOf code s
   short-none h = sym (opened ∙ rw (le-ltb 0 (d .len) (omega arith)))
 
-  pub short-loud : quietByte (getD s (d .len) 0) ≡ false → Other ≡ shortOf code s
+  pub short-loud : endsShort (getD s (d .len) 0) ≡ false → Other ≡ shortOf code s
   short-loud h = sym (opened ∙ rw (h, and-false))
-
-  pub short-past : length s ≤ d .len → Other ≡ shortOf code s
-  unfolding quietByte
-  short-past h = short-loud (ap quietByte (List·getD-eq-default s 0 {n = d .len} h))
 
   pub short-over : limitAt code false < d .value → Other ≡ shortOf code s
   short-over h = sym (opened ∙ rw (lt-leb (d .value) (limitAt code false) h, and-false, and-false))
 
-  pub short-said : (d .len ≡ 0 → ⊥) → quietByte (getD s (d .len) 0) ≡ true → d .value ≤ limitAt code false → Value (d .value) ≡ shortOf code s
-  short-said some quiet fits = sym (opened ∙ rw (lt-ltb 0 (d .len) (omega arith), quiet, le-leb (d .value) (limitAt code false) fits))
+  pub short-said : (d .len ≡ 0 → ⊥) → endsShort (getD s (d .len) 0) ≡ true → d .value ≤ limitAt code false → Value (d .value) (d .len) ≡ shortOf code s
+  short-said some ends fits = sym (opened ∙ rw (lt-ltb 0 (d .len) (omega arith), ends, le-leb (d .value) (limitAt code false) fits))

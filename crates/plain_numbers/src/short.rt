@@ -1,9 +1,10 @@
-// Short integers: one to nineteen decimal digits with a quiet byte behind, of a value that the width holds. A list of integers is read by them without the
+// Short integers: one to nineteen decimal digits with a quiet byte or the end behind, of a value that the width holds. Typed integers are read by them without the
 // general reader, which stays their definition: proofs/ShortIntegers shows that it reads the same number.
 use integers::width::highest;
 use quiet::bytes::is_quiet;
+use text::bytes::peek;
 ghost use mathlib.Core.Path.{_≡_};
-ghost use Rattle.plain_numbers.specs.inner.Shorts.{digitsOf, shortOf};
+ghost use Rattle.plain_numbers.specs.inner.Shorts.{digitsOf, endsShort, shortOf};
 
 // Nineteen digits fit 64 bits.
 const MOST: usize = 19;
@@ -14,9 +15,9 @@ pub struct Digits {
     pub value: u64,
 }
 
-// The value of a short integer; or none stands there.
+// The value of a short integer and its length; or none stands there.
 pub enum Short {
-    Value(u64),
+    Value(u64, usize),
     Other,
 }
 
@@ -45,6 +46,16 @@ fn digits_of(s: &[u8]) -> Digits
     Digits { len: i, value }
 }
 
+// A short integer may end before it: a quiet byte, or 0, which also stands past the end.
+fn ends_short(byte: u8) -> bool
+    ensures { λ r. ⌜ r ≡ endsShort byte ⌝ }
+{
+    if byte == 0 {
+        return true;
+    }
+    is_quiet(byte)
+}
+
 // The short integer at the front of a part, in the width of a number.
 pub fn short_integer(s: &[u8], code: u8) -> Short
     ensures { λ r. ⌜ r ≡ shortOf code (now (s .entry)) ⌝ }
@@ -54,14 +65,11 @@ pub fn short_integer(s: &[u8], code: u8) -> Short
     if len == 0 {
         return Short::Other;
     }
-    if s.len() <= len {
-        return Short::Other;
-    }
-    if !is_quiet(s[len]) {
+    if !ends_short(peek(s, len)) {
         return Short::Other;
     }
     if highest(code) < d.value {
         return Short::Other;
     }
-    Short::Value(d.value)
+    Short::Value(d.value, len)
 }

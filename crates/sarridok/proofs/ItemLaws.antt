@@ -25,11 +25,11 @@ use Rattle.integers.specs.Width.{codeOf, limitAt, limitOf, row, widthAt}
 use Rattle.integers.specs.declared.width.Width.{Width}
 use Rattle.integers.specs.declared.integer.Integer.{Integer}
 use Rattle.integers.specs.declared.integer.Integer.the-variants as integer
-use Rattle.plain_numbers.proofs.ShortIntegers.{Held, held-begins, held-read, short-held}
 use Rattle.plain_numbers.specs.declared.short.Short.the-variants.{Value}
 use Rattle.plain_numbers.specs.inner.Shorts.{shortOf}
 use Rattle.rows.specs.Rows.{entryAt}
 use Rattle.rows.specs.declared.Entry.{Entry}
+use Rattle.sarridok.proofs.ShortReads.{short-read}
 use Rattle.sarridok.specs.Typed.{Typed, integerAt, integerOf, placedAt, toldInteger}
 use Rattle.sarridok.specs.Integers.{Coded, before, codedAs, entryInteger, filled, itemOf, itemsFrom, namesInteger}
 use Rattle.sarridok.specs.inner.Items.{atItem, codedIn, verdictOf}
@@ -47,13 +47,9 @@ same-limit : (width : ℕ) → limitAt (codeOf (widthAt width)) false ≡ limitA
 unfolding limitAt
 same-limit width = ap (λ (w : Width). limitOf (row w .signed) (row w .bits) false) (width-of (widthAt width))
 
-pub short-item : (width k v : ℕ) (s : List ℕ) → shortOf width s ≡ Value v
+pub short-item : (width k v n : ℕ) (s : List ℕ) → shortOf width s ≡ Value v n
     → accepted (record { magnitude = v; code = width }) ≡ atItem k (codedIn width (integerAt (widthAt width) s))
-unfolding integerAt
-short-item width k v s e =
-    let h : Held width s v = short-held width s v e in
-    let held : Held (codeOf (widthAt width)) s v = record { some = h .some; quiet = h .quiet; value = h .value; fits = rw (same-limit width) (h .fits) } in
-    rw (held-begins s v (widthAt width) held, held-read s v (widthAt width) held, add-zero width)
+short-item width k v n s e = rw (short-read (widthAt width) width (same-limit width) s v n e, add-zero width)
 
 -- the integer that an entry names
 module _ (text : List ℕ) (e : Entry) (k : ℕ) where

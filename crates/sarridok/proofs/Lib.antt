@@ -1,6 +1,7 @@
 pub mod SkipDetermined
 pub mod IntegerDetermined
 pub mod Places
+pub mod ShortReads
 pub mod ItemLaws
 pub mod IntegersLaws
 pub mod IntegersMeans

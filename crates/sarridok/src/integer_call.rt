@@ -5,6 +5,8 @@ use integers::Width;
 use integers::ident::check_str;
 use integers::integer::typed;
 use integers::width::code_of;
+use plain_numbers::short::Short;
+use plain_numbers::short::short_integer;
 use strings::chars::ByteAnswer;
 use strings::chars::byte_literal;
 use text::Refusal;
@@ -51,6 +53,23 @@ pub fn integer_at(s: &[u8], width: Width) -> Integer
     typed(s, width)
 }
 
+// The same; a short one without the general reader.
+fn number_at(s: &[u8], width: Width) -> Integer
+    ensures { λ r. ⌜ r ≡ integerAt width (now (s .entry)) ⌝ }
+{
+    let short = short_integer(s, code_of(width));
+    match short {
+        Short::Value(magnitude, len) => {
+            let value = Value {
+                minus: false,
+                magnitude,
+            };
+            Integer::Read(value, len)
+        }
+        Short::Other => integer_at(s, width),
+    }
+}
+
 // The same, seen from the front of the text; 27 stands at 0.
 fn placed(read: Integer, place: usize) -> IntegerAnswer
     requires { ⌜ Fitting place read ⌝ }
@@ -74,5 +93,5 @@ pub fn integer(text: &[u8], place: usize, width: Width) -> IntegerAnswer
     if !place_fits(text, place) {
         return IntegerAnswer::Refused(Refusal::unfit());
     }
-    placed(integer_at(&text[place..], width), place)
+    placed(number_at(&text[place..], width), place)
 }

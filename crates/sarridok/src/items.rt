@@ -73,7 +73,7 @@ fn integer_in(s: &[u8], width: u8, k: usize) -> Item
 {
     let short = short_integer(s, width);
     match short {
-        Short::Value(magnitude) => Item::Number(magnitude, width),
+        Short::Value(magnitude, _) => Item::Number(magnitude, width),
         Short::Other => coded(integer_at(s, width_at(width)), width, k),
     }
 }

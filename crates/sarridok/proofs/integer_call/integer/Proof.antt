@@ -33,24 +33,24 @@ returns-2 : tie.Need-returns-2
 unfolding integerOf
 returns-2 c = ap refused (c .unfit .ensures) ∙ sym (front-unfit _ _ _ (sym (c .before .before .before .before .before .judge .ensures) ∙ c .before .before .before .enum-told .given .1) (sym (c .before .before .place-fits .ensures) ∙ not-true _ (c .before .if1 .taken)))
 
-sub-integer-at : tie.Need-sub-integer-at
-sub-integer-at c = omega (arith, place-within (c .before .before .before .before .before .before .args .text .now) (c .before .before .before .before .before .before .args .place) (sym (c .before .place-fits .ensures) ∙ not-false _ (c .if1 .left)))
+sub-number-at : tie.Need-sub-number-at
+sub-number-at c = omega (arith, place-within (c .before .before .before .before .before .before .args .text .now) (c .before .before .before .before .before .before .args .place) (sym (c .before .place-fits .ensures) ∙ not-false _ (c .if1 .left)))
 
-part-integer-at-start : tie.Need-part-integer-at-start
-part-integer-at-start c = omega (arith, place-within (c .before .before .before .before .before .before .args .text .now) (c .before .before .before .before .before .before .args .place) (sym (c .before .place-fits .ensures) ∙ not-false _ (c .if1 .left)))
+part-number-at-start : tie.Need-part-number-at-start
+part-number-at-start c = omega (arith, place-within (c .before .before .before .before .before .before .args .text .now) (c .before .before .before .before .before .before .args .place) (sym (c .before .place-fits .ensures) ∙ not-false _ (c .if1 .left)))
 
-part-integer-at-end : tie.Need-part-integer-at-end
-part-integer-at-end c = search needs
+part-number-at-end : tie.Need-part-number-at-end
+part-number-at-end c = search needs
 
-integer-at-requires : tie.Need-integer-at-requires
-integer-at-requires c κs = search needs
+number-at-requires : tie.Need-number-at-requires
+number-at-requires c κs = search needs
 
 placed-requires : tie.Need-placed-requires
-placed-requires c κs = rw (c .integer-at .ensures ∙ ap (integerAt (c .before .before .before .before .before .before .before .before .args .width)) (tail-part (c .before .before .before .before .before .before .before .before .args .text .now) (c .before .before .before .before .before .before .before .before .args .place))) (at-fits (c .before .before .before .before .before .before .before .before .args .text .now) (c .before .before .before .before .before .before .before .before .args .place) (c .before .before .before .before .before .before .before .before .args .width) (place-within (c .before .before .before .before .before .before .before .before .args .text .now) (c .before .before .before .before .before .before .before .before .args .place) (sym (c .before .before .before .place-fits .ensures) ∙ not-false _ (c .before .before .if1 .left))) (omega arith))
+placed-requires c κs = rw (c .number-at .ensures ∙ ap (integerAt (c .before .before .before .before .before .before .before .before .args .width)) (tail-part (c .before .before .before .before .before .before .before .before .args .text .now) (c .before .before .before .before .before .before .before .before .args .place))) (at-fits (c .before .before .before .before .before .before .before .before .args .text .now) (c .before .before .before .before .before .before .before .before .args .place) (c .before .before .before .before .before .before .before .before .args .width) (place-within (c .before .before .before .before .before .before .before .before .args .text .now) (c .before .before .before .before .before .before .before .before .args .place) (sym (c .before .before .before .place-fits .ensures) ∙ not-false _ (c .before .before .if1 .left))) (omega arith))
 
 returns-3 : tie.Need-returns-3
 unfolding integerOf
-returns-3 c = ap toldInteger (c .placed .ensures ∙ ap (placedAt (c .before .before .before .before .before .before .before .before .before .args .place)) (c .before .integer-at .ensures ∙ ap (integerAt (c .before .before .before .before .before .before .before .before .before .args .width)) (tail-part (c .before .before .before .before .before .before .before .before .before .args .text .now) (c .before .before .before .before .before .before .before .before .before .args .place)))) ∙ sym (front-fit _ _ _ (sym (c .before .before .before .before .before .before .before .judge .ensures) ∙ c .before .before .before .before .before .enum-told .given .1) (sym (c .before .before .before .before .place-fits .ensures) ∙ not-false _ (c .before .before .before .if1 .left)))
+returns-3 c = ap toldInteger (c .placed .ensures ∙ ap (placedAt (c .before .before .before .before .before .before .before .before .before .args .place)) (c .before .number-at .ensures ∙ ap (integerAt (c .before .before .before .before .before .before .before .before .before .args .width)) (tail-part (c .before .before .before .before .before .before .before .before .before .args .text .now) (c .before .before .before .before .before .before .before .before .before .args .place)))) ∙ sym (front-fit _ _ _ (sym (c .before .before .before .before .before .before .before .judge .ensures) ∙ c .before .before .before .before .before .enum-told .given .1) (sym (c .before .before .before .before .place-fits .ensures) ∙ not-false _ (c .before .before .before .if1 .left)))
 
 pub integer-spec : {M : Type 1} → statement M
 integer-spec =
@@ -63,9 +63,9 @@ integer-spec =
     place-fits-requires
     unfit-requires
     returns-2
-    sub-integer-at
-    part-integer-at-start
-    part-integer-at-end
-    integer-at-requires
+    sub-number-at
+    part-number-at-start
+    part-number-at-end
+    number-at-requires
     placed-requires
     returns-3)

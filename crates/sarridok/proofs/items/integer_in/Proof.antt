@@ -27,7 +27,7 @@ coded-requires : tie.Need-coded-requires
 coded-requires c κs = search needs
 
 returns : tie.Need-returns
-returns c = short-item _ _ _ (c .before .before .before .before .before .args .s .now) (sym (c .before .before .before .short-integer .ensures) ∙ c .before .short .given .1)
+returns c = short-item _ _ _ _ (c .before .before .before .before .before .args .s .now) (sym (c .before .before .before .short-integer .ensures) ∙ c .before .short .given .1)
 
 returns-2 : tie.Need-returns-2
 returns-2 c = c .coded .ensures ∙ ap (λ (r : Integer). atItem (c .before .before .before .before .before .before .before .args .k) (codedIn (c .before .before .before .before .before .before .before .args .width) r)) (c .before .integer-at .ensures ∙ ap (λ (w : Width). integerAt w (c .before .before .before .before .before .before .before .args .s .now)) (c .before .before .width-at .ensures))
