@@ -36,7 +36,7 @@ use Rattle.tokens.specs.Lexemes.{lexemeOf, numberLexeme}
 use Rattle.tokens.specs.Ron.{ronToken}
 use Rattle.tokens.specs.Token.{tokenOf}
 use Rattle.plain_numbers.proofs.Begins.{Begins, begins-clear, begins-shape, digit-begins}
-use Rattle.plain_numbers.proofs.Integers.{float-run, int-run}
+use Rattle.plain_numbers.proofs.Integers.{float-run, int-run, quiet-ends}
 use Rattle.plain_numbers.proofs.Runs.{digit-in, quiet-not}
 use Rattle.plain_numbers.proofs.Values.{OnlyDigits, digit-value}
 use Rattle.spelt.specs.Spelt.{Decimal}
@@ -98,7 +98,7 @@ module _ (t : List ℕ) (some : 0 < run digit t) (quiet : quietByte (getD t (run
 
   not-ahead : floatAhead t ≡ false
   unfolding floatAhead
-  not-ahead = rw (no-sign, int-run t some quiet, float-run t some quiet) (le-ltb (run digit t) (run digit t) (omega arith))
+  not-ahead = rw (no-sign, int-run t some (quiet-ends (getD t (run digit t) 0) quiet), float-run t quiet) (le-ltb (run digit t) (run digit t) (omega arith))
 
 -- ---- the digits' value
 
@@ -136,7 +136,7 @@ module _ (ds : List ℕ) (x : Decimal ds) (small : valueOf 10 ds < 1844674407370
 
     numeral-is : numeralOf 8 false 10 t ≡ numeral.Read (valueOf 10 ds) 0 (length ds)
     unfolding numeralOf
-    numeral-is = rw (int-run t some quiet, no-letters t some quiet, part, value-is, add-zero (length ds))
+    numeral-is = rw (int-run t some (quiet-ends (getD t (run digit t) 0) quiet), no-letters t some quiet, part, value-is, add-zero (length ds))
 
     number-is : numberOf t ≡ Int (firstFit false (valueOf 10 ds)) (length ds)
     unfolding numberOf anyOf
