@@ -22,6 +22,7 @@ pub fn tables() {
     calls();
     records();
     lists();
+    long_lists();
     println!("\n## Worst cases of reading: nanoseconds a byte\n");
     println!("| text | 1 KiB | 4 KiB | 16 KiB | 64 KiB | crate, 64 KiB | ratio |\n|---|--:|--:|--:|--:|--:|--:|");
     WORST.iter().for_each(worst);
@@ -104,6 +105,17 @@ fn lists() {
         let [listed, none] = [count, 0].map(Listed::nodes);
         let [time, judging] = medians([listed.one_call(), none.one_call()]);
         println!("| {count} | {} | {} | {:.1} |", us(time), us(judging), (time - judging) / count as f64);
+    }
+}
+
+/// The dearest list names one long integer again and again: each item is read to its end, and that twice.
+fn long_lists() {
+    println!("\n## Lists that name one integer of 65,536 digits again and again\n");
+    println!("| items | call us | us an item |\n|--:|--:|--:|");
+    for count in [1, 10, 100] {
+        let listed = Listed::all([vec![b'0'; 65_535], vec![b'1']].concat()).only(|items| items.resize(count, 0));
+        let [time] = medians([listed.one_call()]);
+        println!("| {count} | {} | {:.1} |", us(time), time / 1000.0 / count as f64);
     }
 }
 
