@@ -3,8 +3,8 @@ use super::{utf8, Lines};
 use crate::limits::sized;
 use crate::line;
 
-/// Widths by their numbers, from 1, with the least and the largest value.
-const WIDTHS: &[(&str, i128, i128)] = &[
+/// Widths by their numbers, from 1: the name, the least and the largest value.
+pub(super) const WIDTHS: &[(&str, i128, i128)] = &[
     ("i8", i8::MIN as i128, i8::MAX as i128),
     ("i16", i16::MIN as i128, i16::MAX as i128),
     ("i32", i32::MIN as i128, i32::MAX as i128),

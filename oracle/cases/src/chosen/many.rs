@@ -1,5 +1,6 @@
 //! Many integers in one call (change request 7): each width at its limits, each refusal and reason at its item, what comes before what,
 //! lists, buffers and counts of every length, and tapes that no reader gives.
+use super::integers::WIDTHS;
 use super::Lines;
 use crate::limits::sized;
 use crate::line;
@@ -51,18 +52,6 @@ const WORKED: &[(&str, u32)] = &[
     ("-9223372036854775808", 4),
     ("1.5", 5),
     ("b'\\x4'", 5),
-];
-
-/// Names of the widths by their numbers, from 1, with the least and the largest value.
-const WIDTHS: &[(&str, i128, i128)] = &[
-    ("i8", i8::MIN as i128, i8::MAX as i128),
-    ("i16", i16::MIN as i128, i16::MAX as i128),
-    ("i32", i32::MIN as i128, i32::MAX as i128),
-    ("i64", i64::MIN as i128, i64::MAX as i128),
-    ("u8", 0, u8::MAX as i128),
-    ("u16", 0, u16::MAX as i128),
-    ("u32", 0, u32::MAX as i128),
-    ("u64", 0, u64::MAX as i128),
 ];
 
 /// Asked in each of the eight widths, and in two that are none.
