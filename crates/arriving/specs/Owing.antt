@@ -2,9 +2,10 @@
 -- behind that end, a quiet byte or a `/` ..; a comma, a colon, and an entry that ends in a quote or a bracket at once, with all entries before it."
 use Prim.Native.Nat.{ℕ, suc}
 use mathlib.Core.Path.{_≡_}
-use mathlib.Core.Bool.{Bool, true}
-use mathlib.Core.List.{List, _∷_, _++_}
+use mathlib.Core.Bool.{Bool, true, false}
+use mathlib.Core.List.{List, [], _∷_, _++_}
 use lib.ListN.{length}
+use Rattle.text.specs.Classes.{oneOf}
 use Rattle.text.specs.declared.refusal.Refusal.{Refusal}
 use Rattle.reading.specs.Tokens.{Answer, token, refuse, Token, reach}
 use Rattle.reading.specs.Owed.{Laws}
@@ -20,13 +21,17 @@ pub record Reader : Type 0 where
   pub once : List ℕ → Bool
   pub settles : List ℕ → Bool
 
+-- 4, 6 and 17 say that the text has ended: only the end gives them.
+unfoldable pub tellsEnd : Refusal → Bool
+tellsEnd r = oneOf (4 ∷ 6 ∷ 17 ∷ []) (r .number)
+
 -- Behind a byte that stops nothing changes a token that ended before it (`Laws`); a token whose last byte closes it is decided by its own bytes; a settled refusal
--- stays, is none for a missing end (17), and one that is given at once is settled.
+-- stays and does not say that the text has ended; and one that is given at once is settled.
 pub record Owes (R : Reader) : Type 0 where
   pub laws : Laws (R .tok) (R .stops)
   pub deciders : (c : ℕ) → R .decides c ≡ true → R .stops c ≡ true
   pub closers : (c : ℕ) → R .closes c ≡ true → R .stops c ≡ true
   pub closed : (u v v′ : List ℕ) (c : ℕ) (t : Token) → R .closes c ≡ true → R .tok (u ++ c ∷ v) ≡ token t → reach t ≡ suc (length u) → R .tok (u ++ c ∷ v′) ≡ token t
   pub settled : (s v : List ℕ) (d : Refusal) → R .settles s ≡ true → R .tok s ≡ refuse d → R .tok (s ++ v) ≡ refuse d
-  pub open-end : (s : List ℕ) (d : Refusal) → R .settles s ≡ true → R .tok s ≡ refuse d → d .number ≡ 17 → ⊥
+  pub open-end : (s : List ℕ) (d : Refusal) → R .settles s ≡ true → R .tok s ≡ refuse d → tellsEnd d ≡ false
   pub at-once : (s : List ℕ) → R .once s ≡ true → R .settles s ≡ true
