@@ -91,7 +91,7 @@ fn by_named(t: &[u8], n: usize, named: Named) -> Item
 }
 
 // The item that the part begins with.
-fn next_item(t: &[u8]) -> Item
+pub fn next_item(t: &[u8]) -> Item
     ensures { λ r. ⌜ r ≡ itemOf (now (t .entry)) ⌝ }
 {
     let name = identifier(t);

@@ -48,7 +48,7 @@ fn put(tape: &mut [u32], i: usize, e: Entry, on: bool)
 }
 
 // Where the loop goes on: behind the blanks at a place, of which there are often none.
-fn behind_blanks(text: &[u8], at: usize) -> usize
+pub fn behind_blanks(text: &[u8], at: usize) -> usize
     requires { ⌜ at ≤ length (now text) ⌝ }
     ensures { λ r. ⌜ r ≡ at + run blank1 (drop at (now (text .entry))) ⌝ }
 {

@@ -52,7 +52,7 @@ same-at : (u v v′ : List ℕ) (i : ℕ) → i < length u → getD (u ++ v′) 
 same-at u v v′ i h = List·getD-append u v′ 0 i h ∙ sym (List·getD-append u v 0 i h)
 
 -- a run that stops within the front
-run-same : (p : ℕ → Bool) (u v v′ : List ℕ) → run p (u ++ v) < length u → run p (u ++ v′) ≡ run p (u ++ v)
+pub run-same : (p : ℕ → Bool) (u v v′ : List ℕ) → run p (u ++ v) < length u → run p (u ++ v′) ≡ run p (u ++ v)
 unfolding run
 run-same p [] v v′ h = absurd (omega arith)
 run-same p (b ∷ u) v v′ h =
@@ -80,7 +80,7 @@ run-has p n u v v′ h =
 -- ---- pieces
 
 -- the piece is not the last thing in k bytes
-abbrev Less : ℕ → Piece → Type 0
+abbrev pub Less : ℕ → Piece → Type 0
 Less k Quote = Unit
 Less k (Plain n) = n < k
 Less k (Backslash n d) = n < k
@@ -154,7 +154,7 @@ behind-closed m (a ∷ []) v v′ h =
     (λ e. behind-by m (a ∷ []) v v′ (no-cr a v′ e ∙ sym (no-cr a v e)) h)
 behind-closed m (a ∷ b ∷ u) v v′ h = behind-by m (a ∷ b ∷ u) v v′ (two-bytes a b (u ++ v) (u ++ v′)) h
 
-piece-closed : (m : Mode) (b : ℕ) (u v v′ : List ℕ) → Less (suc (length u)) (pieceOf m (b ∷ u ++ v)) → pieceOf m (b ∷ u ++ v′) ≡ pieceOf m (b ∷ u ++ v)
+pub piece-closed : (m : Mode) (b : ℕ) (u v v′ : List ℕ) → Less (suc (length u)) (pieceOf m (b ∷ u ++ v)) → pieceOf m (b ∷ u ++ v′) ≡ pieceOf m (b ∷ u ++ v)
 unfolding pieceOf
 piece-closed m b u v v′ h =
     by-piece (suc (length u)) (eqb b 0x22) _ _ _ _ (λ l. refl)

@@ -148,6 +148,10 @@ unfit = refusal 28 0
 abbrev pub holdsEscape : Refusal
 holdsEscape = refusal 29 0
 
+-- 30: an entry undecided for too long, in a text that arrives (document 02, CR 3); its start.
+abbrev pub entryTooLong : ℕ → Refusal
+entryTooLong p = refusal 30 p
+
 -- 31: repeated field; entry number.
 abbrev pub repeatedField : ℕ → Refusal
 repeatedField j = refusal 31 j

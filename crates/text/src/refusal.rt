@@ -6,7 +6,7 @@ ghost use Rattle.text.specs.Refusals.{refusal, placedBehind, tooLong, no
 ghost use Rattle.text.specs.Refusals.{underscoreAtBeginning, invalidIntegerDigit, integerOutOfBounds, expectedFloat, floatUnderscore};
 ghost use Rattle.text.specs.Refusals.{invalidEscape, expectedChar, expectedByteLiteral, expectedString, expectedStringEnd, expectedByteString};
 ghost use Rattle.text.specs.Refusals.{expectedAttribute, expectedAttributeEnd, noSuchExtension, noRoom, notInOrder, depthLimitPassed};
-ghost use Rattle.text.specs.Refusals.{notAllowedHere, tapeEndsEarly, otherKind, unfit, holdsEscape, repeatedField};
+ghost use Rattle.text.specs.Refusals.{notAllowedHere, tapeEndsEarly, otherKind, unfit, holdsEscape, entryTooLong, repeatedField};
 
 // A refused call's number, reason and place; inside a part of the text the place is counted from the part's front. The reason is that of an escape, else 0.
 pub struct Refusal {
@@ -93,6 +93,8 @@ impl Refusal {
     pub const UNFIT: u8 = 28;
 
     pub const HOLDS_ESCAPE: u8 = 29;
+
+    pub const ENTRY_TOO_LONG: u8 = 30;
 
     pub const REPEATED_FIELD: u8 = 31;
 
@@ -294,6 +296,13 @@ impl Refusal {
         ensures { λ r. ⌜ r ≡ holdsEscape ⌝ }
     {
         at(Self::HOLDS_ESCAPE, 0)
+    }
+
+    // 30: an entry undecided for too long, in a text that arrives; its start.
+    pub fn entry_too_long(place: usize) -> Refusal
+        ensures { λ r. ⌜ r ≡ entryTooLong place ⌝ }
+    {
+        at(Self::ENTRY_TOO_LONG, place)
     }
 
     // 31: repeated field; entry number.

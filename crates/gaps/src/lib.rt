@@ -1,0 +1,5 @@
+mod pass;
+mod state;
+
+pub use pass::Passed;
+pub use state::Open;

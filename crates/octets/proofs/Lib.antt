@@ -1,0 +1,4 @@
+pub mod BegunLaws
+pub mod Exactly
+pub mod Cutting
+pub mod Examples

@@ -1,0 +1,16 @@
+pub mod WordEnds
+pub mod NumberEnds
+pub mod TokenEnds
+pub mod RonArrives
+pub mod EscapeEnds
+pub mod StringEnds
+pub mod QuoteEnds
+pub mod GapStays
+pub mod StepEnds
+pub mod ListEnds
+pub mod AttributeEnds
+pub mod CharEnds
+pub mod GapEnds
+pub mod NothingEnds
+pub mod Owed
+pub mod CodeLaws

@@ -1,0 +1,5 @@
+// Which refusals stay however the text goes on, and the laws of RON's token reader that reading while a text arrives stands on (document 02, change request 3).
+//
+// Read specs/Settled first. `ron` in proofs/Owed says that RON's token reader owes what crate arriving asks of one; a file of proofs/ for each leaf says why.
+pub mod bytes;
+pub mod nothing;
