@@ -35,14 +35,14 @@ module _ (R : Reader) (bar : ℕ → List ℕ → ℕ → Passing) where
   abbrev pub Free : ℕ → List ℕ → List ℕ → Type 0
   Free at x w = (u : List ℕ) (b : ℕ) (z : List ℕ) → w ≡ u ++ b ∷ z → bar at (x ++ u) b ≡ pass
 
-  free-first : (at : ℕ) (x w : List ℕ) (b : ℕ) → Free at x (b ∷ w) → bar at x b ≡ pass
+  pub free-first : (at : ℕ) (x w : List ℕ) (b : ℕ) → Free at x (b ∷ w) → bar at x b ≡ pass
   free-first at x w b f = ap (λ (s : List ℕ). bar at s b) (sym (append-nil x)) ∙ f [] b w refl
 
-  free-rest : (at : ℕ) (x w : List ℕ) (b : ℕ) → Free at x (b ∷ w) → Free at (x ++ b ∷ []) w
+  pub free-rest : (at : ℕ) (x w : List ℕ) (b : ℕ) → Free at x (b ∷ w) → Free at (x ++ b ∷ []) w
   free-rest at x w b f u c z h = ap (λ (s : List ℕ). bar at s c) (append-assoc x (b ∷ []) u) ∙ f (b ∷ u) c z (ap {B = List ℕ} (λ (s : List ℕ). b ∷ s) h)
 
   -- a byte that is kept, and then others
-  step-kept : (at : ℕ) (x w : List ℕ) (b : ℕ) → bar at x b ≡ pass → taken R at (x ++ b ∷ []) b ≡ keeping at (x ++ b ∷ []) 1
+  pub step-kept : (at : ℕ) (x w : List ℕ) (b : ℕ) → bar at x b ≡ pass → taken R at (x ++ b ∷ []) b ≡ keeping at (x ++ b ∷ []) 1
       → piece R bar (going at (x ++ b ∷ [])) w ≡ keeping at ((x ++ b ∷ []) ++ w) (length w) → piece R bar (going at x) (b ∷ w) ≡ keeping at (x ++ b ∷ w) (length (b ∷ w))
   unfolding piece
   step-kept at x w b p t h =
@@ -51,7 +51,7 @@ module _ (R : Reader) (bar : ℕ → List ℕ → ℕ → Passing) where
       ∙ ap (λ (k : Given). record { entries = k .entries; next = k .next; bytes = 1 + k .bytes }) h
       ∙ ap₂ (keeping at) (append-assoc x (b ∷ []) w) (omega arith)
 
-  none-kept : (at : ℕ) (x : List ℕ) → piece R bar (going at x) [] ≡ keeping at (x ++ []) 0
+  pub none-kept : (at : ℕ) (x : List ℕ) → piece R bar (going at x) [] ≡ keeping at (x ++ []) 0
   unfolding piece
   none-kept at x = ap (λ (s : List ℕ). keeping at s 0) (sym (append-nil x))
 
@@ -115,7 +115,7 @@ module _ (R : Reader) (bar : ℕ → List ℕ → ℕ → Passing) where
         go stop q t = refl
         go (refuse d) q t = absurd (clash d t q w refl)
 
-    kept-byte : (at n : ℕ) (x v : List ℕ) (b : ℕ) → length x < n → Waits n (R .tok (x ++ b ∷ v)) → taken R at (x ++ b ∷ []) b ≡ keeping at (x ++ b ∷ []) 1
+    pub kept-byte : (at n : ℕ) (x v : List ℕ) (b : ℕ) → length x < n → Waits n (R .tok (x ++ b ∷ v)) → taken R at (x ++ b ∷ []) b ≡ keeping at (x ++ b ∷ []) 1
     unfolding endOf
     kept-byte at n x v b l w =
         let no : decided R at (x ++ b ∷ []) b ≡ [] = none-yet at n x v b l w in

@@ -4,9 +4,9 @@ use Prim.Native.Nat.{_*_, _+_, _-_, _≤_, pred, suc, zero, ℕ}
 use native.Mathlib.Nat.{add-zero}
 use native.Mathlib.Numerals.{add-one}
 use native.Mathlib.Omega.{arith}
-use mathlib.Core.Bool.{Bool, cond, false, true}
+use mathlib.Core.Bool.{Bool, false, true}
 use mathlib.Core.List.{List, [], _++_, _∷_}
-use mathlib.Core.Path.{_∙_, _≡_, ap, refl, subst, sym}
+use mathlib.Core.Path.{_∙_, _≡_, ap, refl, sym}
 use lib.Dec.{eqb}
 use lib.ListN.{length}
 use borrow.Author.Tests.{eqb-false, eqb-true, ne-eqb}
@@ -19,7 +19,7 @@ use Rattle.comments.specs.declared.block.Decision.{Decision}
 use Rattle.comments.specs.declared.block.Decision.the-variants as decision
 use Rattle.gaps.specs.Opens.{blockOpen, lastByte, marks, unpaired}
 use Rattle.gaps.specs.declared.state.Open.{Open}
-use Rattle.gaps.specs.declared.state.Open.the-variants.{Clear, Slash, Line, Block}
+use Rattle.gaps.specs.declared.state.Open.the-variants.{Clear, Block}
 
 -- ---- ends
 

@@ -5,7 +5,7 @@
 --     open-on       and the same is open
 --     canon-on      so `canon` of two pieces is `canon` of the first's and the second, unless the text is refused with 5
 -- Assumes nothing.
-use Prim.Native.Nat.{_*_, _+_, _-_, _≤_, pred, suc, zero, ℕ}
+use Prim.Native.Nat.{_*_, _+_, _-_, _≤_, pred, suc, ℕ}
 use native.Mathlib.Nat.{le-refl}
 use native.Mathlib.Omega.{arith}
 use mathlib.Core.Bool.{Bool, cond, false, true}
@@ -26,7 +26,7 @@ use Rattle.comments.specs.declared.gap.Item.the-variants.{Blank, BlockOpen, End
 use Rattle.text.specs.Refusals.{eof, unclosedBlockComment, unexpectedChar}
 use Rattle.gaps.proofs.BlockOpens.{From, Still, block-from, block-moved, from-less, laterEnd, marks-length, marks-open, marks-pass, still}
 use Rattle.gaps.proofs.Items.{Front, fronts, item-block, item-last, item-line, item-odd, item-space, line-moved, line-still}
-use Rattle.gaps.proofs.Standing.{Comment, Halts, Passing, Replaced, Stands, behind-passing, both, closedItem, itself, none-other, open-gap, passing, replaced}
+use Rattle.gaps.proofs.Standing.{Comment, Halts, Passing, Stands, behind-passing, both, closedItem, itself, none-other, open-gap, passing, replaced}
 use Rattle.gaps.specs.Opens.{blockOpen, byOpen, canon, front, keptBy, keptOf, lastByte, laterBy, marks, openFrom, openOf, unpaired}
 use Rattle.gaps.specs.declared.state.Open.{Open}
 use Rattle.gaps.specs.declared.state.Open.the-variants.{Clear, Slash, Line, Block}
@@ -169,6 +169,13 @@ rest-open level last v =
     ∙ marks-open level (lastByte last ++ v) 0
     ∙ ap (blockOpen (lastByte last ++ v)) j
 
+-- what closes the comment stands behind them
+pub block-far : (level last : ℕ) (v : List ℕ) → From (length (rest level last)) (blockEnd (rest level last ++ v))
+unfolding blockEnd
+block-far level last v =
+    from-less (length (rest level last)) (2 * level + 2) (blockEnd (rest level last ++ v)) (omega (arith, rest-length level last, last-length last))
+    (subst (From (2 * level + 2)) (sym (rest-pass level last v)) (block-from (lastByte last ++ v) (suc level) (2 * level)))
+
 block-stands : (l : List ℕ) (r : Still l 0) → Stands (0x2f ∷ 0x2a ∷ l) (0x2f ∷ 0x2a ∷ rest (r .level) (r .last))
 unfolding blockEnd
 block-stands l r =
@@ -182,8 +189,7 @@ block-stands l r =
       long = item-block (l ++ v) ∙ block-closed (blockEnd (l ++ v))
           ∙ ap (closedItem BlockOpen) (r .goes v 0 ∙ ap (blockFrom u (suc (r .level))) j ∙ block-moved u (suc (r .level)) d (2 * r .level) ∙ ap (laterEnd d) (sym (rest-pass (r .level) (r .last) v)));
       short = item-block (f ++ v) ∙ block-closed (blockEnd (f ++ v));
-      far = from-less (length f) (2 * r .level + 2) (blockEnd (f ++ v)) (omega (arith, rest-length (r .level) (r .last), last-length (r .last)))
-          (subst (From (2 * r .level + 2)) (sym (rest-pass (r .level) (r .last) v)) (block-from u (suc (r .level)) (2 * r .level)));
+      far = block-far (r .level) (r .last) v;
       still = r .opens v ∙ sym (rest-open (r .level) (r .last) v);
     }))
     (omega (arith, r .whole, r .deep, rest-length (r .level) (r .last)))

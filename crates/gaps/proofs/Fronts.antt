@@ -4,24 +4,24 @@
 --     front-short   is no longer than any text that leaves it open; `level-on` bounds the level that a piece comes to
 -- Assumes nothing.
 use Prim.Native.Nat.{_*_, _+_, _-_, _≤_, pred, suc, ℕ}
-use native.Mathlib.Nat.{le-refl}
 use native.Mathlib.Omega.{arith}
 use mathlib.Core.Bool.{Bool, cond, false, true}
 use mathlib.Core.List.{List, [], _++_, _∷_, append-nil}
+use mathlib.Core.Logic.{_⊎_, inl, inr}
 use mathlib.Core.Path.{_∙_, _≡_, ap, refl, subst, sym}
 use lib.Dec.{eqb}
-use lib.ListN.{drop, length, length-append}
+use lib.ListN.{length, length-append}
 use borrow.Author.Tests.{eqb-true}
 use Rattle.comments.specs.Blocks.{blockEnd, blockFrom}
-use Rattle.comments.specs.Gaps.{blockItem, gapFrom, gapOf, itemOf, lineItem}
+use Rattle.comments.specs.Gaps.{blockItem, gapFrom, gapOf}
 use Rattle.comments.specs.Lines.{lineEnd, lineFrom}
-use Rattle.comments.specs.declared.block.CommentEnd.the-variants.{Closed, Unclosed}
+use Rattle.comments.specs.declared.block.CommentEnd.the-variants.{Unclosed}
 use Rattle.comments.specs.declared.gap.Gap.{Gap}
 use Rattle.comments.specs.declared.gap.Gap.the-variants as gap
 use Rattle.comments.specs.declared.gap.Item.{Item}
 use Rattle.text.specs.Refusals.{atPlace}
 use Rattle.gaps.proofs.BlockOpens.{marks-length}
-use Rattle.gaps.proofs.Canon.{Ways, canon-is, canon-short, kept-is, last-length, rest, rest-open, rest-pass, ways}
+use Rattle.gaps.proofs.Canon.{Ways, canon-is, canon-short, last-length, rest, rest-open, rest-pass, ways}
 use Rattle.gaps.proofs.Items.{item-block, item-last, item-line}
 use Rattle.gaps.proofs.Standing.{open-gap}
 use Rattle.gaps.specs.Opens.{Fits, blockOpen, byOpen, canon, earlierBy, front, keptOf, lastByte, laterBy, levelOf, marks, openFrom, openOf, unpaired}
@@ -72,6 +72,22 @@ open-front Clear h = refl
 open-front Slash h = slash-left
 open-front Line h = line-left
 open-front (Block level last) h = block-left level last ∙ ap (Block level) h
+
+-- the three last bytes
+pub last-fits : (last : ℕ) → (last ≡ 0) ⊎ ((last ≡ 0x2a) ⊎ (last ≡ 0x2f)) → unpaired last ≡ last
+unfolding unpaired
+last-fits last (inl e) = rw e
+last-fits last (inr (inl e)) = rw e
+last-fits last (inr (inr e)) = rw e
+
+pub fits-last : (last : ℕ) → unpaired last ≡ last → (last ≡ 0) ⊎ ((last ≡ 0x2a) ⊎ (last ≡ 0x2f))
+unfolding unpaired
+fits-last last = go (eqb last 0x2a) (eqb last 0x2f) refl refl
+  where
+    go : (t u : Bool) → eqb last 0x2a ≡ t → eqb last 0x2f ≡ u → cond t last (cond u last 0) ≡ last → (last ≡ 0) ⊎ ((last ≡ 0x2a) ⊎ (last ≡ 0x2f))
+    go true u e f h = inr (inl (eqb-true last 0x2a e))
+    go false true e f h = inr (inr (eqb-true last 0x2f f))
+    go false false e f h = inl (sym h)
 
 -- ---- nothing else
 

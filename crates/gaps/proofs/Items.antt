@@ -1,24 +1,22 @@
 -- What a part begins with, by its bytes, and what of it has come for good: a blank or a closed comment stays, whatever follows. Assumes nothing.
-use Prim.Native.Nat.{_+_, _<_, _≤_, suc, zero, ℕ}
+use Prim.Native.Nat.{_+_, _≤_, suc, zero, ℕ}
 use native.Mathlib.Nat.{add-zero}
 use native.Mathlib.Omega.{arith}
 use mathlib.Core.Bool.{Bool, cond, false, true}
 use mathlib.Core.List.{List, [], _++_, _∷_, append-nil}
 use mathlib.Core.Path.{_∙_, _≡_, ap, refl, subst, sym}
-use lib.Dec.{eqb, ltb}
-use lib.ListN.{getD, length}
+use lib.Dec.{eqb}
+use lib.ListN.{length}
 use borrow.Author.Tests.{eqb-false, eqb-true, ne-eqb}
 use Rattle.comments.proofs.GapLaws.{item-blank, item-comment}
 use Rattle.comments.proofs.GapWindow.{blank-window}
-use Rattle.comments.specs.Blocks.{blockEnd, blockFrom}
+use Rattle.comments.specs.Blocks.{blockEnd}
 use Rattle.comments.specs.Gaps.{behindSlash, blockItem, commentOf, itemOf, lineItem}
 use Rattle.comments.specs.Lines.{lineEnd, lineFrom}
 use Rattle.comments.specs.declared.block.CommentEnd.{CommentEnd}
 use Rattle.comments.specs.declared.block.CommentEnd.the-variants.{Closed, Unclosed}
-use Rattle.comments.specs.declared.gap.Item.{Item}
-use Rattle.comments.specs.declared.gap.Item.the-variants.{Blank, BlockOpen, Ended, LineOpen, Other, Unexpected}
+use Rattle.comments.specs.declared.gap.Item.the-variants.{Blank, Ended, Other, Unexpected}
 use Rattle.text.proofs.BlankLaws.{widthAt}
-use Rattle.text.proofs.Choices.{cond-cases}
 use Rattle.text.proofs.ClassLaws.{blank-le}
 use Rattle.text.specs.Classes.{blank1, blank2, blank3, blankWidth, within}
 use Rattle.text.specs.Utf8.{charLen}

@@ -4,3 +4,7 @@ pub mod Items
 pub mod Standing
 pub mod Canon
 pub mod Fronts
+pub mod RestLaws
+pub mod StepLaws
+pub mod PassLaws
+pub mod Cuts

@@ -10,7 +10,7 @@ use mathlib.Core.List.{List, [], _++_, _∷_}
 use mathlib.Core.Path.{_∙_, _≡_, ap, refl, subst, sym}
 use lib.ListN.{drop, length, length-append, length-drop}
 use lib.Seq.{drop-append-add, drop-append-le, drop-drop}
-use Rattle.comments.proofs.GapLaws.{Sized, gapBehind, gap-moved, gap-step, item-sized, on-blank, passed}
+use Rattle.comments.proofs.GapLaws.{Sized, gapBehind, gap-moved, gap-step, item-sized, on-blank}
 use Rattle.comments.specs.Gaps.{byItem, commentOf, gapFrom, gapOf, itemOf}
 use Rattle.comments.specs.declared.block.CommentEnd.{CommentEnd}
 use Rattle.comments.specs.declared.block.CommentEnd.the-variants.{Closed, Unclosed}
@@ -23,8 +23,7 @@ use Rattle.text.specs.Refusals.{atPlace, unclosedBlockComment}
 use Rattle.gaps.proofs.BlockOpens.{From, laterEnd}
 use Rattle.gaps.proofs.Items.{item-more}
 use Rattle.gaps.specs.Opens.{byOpen, laterBy, openFrom, openOf}
-use Rattle.gaps.specs.declared.state.Open.{Open}
-use Rattle.gaps.specs.declared.state.Open.the-variants.{Clear, Slash, Line, Block}
+use Rattle.gaps.specs.declared.state.Open.the-variants.{Clear}
 
 -- ---- gaps at another place
 

@@ -15,7 +15,6 @@ use Rattle.comments.specs.declared.gap.Gap.the-variants as gap
 use Rattle.comments.specs.declared.gap.Item.{Item}
 use Rattle.comments.specs.declared.gap.Item.the-variants.{Blank, LineOpen, BlockOpen, Unexpected, Ended, Other}
 use Rattle.text.specs.Refusals.{atPlace}
-use Rattle.text.specs.declared.refusal.Refusal.{Refusal}
 use Rattle.gaps.specs.declared.state.Open.{Open}
 use Rattle.gaps.specs.declared.state.Open.the-variants.{Clear, Slash, Line, Block}
 

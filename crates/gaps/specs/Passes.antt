@@ -1,5 +1,5 @@
 -- Where the whitespace and comments end that a piece goes on with (document 02, change request 3; document 01, module 2).
-use Prim.Native.Nat.{ℕ, _-_}
+use Prim.Native.Nat.{ℕ, _+_, _-_}
 use mathlib.Core.List.{List, _++_}
 use mathlib.Core.Bool.{cond}
 use lib.ListN.{length}
@@ -22,3 +22,9 @@ passedBy (gap.Refused r) left before end = cond (eqb (r .number) 5) (Unexpected 
 -- Where the whitespace and comments end that s goes on with, where this was open.
 unfoldable pub passedOf : Open → List ℕ → Passed
 passedOf o s = passedBy (gapOf (front o ++ s)) (openOf (front o ++ s)) (length (front o)) (length (front o ++ s))
+
+-- The same answer, told of a piece with so many bytes more in front.
+abbrev pub passedBehind : ℕ → Passed → Passed
+passedBehind k (Begins n) = Begins (k + n)
+passedBehind k (Within o) = Within o
+passedBehind k (Unexpected p) = Unexpected (k + p)

@@ -1,0 +1,15 @@
+pub mod GapCuts
+pub mod RonAlike
+pub mod Reaching
+pub mod GapKeeps
+pub mod ScanLaws
+pub mod JudgeLaws
+pub mod FrontLaws
+pub mod StopLaws
+pub mod WaitLaws
+pub mod WaitedRuns
+pub mod TurnLaws
+pub mod OrderLaws
+pub mod LimitLaws
+pub mod LayLaws
+pub mod LastLaws

@@ -6,7 +6,7 @@ use crate::run::run;
 use crate::turn::Stands;
 use gaps::Open;
 use gaps::Passed;
-use crate::stubs::pass_gap;
+use gaps::pass_gap;
 use text::Refusal;
 ghost use mathlib.Core.Path.{_≡_};
 ghost use mathlib.Core.Bool.{true};

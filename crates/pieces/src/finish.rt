@@ -6,9 +6,9 @@ use crate::scan::Scanned;
 use crate::scan::scan;
 use crate::state::Arrival;
 use crate::state::Ended;
+use gaps::pass_gap;
 use gaps::Open;
 use gaps::Passed;
-use crate::stubs::pass_gap;
 use rows::row;
 use text::Refusal;
 use text::refusal::placed_behind;
@@ -18,7 +18,7 @@ ghost use Prim.Native.Nat.{_+_, _≤_, _<_};
 ghost use lib.ListN.{length, take};
 ghost use Rattle.rows.specs.Rows.{roomOf};
 ghost use Rattle.pieces.specs.Ends.{endedOf, finishOf, fitting, restLaid};
-ghost use Rattle.pieces.specs.inner.Lasts.{Fits, endsWith, lastFrom, restIn};
+ghost use Rattle.pieces.specs.inner.Lasts.{Fits, endedBy, endsWith, lastFrom, restIn};
 
 // How a text ends inside a gap, at a place.
 fn ends_in(left: Open, end: usize) -> Ended
@@ -30,6 +30,16 @@ fn ends_in(left: Open, end: usize) -> Ended
         Open::Line => Ended::Given(0),
         Open::Block(_, _) => Ended::Stopped(0, Refusal::unclosed_block_comment(end)),
     }
+}
+
+// So many entries, and a refusal behind them. That a reader's refusal has a number is not known here, and the answer is told by it.
+fn ended_with(count: usize, refusal: Refusal) -> Ended
+    ensures { λ r. ⌜ r ≡ endedBy count refusal ⌝ }
+{
+    if refusal.number == 0 {
+        return Ended::Given(count);
+    }
+    Ended::Stopped(count, refusal)
 }
 
 // The entries of what is kept, from where a token begins.
@@ -47,7 +57,7 @@ fn last_entries(state: Arrival, s: &[u8], from: usize, tape: &mut [u32]) -> Ende
     let ending = all.ending;
     match ending {
         Ending::Complete => Ended::Given(all.count),
-        Ending::Broken(refusal) => Ended::Stopped(all.count, placed_behind(refusal, base + from)),
+        Ending::Broken(refusal) => ended_with(all.count, placed_behind(refusal, base + from)),
     }
 }
 
@@ -65,7 +75,10 @@ fn rest(state: Arrival, s: &[u8], tape: &mut [u32]) -> Ended
     match passed {
         Passed::Begins(k) => last_entries(state, s, k, tape),
         Passed::Within(o) => ends_in(o, state.taken),
-        Passed::Unexpected(p) => Ended::Stopped(0, Refusal::unexpected_char(state.taken - state.kept + p)),
+        Passed::Unexpected(p) => Ended::Stopped(
+            0,
+            Refusal::unexpected_char(state.taken - state.kept + p),
+        ),
     }
 }
 

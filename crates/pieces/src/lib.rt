@@ -14,7 +14,6 @@ pub mod places;
 pub mod run;
 pub mod scan;
 pub mod state;
-pub mod stubs;
 pub mod turn;
 pub mod verdict;
 pub mod waiting;

@@ -71,8 +71,16 @@ pub fn limit(s: &[u8], taken: usize, kept: usize, part: usize) -> Most
     let cut = cut_off(allowed(&s[begun..end]));
     let whole = end - cut;
     if left <= bad {
-        return Most { end, whole, why: Refusal::too_long() };
+        return Most {
+            end,
+            whole,
+            why: Refusal::too_long(),
+        };
     }
     let from = taken - part + bad_from(all);
-    Most { end, whole, why: Refusal::not_utf8(from) }
+    Most {
+        end,
+        whole,
+        why: Refusal::not_utf8(from),
+    }
 }

@@ -26,6 +26,18 @@ pub struct Scanned {
     pub ending: Ending,
 }
 
+// So many entries, where the last two end, and how the reading does.
+fn told(count: usize, end: usize, before: usize, ending: Ending) -> Scanned
+    ensures { λ r. ⌜ r ≡ record { count = count; end = end; before = before; ending = ending } ⌝ }
+{
+    Scanned {
+        count,
+        end,
+        before,
+        ending,
+    }
+}
+
 // The entries of a part, and how its reading ends.
 pub fn scan(part: &[u8]) -> Scanned
     requires { ⌜ length (now part) ≤ 65536 ⌝ }
@@ -37,8 +49,7 @@ pub fn scan(part: &[u8]) -> Scanned
     loop {
         let front = behind_blanks(part, at);
         if part.len() <= front {
-            let ending = Ending::Complete;
-            return Scanned { count, end: at, before, ending };
+            return told(count, at, before, Ending::Complete);
         }
         let p = plain(&part[front..]);
         if 0 < p.len {
@@ -54,13 +65,10 @@ pub fn scan(part: &[u8]) -> Scanned
                 at = front + g + l.len;
                 count += 1;
             }
-            Following::End => {
-                let ending = Ending::Complete;
-                return Scanned { count, end: at, before, ending };
-            }
+            Following::End => return told(count, at, before, Ending::Complete),
             Following::Refused(refusal) => {
                 let ending = Ending::Broken(placed_behind(refusal, front));
-                return Scanned { count, end: at, before, ending };
+                return told(count, at, before, ending);
             }
         }
     }

@@ -5,7 +5,7 @@ use crate::verdict::Verdict;
 use crate::waiting::wait;
 use gaps::Open;
 use gaps::Passed;
-use crate::stubs::pass_gap;
+use gaps::pass_gap;
 use text::Refusal;
 use text::refusal::placed_behind;
 ghost use mathlib.Core.Path.{_≡_};

@@ -1,5 +1,5 @@
 -- A refused attribute, if a stop byte has come where its reading stood or behind it, stays refused so; 17 tells of the end. Assumes nothing.
-use Prim.Native.Nat.{_+_, _-_, _<_, _≤_, suc, zero, ℕ}
+use Prim.Native.Nat.{_+_, _-_, _≤_, ℕ}
 use native.Mathlib.Omega.{arith}
 use mathlib.Core.Bool.{Bool, cond, false, true}
 use mathlib.Core.List.{List, [], _++_, _∷_, append-assoc}
@@ -10,10 +10,9 @@ use lib.Seq.{drop-append-le}
 use Rattle.attributes.specs.Attributes.{attributeOf, byKeyword, byListed, byOpened, enableFrom, keywordFrom, openedOf, stringValueFrom}
 use Rattle.attributes.specs.Close.{answerAt, byBracket, byString, closeList, listEnd, noEnd, stringEnd, stringFrom}
 use Rattle.attributes.specs.List.{listFrom, listOf}
-use Rattle.attributes.specs.Steps.{consumeFrom, consumeOf, signFrom, skipFrom}
+use Rattle.attributes.specs.Steps.{consumeFrom, signFrom, skipFrom}
 use Rattle.attributes.specs.Words.{byWord, keywordAt, keywordOf}
-use Rattle.attributes.specs.declared.AttributeAnswer.{AttributeAnswer}
-use Rattle.attributes.specs.declared.AttributeAnswer.the-variants.{Read, Refused}
+use Rattle.attributes.specs.declared.AttributeAnswer.the-variants.{Refused}
 use Rattle.attributes.specs.declared.list.Listed.{Listed}
 use Rattle.attributes.specs.declared.list.Listed.the-variants.{Ended, Refused as Unlisted}
 use Rattle.attributes.specs.declared.steps.All.{All}
@@ -29,14 +28,14 @@ use Rattle.strings.specs.Strings.{stringOf}
 use Rattle.strings.specs.declared.literal.LiteralAnswer.{LiteralAnswer}
 use Rattle.strings.specs.declared.literal.LiteralAnswer.the-variants.{Read as ReadString, Refused as NoString}
 use Rattle.escapes.specs.declared.answers.Mode.the-variants.{Str}
-use Rattle.text.proofs.Choices.{bool-cases, cond-cases, either, lt-or-le}
-use Rattle.text.specs.Refusals.{expectedAttribute, expectedAttributeEnd, expectedString, placedBehind}
+use Rattle.text.proofs.Choices.{cond-cases}
+use Rattle.text.specs.Refusals.{expectedAttributeEnd, expectedString, placedBehind}
 use Rattle.text.specs.Classes.{asciiNext, asciiRaw, digit, letter, within}
 use Rattle.text.specs.declared.refusal.Refusal.{Refusal}
 use Rattle.settled.proofs.EscapeEnds.{Plain}
 use Rattle.settled.proofs.ListEnds.{keyword-stopped, list-ended, list-keeps, list-least}
 use Rattle.settled.proofs.QuoteEnds.{string-stays}
-use Rattle.settled.proofs.StepEnds.{at-same, consume-keeps, from-least, opened-keeps, sign-found, sign-keeps, sign-least, skip-keeps, skip-least, tail, tail-on}
+use Rattle.settled.proofs.StepEnds.{at-same, consume-keeps, from-least, here-keeps, here-least, opened-keeps, sign-found, sign-keeps, sign-least, skip-keeps, skip-least, tail, tail-on}
 use Rattle.settled.proofs.StringEnds.{quoted-place}
 use Rattle.settled.proofs.WordEnds.{not-byte, stop-ascii}
 use Rattle.settled.specs.Bytes.{stopsByte}
@@ -46,9 +45,8 @@ use Rattle.settled.specs.Stood.{allEnd, attributeStood, behindStood, bra
 
 end-least : (s : List ℕ) (all : Bool) (p : ℕ) → p ≤ endStood s all p
 unfolding endStood
-end-least s all p =
-    cond-cases (λ (n : ℕ). p ≤ n) (eqb (getD s p 0) 0x5d) (cond all (p + 1) (stepEnd (skipFrom s (p + 1)))) p
-    (λ e. cond-cases (λ (n : ℕ). p ≤ n) all (p + 1) (stepEnd (skipFrom s (p + 1))) (λ f. omega arith) (λ f. omega (arith, skip-least s (p + 1)))) (λ e. omega arith)
+end-least s true p = cond-cases (λ (n : ℕ). p ≤ n) (eqb (getD s p 0) 0x5d) (p + 1) p (λ e. omega arith) (λ e. omega arith)
+end-least s false p = here-least 0x5d s p
 
 bracket-least : (s : List ℕ) (x : All) → allEnd x ≤ bracketStood s x
 bracket-least s (At all p) = end-least s all p
@@ -101,14 +99,9 @@ module _ (c : ℕ) (is : stopsByte c ≡ true) (plain : Plain c) (a w v : List �
   -- ---- the end
   end-keeps : (all : Bool) (p sum : ℕ) → p ≤ length a → endStood s all p ≤ length a → listEnd (s ++ v) all p sum ≡ listEnd s all p sum
   unfolding listEnd noEnd endStood
-  end-keeps all p sum l h = rw (at-same c (stop-ascii c is) a w v p l) (go (eqb (getD s p 0) 0x5d) all h)
-    where
-      go : (x all : Bool) → cond x (cond all (p + 1) (stepEnd (skipFrom s (p + 1)))) p ≤ length a
-          → cond x (cond all (Read (p + 1) sum) (answerAt (skipFrom (s ++ v) (p + 1)) (λ q. Refused (expectedAttributeEnd 0)))) (Refused (expectedAttributeEnd 0))
-          ≡ cond x (cond all (Read (p + 1) sum) (answerAt (skipFrom s (p + 1)) (λ q. Refused (expectedAttributeEnd 0)))) (Refused (expectedAttributeEnd 0))
-      go true true h = refl
-      go true false h = ap (λ (t : Step). answerAt t (λ q. Refused (expectedAttributeEnd 0))) (skips (p + 1) (omega (arith, skip-least s (p + 1))) h)
-      go false all h = refl
+  end-keeps true p sum l h = rw (at-same c (stop-ascii c is) a w v p l)
+  end-keeps false p sum l h =
+      here-keeps c (stop-ascii c is) a w v 0x5d p (λ (t : Step). answerAt t (λ q. Refused (expectedAttributeEnd 0))) (Refused (expectedAttributeEnd 0)) l h
 
   close-keeps : (q sum : ℕ) → bracketStood s (consumeFrom 0x29 s true q) ≤ length a → closeList (s ++ v) q sum ≡ closeList s q sum
   unfolding closeList

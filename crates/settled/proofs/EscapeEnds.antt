@@ -3,20 +3,19 @@ use Prim.Native.Nat.{_+_, _*_, _<_, _≤_, suc, zero, ℕ}
 use native.Mathlib.Omega.{arith}
 use mathlib.Core.Bool.{Bool, _&&_, cond, false, true}
 use mathlib.Core.List.{List, [], _++_, _∷_}
-use mathlib.Core.Path.{_∙_, _≡_, ap, ap₂, refl, subst, sym}
+use mathlib.Core.Path.{_∙_, _≡_, ap, ap₂, refl, subst}
 use lib.Dec.{eqb, ltb}
-use lib.ListN.{drop, getD, length}
-use borrow.Author.Tests.{ne-eqb}
+use lib.ListN.{drop, length}
 use Rattle.escapes.specs.Escapes.{closeOf, digitsOf, escapeOf, hexBy, hexEscape, hexOf, moreBytes, nextByte, secondDigit, simpleOf, twoDigits, unicodeEscape, withByte}
 use Rattle.escapes.specs.declared.answers.EscapeAnswer.{EscapeAnswer}
 use Rattle.escapes.specs.declared.answers.EscapeAnswer.the-variants.{Ascii, Refused, Utf8}
 use Rattle.escapes.specs.declared.answers.Mode.{Mode}
 use Rattle.escapes.specs.declared.answers.Mode.the-variants.{Bytes, Char, Str}
 use Rattle.text.proofs.CharFronts.{len-same}
-use Rattle.text.proofs.Choices.{bool-cases, cond-cases, either, lt-or-le}
+use Rattle.text.proofs.Choices.{bool-cases, cond-cases, either}
 use Rattle.text.specs.Refusals.{invalidEscape}
 use Rattle.text.specs.declared.reason.EscapeReason.the-variants.{DigitNotHex, MissingOpenBrace, NotByteEscaped, UnknownLetter}
-use Rattle.text.specs.Utf8.{charLen, codeOf, scalar, widthOf}
+use Rattle.text.specs.Utf8.{charLen, codeOf, scalar}
 use Rattle.text.specs.declared.refusal.Refusal.{Refusal}
 
 -- a byte up to 0x7F that is no hex digit and none of `x`, `u` and `\`

@@ -1,12 +1,12 @@
 -- A gap that is refused with 5 stays refused once the character behind its `/` has come whole, and one that ends at a character ends there, whatever follows that
 -- character. Assumes nothing.
-use Prim.Native.Nat.{ℕ, _+_, _-_, _<_, _≤_}
+use Prim.Native.Nat.{ℕ, _+_, _-_, _<_}
 use native.Mathlib.Omega.{arith}
-use mathlib.Core.Bool.{Bool, false, true}
+use mathlib.Core.Bool.{false, true}
 use mathlib.Core.List.{List, [], _++_, _∷_, append-assoc}
-use mathlib.Core.Path.{_∙_, _≡_, ap, refl, subst, sym}
+use mathlib.Core.Path.{_∙_, _≡_, ap, subst, sym}
 use lib.Dec.{eqb}
-use lib.ListN.{drop, getD, length, length-append, length-drop}
+use lib.ListN.{drop, getD, length, length-append}
 use lib.Seq.{drop-append-le}
 use borrow.Author.Tests.{eq-eqb}
 use Rattle.comments.proofs.GapLaws.{gapBehind}
@@ -15,7 +15,7 @@ use Rattle.comments.specs.Blocks.Body.{closes, nests, passes}
 use Rattle.comments.specs.Gaps.{gapOf}
 use Rattle.comments.specs.declared.gap.Gap.{Gap as Answer}
 use Rattle.comments.specs.declared.gap.Gap.the-variants as answer
-use Rattle.gapped.proofs.Ends.{End, Ends, end-answers, gap-ends}
+use Rattle.gapped.proofs.Ends.{End, end-answers, gap-ends}
 use Rattle.gapped.proofs.Ends.End.{clear, in-block, in-line, last, stray}
 use Rattle.gapped.proofs.Exactly.{clear-exactly, five-exactly}
 use Rattle.gapped.proofs.Passing.{gap-passed}
@@ -24,11 +24,10 @@ use Rattle.gapped.specs.Gap.Gap.{none, space, line, block}
 use Rattle.text.proofs.Choices.{either, lt-or-le}
 use Rattle.text.proofs.Lists.{head-at}
 use Rattle.text.proofs.Utf8Agree.{charLen-le, decode-encode}
-use Rattle.text.specs.Classes.{blank}
 use Rattle.text.specs.Refusals.{eof, unclosedBlockComment, unexpectedChar}
-use Rattle.text.specs.Utf8.{Scalar, charLen, codeOf, encode}
+use Rattle.text.specs.Utf8.{charLen, codeOf, encode}
 use Rattle.text.specs.declared.refusal.Refusal.{Refusal}
-use Rattle.settled.proofs.CharEnds.{Front, front-char, front-more, len-more}
+use Rattle.settled.proofs.CharEnds.{front-char, front-more, len-more}
 
 -- ---- a gap is a gap, whatever follows
 

@@ -1,13 +1,13 @@
 -- A gap that ends or is refused before a byte up to 0x7F is the same whatever stands behind that byte: clear, or 5 behind a `/`; an open line comment, 4 and 6
 -- stand at the end. Assumes nothing.
-use Prim.Native.Nat.{_+_, _-_, _<_, _≤_, pred, suc, zero, ℕ}
+use Prim.Native.Nat.{_+_, _<_, _≤_, pred, suc, zero, ℕ}
 use native.Mathlib.Nat.{add-zero}
 use native.Mathlib.Omega.{arith}
 use mathlib.Core.Bool.{Bool, cond, false, true}
 use mathlib.Core.List.{List, [], _++_, _∷_, append-assoc}
 use mathlib.Core.Path.{_∙_, _≡_, ap, refl, subst, sym}
 use lib.Dec.{eqb, ltb}
-use lib.ListN.{drop, getD, length, length-append, length-drop}
+use lib.ListN.{drop, getD, length, length-append}
 use borrow.Author.Tests.{eqb-true, le-leb}
 use Rattle.comments.proofs.GapLaws.{Sized, gapBehind, gap-moved, gap-restarts, gap-step, item-sized, passed}
 use Rattle.comments.proofs.GapWindow.{gap-stop, gap-window, item-window}

@@ -13,4 +13,6 @@ pub mod CharEnds
 pub mod GapEnds
 pub mod NothingEnds
 pub mod Owed
+pub mod StoodLaws
 pub mod CodeLaws
+pub mod Worked

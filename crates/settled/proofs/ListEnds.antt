@@ -1,13 +1,11 @@
 -- The list of extensions: what was read or refused of it before a stop byte stays. Assumes nothing.
-use Prim.Native.Nat.{_+_, _-_, _<_, _≤_, pred, suc, zero, ℕ}
+use Prim.Native.Nat.{_+_, _-_, _≤_, pred, suc, zero, ℕ}
 use native.Mathlib.Omega.{arith}
-use mathlib.Core.Bool.{Bool, cond, false, true, not, _&&_}
-use mathlib.Core.Logic.{_⊎_, inl, inr}
+use mathlib.Core.Bool.{Bool, cond, false, true}
 use mathlib.Core.List.{List, [], _++_, _∷_, append-assoc}
-use mathlib.Core.Path.{_∙_, _≡_, ap, ap₂, refl, subst, sym}
-use lib.Dec.{eqb, ltb}
-use lib.ListN.{List·getD-append, drop, getD, length, length-append, length-drop}
-use lib.Seq.{drop-append-le}
+use mathlib.Core.Path.{_∙_, _≡_, ap, refl, subst, sym}
+use lib.Dec.{eqb}
+use lib.ListN.{drop, length}
 use Rattle.attributes.proofs.Bounds.{ItemIn, item-in}
 use Rattle.attributes.specs.Extensions.{addedTo, extensionOf, extensions, firstNamed, isWord, nameOf}
 use Rattle.attributes.specs.List.{behindName, byComma, byExtensionName, byItem, byListName, byOther, itemEnd, itemOf, listFrom, otherChar}
@@ -21,15 +19,11 @@ use Rattle.attributes.specs.declared.list.Item.{Item}
 use Rattle.attributes.specs.declared.list.Item.the-variants.{More, Last, NoName, NoComma, Refused as Spoilt}
 use Rattle.attributes.specs.declared.list.OtherChar.{OtherChar}
 use Rattle.attributes.specs.declared.list.OtherChar.the-variants.{Goes, Ends}
-use Rattle.attributes.specs.declared.list.Listed.{Listed}
 use Rattle.attributes.specs.declared.list.Listed.the-variants.{Ended}
 use Rattle.attributes.specs.declared.steps.All.{All}
 use Rattle.attributes.specs.declared.steps.All.the-variants.{At, Refused as Failed}
 use Rattle.attributes.specs.declared.steps.Step.{Step}
-use Rattle.attributes.specs.declared.words.Keyword.{Keyword}
-use Rattle.attributes.specs.declared.words.Keyword.the-variants.{Enable, NoKeyword, Text}
 use Rattle.integers.proofs.WordStops.{first-stopped, fit}
-use Rattle.integers.specs.declared.ident.Found.{Found}
 use Rattle.names.proofs.IdentifierLaws.{Within, identifier-within}
 use Rattle.names.specs.Identifiers.{identifierOf}
 use Rattle.names.specs.declared.Identifier.{Identifier}
@@ -41,9 +35,7 @@ use Rattle.text.proofs.AheadLaws.{ahead-stopped}
 use Rattle.text.proofs.WordLaws.{starts-stopped}
 use Rattle.text.specs.Ahead.{nextAhead}
 use Rattle.text.specs.Classes.{asciiNext, asciiRaw, digit, letter, oneOf, within}
-use Rattle.text.specs.Words.{startsWith}
-use Rattle.text.specs.declared.refusal.Refusal.{Refusal}
-use Rattle.settled.proofs.StepEnds.{consume-keeps, consume-least, skip-keeps, skip-least, all-end, tail, tail-on, at-same}
+use Rattle.settled.proofs.StepEnds.{consume-keeps, consume-least, skip-keeps, skip-least, all-end, tail, tail-on}
 use Rattle.settled.proofs.WordEnds.{identifier-stopped, kept, kept-out, raw-out, stop-ascii}
 use Rattle.settled.specs.Bytes.{stopsByte}
 use Rattle.settled.specs.Stood.{allEnd, byStoodItem, itemStood, listStood, nameStood, namedStood}

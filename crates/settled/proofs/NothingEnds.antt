@@ -3,9 +3,9 @@ use Prim.Native.Nat.{ℕ, _<_}
 use native.Mathlib.Omega.{arith}
 use mathlib.Core.Bool.{Bool, true, false, cond, _&&_}
 use mathlib.Core.List.{List, [], _++_, _∷_}
-use mathlib.Core.Path.{_≡_, ap, refl, sym, _∙_}
+use mathlib.Core.Path.{_≡_, ap, refl, _∙_}
 use lib.Dec.{eqb, ltb}
-use lib.ListN.{getD, length}
+use lib.ListN.{getD}
 use borrow.Author.Tests.{eqb-true, ltb-true, ne-eqb}
 use Rattle.names.specs.Classify.{missing, wordOf}
 use Rattle.names.specs.Identifiers.{nameLen, plainOf, skipIdentifierOf}
@@ -68,7 +68,7 @@ module _ (a : ℕ) (t : List ℕ) (none : charIf identFirst (a ∷ t) ≡ 0) whe
   no-r = no-first 0x72 (omega arith) refl
 
   -- ---- so the shape is told by it alone, and no string and no raw name begins there
-  shape-first : (b c b′ c′ : ℕ) → shapeOf a b c ≡ shapeOf a b′ c′
+  pub shape-first : (b c b′ c′ : ℕ) → shapeOf a b c ≡ shapeOf a b′ c′
   unfolding shapeOf
   shape-first b c b′ c′ = rw (no-b, no-r)
 

@@ -1,7 +1,7 @@
 -- An accepted number ends before a byte outside of the raw name's class. Assumes nothing.
-use Prim.Native.Nat.{_+_, _-_, _<_, _≤_, ℕ}
+use Prim.Native.Nat.{_+_, _-_, _≤_, ℕ}
 use native.Mathlib.Omega.{arith}
-use mathlib.Core.Bool.{Bool, _||_, cond, false, true}
+use mathlib.Core.Bool.{Bool, false, true}
 use mathlib.Core.List.{List, [], _∷_, _++_}
 use mathlib.Core.Path.{_∙_, _≡_, ap, refl, subst, sym}
 use lib.Dec.{eqb, leb}
@@ -23,7 +23,7 @@ use Rattle.integers.proofs.Fronts.{prefix-by-le}
 use Rattle.integers.proofs.IntegerStops.{Outside, int-reach, out-digit, out-letter, out-next, sign-reach}
 use Rattle.integers.proofs.WordStops.{first-reach}
 use Rattle.integers.specs.Front.{frontOf, prefixOf, signOf}
-use Rattle.integers.specs.Integer.{anyAs, anyBehind, anyOf, behindRun, chosenOf, numeralOf}
+use Rattle.integers.specs.Integer.{anyAs, anyOf, behindRun, chosenOf, numeralOf}
 use Rattle.integers.specs.Width.{limitAt, suffixOf, suffixWord, widest, widthAt}
 use Rattle.integers.specs.Words.{firstOf}
 use Rattle.integers.specs.declared.front.Prefix.{Prefix}

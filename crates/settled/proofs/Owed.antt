@@ -1,7 +1,7 @@
 -- RON's token reader owes what crate arriving asks for: `ron`. Assumes nothing.
 use Prim.Native.Nat.{ℕ, _+_, _-_, _<_, _≤_, suc}
 use native.Mathlib.Omega.{arith}
-use mathlib.Core.Bool.{Bool, true, false, _&&_, _||_, not}
+use mathlib.Core.Bool.{true, false, not}
 use mathlib.Core.Logic.{_⊎_, inl, inr}
 use mathlib.Core.List.{List, [], _++_, _∷_, append-assoc, append-nil}
 use mathlib.Core.Path.{_≡_, ap, refl, sym, subst, _∙_}
@@ -27,8 +27,8 @@ use Rattle.escapes.specs.Escapes.{hexOf}
 use Rattle.hexes.proofs.HexLaws.{hex-none}
 use Rattle.integers.proofs.IntegerStops.{out-int}
 use Rattle.reading.proofs.QuietLaws.{at-quiet, quiet-behind}
-use Rattle.reading.specs.Kept.{anyQuiet, lastQuiet}
-use Rattle.reading.specs.Tokens.{Answer, refuse, stop}
+use Rattle.reading.specs.Kept.{lastQuiet}
+use Rattle.reading.specs.Tokens.{refuse, stop}
 use Rattle.strings.specs.Chars.{byteOf, charOf}
 use Rattle.strings.specs.Strings.{byteStringOf, stringOf}
 use Rattle.strings.specs.declared.chars.ByteAnswer.{ByteAnswer}

@@ -1,13 +1,13 @@
 -- Refused raw strings, strings, byte strings, chars and byte literals whose place lies before a stop byte stay refused; 17 and 6 tell of the end. Assumes nothing.
-use Prim.Native.Nat.{_+_, _-_, _<_, _≤_, suc, zero, ℕ}
+use Prim.Native.Nat.{_+_, _-_, _<_, _≤_, suc, ℕ}
 use native.Mathlib.Omega.{arith}
-use mathlib.Core.Bool.{Bool, _||_, cond, false, true, _&&_}
-use mathlib.Core.List.{List, [], _++_, _∷_, append-assoc, append-nil}
-use mathlib.Core.Path.{_∙_, _≡_, ap, ap₂, refl, subst, sym}
-use lib.Dec.{eqb, ltb, leb}
+use mathlib.Core.Bool.{Bool, cond, false, true, _&&_}
+use mathlib.Core.List.{List, [], _++_, _∷_, append-assoc}
+use mathlib.Core.Path.{_∙_, _≡_, ap, refl, subst, sym}
+use lib.Dec.{eqb, ltb}
 use lib.ListN.{List·getD-append, drop, getD, length, length-append, length-drop}
-use lib.Seq.{drop-append-le, getD-drop}
-use borrow.Author.Tests.{eqb-true, ne-eqb}
+use lib.Seq.{drop-append-le}
+use borrow.Author.Tests.{ne-eqb}
 use Rattle.escapes.proofs.Closed.{Within, closed as escape-closed}
 use Rattle.escapes.specs.Escapes.{escapeOf}
 use Rattle.escapes.specs.declared.answers.EscapeAnswer.{EscapeAnswer}
@@ -25,8 +25,8 @@ use Rattle.strings.specs.declared.chars.CharAnswer.{CharAnswer}
 use Rattle.strings.specs.declared.chars.CharAnswer.the-variants.{Read as ReadChar, Refused as NoChar}
 use Rattle.strings.specs.declared.literal.LiteralAnswer.{LiteralAnswer}
 use Rattle.strings.specs.declared.literal.LiteralAnswer.the-variants.{Read, Refused}
-use Rattle.text.proofs.Choices.{bool-cases, cond-cases, either, lt-or-le}
-use Rattle.text.specs.Refusals.{expectedByteLiteral, expectedByteString, expectedChar, expectedString, expectedStringEnd, invalidEscape, placedBehind, eof}
+use Rattle.text.proofs.Choices.{cond-cases}
+use Rattle.text.specs.Refusals.{expectedByteLiteral, expectedByteString, expectedChar, expectedString, expectedStringEnd, invalidEscape, placedBehind}
 use Rattle.text.specs.declared.reason.EscapeReason.the-variants.{UnicodeInByteLiteral}
 use Rattle.text.specs.Runs.{run}
 use Rattle.text.specs.Utf8.{charLen, codeOf}

@@ -1,23 +1,23 @@
 -- RON's token reader may be read while a text arrives: what crate arriving asks of it. Assumes nothing.
-use Prim.Native.Nat.{ℕ, _+_, _-_, _<_, _≤_, suc}
+use Prim.Native.Nat.{ℕ, _<_, _≤_, suc}
 use native.Mathlib.Omega.{arith}
-use mathlib.Core.Bool.{Bool, true, false, _||_, not}
+use mathlib.Core.Bool.{true, false, not}
 use mathlib.Core.List.{List, [], _++_, _∷_, append-assoc}
 use mathlib.Core.Path.{_≡_, ap, refl, sym, subst, _∙_}
 use lib.Dec.{eqb}
 use lib.ListN.{drop, getD, length, length-append, length-drop}
 use lib.Seq.{drop-append-le}
 use borrow.Author.Tests.{eqb-true, not-true}
-use Rattle.text.proofs.Choices.{bool-cases, either, lt-or-le, or-left, or-right}
-use Rattle.text.proofs.ClassLaws.{allOf, one-of-all}
-use Rattle.text.specs.Classes.{asciiNext, asciiRaw, digit, letter, oneOf, within}
+use Rattle.text.proofs.Choices.{bool-cases, either, lt-or-le}
+use Rattle.text.proofs.ClassLaws.{one-of-all}
+use Rattle.text.specs.Classes.{asciiNext, asciiRaw, digit, letter, within}
 use Rattle.comments.proofs.GapWindow.{gap-stop, gap-window}
 use Rattle.comments.specs.Gaps.{gapOf}
 use Rattle.comments.specs.declared.gap.Gap.the-variants as gap
 use Rattle.reading.proofs.QuietLaws.{quiet-all}
 use Rattle.reading.specs.Owed.{Laws, quietByte}
-use Rattle.reading.specs.Tokens.{Answer, Token, reach, token}
-use Rattle.tokens.proofs.RonLaws.{At, is-token, laws, lexed, token-is}
+use Rattle.reading.specs.Tokens.{Token, reach, token}
+use Rattle.tokens.proofs.RonLaws.{is-token, laws, lexed, token-is}
 use Rattle.tokens.proofs.TokenLaws.{Fits}
 use Rattle.tokens.specs.Lexemes.{lexeme, lexemeOf}
 use Rattle.tokens.specs.Ron.{ronToken}

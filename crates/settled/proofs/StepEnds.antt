@@ -1,38 +1,25 @@
 -- Steps through an attribute that end before a byte up to 0x7F do not depend on what comes behind it, whether they go on or are refused. Assumes nothing.
-use Prim.Native.Nat.{_+_, _-_, _<_, _≤_, pred, suc, zero, ℕ}
+use Prim.Native.Nat.{_+_, _-_, _<_, _≤_, ℕ}
 use native.Mathlib.Omega.{arith}
 use mathlib.Core.Bool.{Bool, cond, false, true}
-use mathlib.Core.List.{List, [], _++_, _∷_, append-assoc}
+use mathlib.Core.List.{List, _++_, _∷_, append-assoc}
 use mathlib.Core.Path.{_∙_, _≡_, ap, refl, subst, sym}
 use lib.Dec.{eqb}
 use lib.ListN.{List·getD-append, drop, getD, length, length-append, length-drop}
 use lib.Seq.{drop-append-le}
-use Rattle.comments.proofs.GapLaws.{gapBehind, gap-moved, gap-restarts, gap-step}
-use Rattle.comments.specs.Blocks.{blockEnd}
-use Rattle.comments.specs.Lines.{lineEnd}
-use Rattle.comments.specs.declared.block.CommentEnd.{CommentEnd}
-use Rattle.comments.specs.declared.block.CommentEnd.the-variants.{Closed, Unclosed}
-use Rattle.text.proofs.ClassLaws.{blank-ascii}
-use Rattle.text.specs.Classes.{blank1, within}
-use Rattle.text.specs.Utf8.{charLen}
-use borrow.Author.Tests.{eqb-true}
-use Rattle.comments.proofs.GapWindow.{gap-stop, gap-window}
-use Rattle.comments.specs.Gaps.{behindSlash, blockItem, byItem, commentOf, gapFrom, gapOf, itemOf, lineItem}
+use Rattle.comments.specs.Gaps.{gapOf}
 use Rattle.comments.specs.declared.gap.Gap.{Gap}
 use Rattle.comments.specs.declared.gap.Gap.the-variants.{Clear, InLine, Refused}
-use Rattle.comments.specs.declared.gap.Item.{Item}
-use Rattle.comments.specs.declared.gap.Item.the-variants.{Blank, BlockOpen, Ended, LineOpen, Other, Unexpected}
-use Rattle.text.proofs.Choices.{bool-cases, cond-cases, either, lt-or-le}
+use Rattle.text.proofs.Choices.{cond-cases}
 use Rattle.attributes.specs.Attributes.{openedOf}
-use Rattle.text.specs.Refusals.{expectedAttribute, placedBehind}
-use Rattle.text.specs.declared.refusal.Refusal.{Refusal}
+use Rattle.text.specs.Refusals.{expectedAttribute}
 use Rattle.attributes.specs.Steps.{allAt, andThen, stepBehind, consumeFrom, consumeOf, signAt, signFrom, skipFrom}
 use Rattle.attributes.specs.declared.steps.All.{All}
 use Rattle.attributes.specs.declared.steps.All.the-variants.{At, Refused as Failed}
 use Rattle.attributes.specs.declared.steps.Step.{Step}
 use Rattle.attributes.specs.declared.steps.Step.the-variants.{On, Refused as Bad}
 use Rattle.settled.proofs.GapStays.{GapBy, gap-keeps}
-use Rattle.settled.specs.Stood.{allEnd, signBy, signStood, stepEnd}
+use Rattle.settled.specs.Stood.{allEnd, signBy, signHere, signStood, stepEnd}
 
 -- a step does not go back
 gap-least : (at : ℕ) (g : Gap) → at ≤ stepEnd (stepBehind at g)
@@ -57,19 +44,20 @@ consume-least b s (At all at) = from-least b s all at
 consume-least b s (Failed r) = omega arith
 
 -- a sign stands at or behind where it is looked for, and behind it where it is found
-at-sign : (b : ℕ) (s : List ℕ) (p : ℕ) → p ≤ cond (eqb (getD s p 0) b) (stepEnd (skipFrom s (p + 1))) p
-at-sign b s p = cond-cases (λ (n : ℕ). p ≤ n) (eqb (getD s p 0) b) (stepEnd (skipFrom s (p + 1))) p (λ e. omega (arith, skip-least s (p + 1))) (λ e. omega arith)
+pub here-least : (b : ℕ) (s : List ℕ) (p : ℕ) → p ≤ signHere b s p
+unfolding signHere
+here-least b s p = cond-cases (λ (n : ℕ). p ≤ n) (eqb (getD s p 0) b) (stepEnd (skipFrom s (p + 1))) p (λ e. omega (arith, skip-least s (p + 1))) (λ e. omega arith)
 
 pub sign-least : (b : ℕ) (s : List ℕ) (at : ℕ) → at ≤ signStood b s at
 unfolding signStood
 sign-least b s at = go (skipFrom s at) (skip-least s at)
   where
     go : (t : Step) → at ≤ stepEnd t → at ≤ signBy b s t
-    go (On p) h = omega (arith, at-sign b s p)
+    go (On p) h = omega (arith, here-least b s p)
     go (Bad r) h = h
 
 pub sign-found : (b : ℕ) (s : List ℕ) (at p : ℕ) → signFrom b s at ≡ On p → signStood b s at ≡ p
-unfolding signStood signFrom signAt
+unfolding signStood signHere signFrom signAt
 sign-found b s at p h = go (skipFrom s at) h
   where
     test : (q : ℕ) (t : Bool) → cond t (skipFrom s (q + 1)) (Bad (expectedAttribute 0)) ≡ On p → cond t (stepEnd (skipFrom s (q + 1))) q ≡ p
@@ -138,22 +126,24 @@ module _ (c : ℕ) (low : c < 0x80) where
         ∙ consume-keeps 0x5b y h
 
     -- a sign that has to stand there
+    pub here-keeps : {A : Type 0} (b p : ℕ) (f : Step → A) (x : A) → p ≤ length a → signHere b s p ≤ length a
+        → cond (eqb (getD (s ++ v) p 0) b) (f (skipFrom (s ++ v) (p + 1))) x ≡ cond (eqb (getD s p 0) b) (f (skipFrom s (p + 1))) x
+    unfolding signHere
+    here-keeps b p f x l h = rw (at-same p l) (test (eqb (getD s p 0) b) h)
+      where
+        test : (t : Bool) → cond t (stepEnd (skipFrom s (p + 1))) p ≤ length a → cond t (f (skipFrom (s ++ v) (p + 1))) x ≡ cond t (f (skipFrom s (p + 1))) x
+        test true h = ap f (skip-keeps (p + 1) (omega (arith, skip-least s (p + 1))) h)
+        test false h = refl
+
     pub sign-keeps : (b at : ℕ) → at ≤ length a → signStood b s at ≤ length a → signFrom b (s ++ v) at ≡ signFrom b s at
     unfolding signStood signFrom signAt
     sign-keeps b at l h = go (skipFrom s at) refl h
       where
-        here : (p : ℕ) → p ≤ length a → cond (eqb (getD s p 0) b) (stepEnd (skipFrom s (p + 1))) p ≤ length a
-            → cond (eqb (getD (s ++ v) p 0) b) (skipFrom (s ++ v) (p + 1)) (Bad (expectedAttribute 0)) ≡ cond (eqb (getD s p 0) b) (skipFrom s (p + 1)) (Bad (expectedAttribute 0))
-        here p l h = rw (at-same p l) (test (eqb (getD s p 0) b) h)
-          where
-            test : (t : Bool) → cond t (stepEnd (skipFrom s (p + 1))) p ≤ length a → cond t (skipFrom (s ++ v) (p + 1)) (Bad (expectedAttribute 0)) ≡ cond t (skipFrom s (p + 1)) (Bad (expectedAttribute 0))
-            test true h = skip-keeps (p + 1) (omega (arith, skip-least s (p + 1))) h
-            test false h = refl
-
         go : (t : Step) → skipFrom s at ≡ t → signBy b s t ≤ length a → andThen (skipFrom (s ++ v) at) (signAt b (s ++ v)) ≡ andThen (skipFrom s at) (signAt b s)
         go (On p) e h =
-            let q : skipFrom (s ++ v) at ≡ On p = skip-keeps at l (subst (λ (t : Step). stepEnd t ≤ length a) (sym e) (omega (arith, at-sign b s p))) ∙ e in
-            rw (q, e) (here p (omega (arith, at-sign b s p)) h)
+            let lp : p ≤ length a = omega (arith, here-least b s p) in
+            let q : skipFrom (s ++ v) at ≡ On p = skip-keeps at l (subst (λ (t : Step). stepEnd t ≤ length a) (sym e) lp) ∙ e in
+            rw (q, e) (here-keeps b p (λ t. t) (Bad (expectedAttribute 0)) lp h)
         go (Bad r) e h =
             let q : skipFrom (s ++ v) at ≡ Bad r = skip-keeps at l (subst (λ (t : Step). stepEnd t ≤ length a) (sym e) h) ∙ e in
             rw (q, e)

@@ -1,11 +1,11 @@
 -- A refused string whose place lies before a stop byte stays refused, unless it is refused for its missing end (17, 6). Assumes nothing.
-use Prim.Native.Nat.{_+_, _-_, _<_, _≤_, suc, zero, ℕ}
+use Prim.Native.Nat.{_+_, _<_, _≤_, suc, zero, ℕ}
 use native.Mathlib.Omega.{arith}
-use mathlib.Core.Bool.{Bool, _||_, cond, false, true, _&&_}
+use mathlib.Core.Bool.{Bool, _||_, cond, false, true}
 use mathlib.Core.List.{List, [], _++_, _∷_, append-assoc, append-nil}
 use mathlib.Core.Path.{_∙_, _≡_, ap, refl, subst, sym}
-use lib.Dec.{eqb, ltb, leb}
-use lib.ListN.{List·getD-append, drop, drop-of-length-le, getD, length, length-append, length-drop, take}
+use lib.Dec.{eqb, ltb}
+use lib.ListN.{drop, drop-of-length-le, length, length-append, length-drop, take}
 use lib.Seq.{drop-append-le, take-append-le}
 use borrow.Author.Tests.{lt-ltb, ltb-true, le-leb}
 use Rattle.escapes.specs.Escapes.{escapeOf, simpleOf}
@@ -22,7 +22,7 @@ use Rattle.strings.specs.declared.literal.LiteralAnswer.the-variants.{Read, Ref
 use Rattle.strings.specs.declared.pieces.Decoded.the-variants.{Nothing}
 use Rattle.strings.specs.declared.pieces.Piece.{Piece}
 use Rattle.strings.specs.declared.pieces.Piece.the-variants.{Backslash, Plain, Quote, Refused as Spoilt}
-use Rattle.text.proofs.Choices.{bool-cases, cond-cases, either, lt-or-le}
+use Rattle.text.proofs.Choices.{cond-cases, either, lt-or-le}
 use Rattle.text.specs.Refusals.{expectedStringEnd, invalidEscape, placedBehind}
 use Rattle.text.specs.declared.reason.EscapeReason.the-variants.{UnknownLetter}
 use Rattle.text.specs.Classes.{continuationBlank}

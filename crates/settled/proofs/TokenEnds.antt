@@ -1,11 +1,11 @@
 -- Tokens before a stop byte, and tokens that their last byte closes. Assumes nothing.
-use Prim.Native.Nat.{ℕ, _+_, _<_, _≤_, suc}
+use Prim.Native.Nat.{ℕ, suc}
 use native.Mathlib.Omega.{arith}
-use mathlib.Core.Bool.{Bool, true, false, cond, not, _&&_}
+use mathlib.Core.Bool.{true, false}
 use mathlib.Core.Logic.{_⊎_, inl, inr}
 use mathlib.Core.List.{List, [], _++_, _∷_, append-assoc}
 use mathlib.Core.Path.{_≡_, ap, refl, sym, subst, _∙_}
-use lib.Dec.{eqb, ltb}
+use lib.Dec.{eqb}
 use lib.ListN.{getD, length, length-append}
 use Rattle.attributes.proofs.AttributeLaws.{Within-attribute, attribute-closed}
 use Rattle.attributes.specs.Attributes.{attributeOf}

@@ -1,5 +1,5 @@
 -- Names stop at a stop byte, quotes among them: crates/names/proofs/NameStops.antt with a wider class. An accepted word ends before such a byte. Assumes nothing.
-use Prim.Native.Nat.{_+_, _<_, _≤_, ℕ, suc}
+use Prim.Native.Nat.{_+_, _<_, _≤_, ℕ}
 use native.Mathlib.Omega.{arith}
 use mathlib.Core.Bool.{Bool, _&&_, _||_, false, not, true, cond}
 use mathlib.Core.List.{List, [], _++_, _∷_}

@@ -24,7 +24,6 @@ use Rattle.attributes.specs.declared.steps.Step.the-variants.{On}
 use Rattle.attributes.specs.declared.steps.Step.the-variants as step
 use Rattle.attributes.specs.declared.words.Keyword.{Keyword}
 use Rattle.attributes.specs.declared.words.Keyword.the-variants.{Enable, Text, NoKeyword}
-use Rattle.attributes.specs.declared.extensions.Extension.{Extension}
 use Rattle.attributes.specs.declared.extensions.Named.{Named}
 use Rattle.attributes.specs.declared.extensions.Named.the-variants.{Known, Unknown}
 use Rattle.attributes.specs.declared.list.Item.{Item}
@@ -46,9 +45,13 @@ abbrev pub allEnd : All → ℕ
 allEnd (At all p) = p
 allEnd (consumed.Refused r) = r .place
 
--- By the whitespace before a sign that has to stand there: behind the sign and its whitespace, or where it is missing.
+-- At a sign that has to stand at a place: behind it and its whitespace, or where it is missing.
+unfoldable pub signHere : ℕ → List ℕ → ℕ → ℕ
+signHere b s p = cond (eqb (getD s p 0) b) (stepEnd (skipFrom s (p + 1))) p
+
+-- By the whitespace in front of it.
 abbrev pub signBy : ℕ → List ℕ → Step → ℕ
-signBy b s (On p) = cond (eqb (getD s p 0) b) (stepEnd (skipFrom s (p + 1))) p
+signBy b s (On p) = signHere b s p
 signBy b s (step.Refused r) = r .place
 
 -- A sign that has to stand there, between whitespace.
@@ -88,9 +91,9 @@ listStood (a ∷ t) zero at = byStoodItem (itemOf (a ∷ t)) (λ n. listStood t 
 
 -- ---- the end of an attribute
 
--- At the `]`, of which all else was found or not: behind it, or where it is missing; without all else its whitespace is passed too.
+-- At the `]`: behind it, or where it is missing. Where not all before it was found, the whitespace behind it is passed too.
 unfoldable pub endStood : List ℕ → Bool → ℕ → ℕ
-endStood s all p = cond (eqb (getD s p 0) 0x5d) (cond all (p + 1) (stepEnd (skipFrom s (p + 1)))) p
+endStood s all p = cond all (cond (eqb (getD s p 0) 0x5d) (p + 1) p) (signHere 0x5d s p)
 
 -- By the `)`.
 abbrev pub bracketStood : List ℕ → All → ℕ

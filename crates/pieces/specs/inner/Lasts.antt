@@ -6,6 +6,7 @@ use mathlib.Core.Path.{_≡_}
 use lib.Dec.{eqb, ltb}
 use lib.ListN.{length}
 use Rattle.text.specs.Refusals.{eof, notUtf8, unclosedBlockComment, unexpectedChar}
+use Rattle.text.specs.declared.refusal.Refusal.{Refusal}
 use Rattle.gaps.specs.Passes.{passedOf}
 use Rattle.gaps.specs.declared.pass.Passed.{Passed}
 use Rattle.gaps.specs.declared.pass.Passed.the-variants.{Begins, Within, Unexpected}
@@ -26,6 +27,10 @@ endsWith Clear end = ended.Given 0
 endsWith Slash end = ended.Stopped 0 (eof end)
 endsWith Line end = ended.Given 0
 endsWith (Block level last) end = ended.Stopped 0 (unclosedBlockComment end)
+
+-- So many entries, and a refusal behind them where it has a number.
+abbrev pub endedBy : ℕ → Refusal → Ended
+endedBy count d = cond (eqb (d .number) 0) (ended.Given count) (ended.Stopped count d)
 
 -- The entries of what is kept from where a token begins, and how their reading ends.
 abbrev pub lastFrom : Arrival → List ℕ → ℕ → Rest

@@ -1,15 +1,15 @@
+use borrow.Author.Tests.{eq-eqb, ne-eqb}
+use Rattle.pieces.specs.inner.Judges.{givesOf}
 use Rattle.pieces.proofs.judge.gives.Statement.{statement}
 use Rattle.pieces.proofs.judge.gives.Tie as tie
-use Rattle.pieces.proofs.judge.gives.Reads as reads
-use Rattle.pieces.proofs.judge.gives.Lts as lts
 
--- src/judge.rt:21:9
 returns : tie.Need-returns
-returns c = ?
+unfolding givesOf
+returns c = simp (eq-eqb _ _ (c .if1 .taken))
 
--- src/judge.rt:17:1
 returns-2 : tie.Need-returns-2
-returns-2 c = ?
+unfolding givesOf
+returns-2 c = simp (ne-eqb _ _ (c .if1 .left))
 
 pub gives-spec : {M : Type 1} → statement M
 gives-spec = tie.close (tie.spec returns returns-2)

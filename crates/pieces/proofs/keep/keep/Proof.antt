@@ -1,50 +1,57 @@
+use mathlib.Core.List.{List}
+use Prim.Native.Nat.{ℕ, _+_}
+use lib.ListN.{length-set, getD, set}
+use Rattle.pieces.proofs.LayLaws.{fronted, front-goes}
+use lib.ListN.{length}
+use mathlib.Core.Path.{_≡_, ap, refl, _∙_}
+use native.Mathlib.Omega.{arith}
+use Prim.Native.Nat.{_-_, _≤_}
 use borrow.Author.Needs.{needs}
 use Rattle.pieces.proofs.keep.keep.Statement.{statement}
 use Rattle.pieces.proofs.keep.keep.Tie as tie
-use Rattle.pieces.proofs.keep.keep.Reads as reads
-use Rattle.pieces.proofs.keep.keep.Lts as lts
 
 abbrev Inv-loop : tie.InvT-loop
-Inv-loop buffer₀ from n i₀ buffer i = ?
+Inv-loop buffer₀ from n i₀ buffer i = (i ≤ n) × (length buffer ≡ length buffer₀) × (buffer ≡ fronted from i buffer₀)
 
 abbrev μ-loop : tie.MeasureT-loop
-μ-loop buffer₀ from n i₀ buffer i = ?
+μ-loop buffer₀ from n i₀ buffer i = n - i
 
--- src/keep.rt:13:5
 loop-holds : tie.Need-loop-holds Inv-loop μ-loop
-loop-holds c = ?
+loop-holds c = (omega arith, refl, refl)
 
--- src/keep.rt:14:28
 add-buffer : tie.Need-add-buffer Inv-loop μ-loop
 add-buffer c = search needs
 
--- src/keep.rt:14:21
 slice-read-buffer : tie.Need-slice-read-buffer Inv-loop μ-loop
-slice-read-buffer c = search needs
+slice-read-buffer c = omega (arith, c .before .before .loop .inv .1)
 
--- src/keep.rt:14:9
 slice-write-buffer : tie.Need-slice-write-buffer Inv-loop μ-loop
-slice-write-buffer c = search needs
+slice-write-buffer c = omega (arith, c .before .before .loop .inv .1)
 
--- src/keep.rt:15:9
 add-i : tie.Need-add-i Inv-loop μ-loop
 add-i c = search needs
 
--- src/keep.rt:13:5
 loop-less : tie.Need-loop-less Inv-loop μ-loop
-loop-less c = search needs
+loop-less c = omega arith
 
--- src/keep.rt:13:5
 loop-again : tie.Need-loop-again Inv-loop μ-loop
-loop-again c = ?
+loop-again c =
+    let b = c .before .before .before .args in
+    let l = c .before .before .loop in (
+      omega arith,
+      length-set (l .buffer) (l .i) (getD (l .buffer) (b .from + l .i) 0) ∙ l .inv .1,
+      ap (λ (x : List ℕ). set x (l .i) (getD x (b .from + l .i) 0)) (l .inv .2) ∙ front-goes (b .from) (l .i) (b .buffer .now) (omega arith),
+    )
 
--- src/keep.rt:8:1
 same-length : tie.Need-same-length Inv-loop μ-loop
-same-length c = search needs
+same-length c = c .before .loop .inv .1
 
--- src/keep.rt:8:1
 returns : tie.Need-returns Inv-loop μ-loop
-returns c = ?
+returns c =
+    let b = c .before .before .args in
+    let l = c .before .loop in
+    let z : l .i ≡ b .n = omega arith in
+    l .inv .2 ∙ ap (λ (k : ℕ). fronted (b .from) k (b .buffer .now)) z
 
 pub keep-spec : {M : Type 1} → statement M
 keep-spec =

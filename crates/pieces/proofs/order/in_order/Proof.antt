@@ -1,39 +1,34 @@
+use Rattle.pieces.specs.Orders.{inOrder}
+use borrow.Author.Tests.{le-leb, lt-leb, not-true, not-false}
+use mathlib.Core.Path.{sym, _∙_}
 use borrow.Author.Needs.{needs}
 use Rattle.pieces.proofs.order.in_order.Statement.{statement}
 use Rattle.pieces.proofs.order.in_order.Tie as tie
-use Rattle.pieces.proofs.order.in_order.Reads as reads
-use Rattle.pieces.proofs.order.in_order.Lts as lts
-use Rattle.pieces.proofs.order.kept_fits.Reads as kept-fits-reads
-use Rattle.pieces.proofs.order.open_fits.Reads as open-fits-reads
-use Rattle.pieces.proofs.order.refusal_fits.Reads as refusal-fits-reads
 
--- src/order.rt:146:9
 returns : tie.Need-returns
-returns c = ?
+unfolding inOrder
+returns c = simp (lt-leb _ _ (c .if1 .taken))
 
--- src/order.rt:148:9
 kept-fits-requires : tie.Need-kept-fits-requires
 kept-fits-requires c κs = search needs
 
--- src/order.rt:149:9
 returns-2 : tie.Need-returns-2
-returns-2 c = ?
+unfolding inOrder
+returns-2 c = simp (le-leb _ _ (c .before .before .if1 .left), sym (c .before .kept-fits .ensures) ∙ not-true _ (c .if2 .taken))
 
--- src/order.rt:152:9
 open-fits-requires : tie.Need-open-fits-requires
 open-fits-requires c κs = search needs
 
--- src/order.rt:153:9
 returns-3 : tie.Need-returns-3
-returns-3 c = ?
+unfolding inOrder
+returns-3 c = simp (le-leb _ _ (c .before .before .before .before .if1 .left), sym (c .before .before .before .kept-fits .ensures) ∙ not-false _ (c .before .before .if2 .left), sym (c .before .open-fits .ensures) ∙ not-true _ (c .if3 .taken))
 
--- src/order.rt:155:5
 refusal-fits-requires : tie.Need-refusal-fits-requires
 refusal-fits-requires c κs = search needs
 
--- src/order.rt:142:1
 returns-4 : tie.Need-returns-4
-returns-4 c = ?
+unfolding inOrder
+returns-4 c = c .refusal-fits .ensures ∙ sym (simp (le-leb _ _ (c .before .before .before .before .before .if1 .left), sym (c .before .before .before .before .kept-fits .ensures) ∙ not-false _ (c .before .before .before .if2 .left), sym (c .before .before .open-fits .ensures) ∙ not-false _ (c .before .if3 .left)))
 
 pub in-order-spec : {M : Type 1} → statement M
 in-order-spec =

@@ -1,25 +1,25 @@
+use Rattle.pieces.specs.Orders.{reasonFits}
+use borrow.Author.Tests.{eq-eqb, ne-eqb}
+use Rattle.text.proofs.Choices.{or-false}
+use mathlib.Core.Path.{sym, _∙_}
 use borrow.Author.Needs.{needs}
 use Rattle.pieces.proofs.order.reason_fits.Statement.{statement}
 use Rattle.pieces.proofs.order.reason_fits.Tie as tie
-use Rattle.pieces.proofs.order.reason_fits.Reads as reads
-use Rattle.pieces.proofs.order.reason_fits.Lts as lts
-use Rattle.text.proofs.classes.is_within.Reads as is-within-reads
 
--- src/order.rt:75:9
 is-within-requires : tie.Need-is-within-requires
 is-within-requires c κs = search needs
 
--- src/order.rt:75:9
 returns : tie.Need-returns
-returns c = ?
+unfolding reasonFits
+returns c = c .is-within .ensures ∙ sym (simp (eq-eqb _ _ (c .before .if1 .taken), or-false))
 
--- src/order.rt:78:9
 returns-2 : tie.Need-returns-2
-returns-2 c = ?
+unfolding reasonFits
+returns-2 c = simp (ne-eqb _ _ (c .before .before .if1 .left), eq-eqb _ _ (c .if2 .taken))
 
--- src/order.rt:71:1
 returns-3 : tie.Need-returns-3
-returns-3 c = ?
+unfolding reasonFits
+returns-3 c = simp (ne-eqb _ _ (c .before .before .if1 .left), ne-eqb _ _ (c .if2 .left))
 
 pub reason-fits-spec : {M : Type 1} → statement M
 reason-fits-spec = tie.close (tie.spec is-within-requires returns returns-2 returns-3)

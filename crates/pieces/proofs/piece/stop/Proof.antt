@@ -1,79 +1,62 @@
+use borrow.Author.Tests.{le-ltb, lt-ltb}
+use Rattle.pieces.specs.declared.turn.Stands.{Stands}
+use Rattle.pieces.specs.inner.Steps.{StopFits}
+use native.Mathlib.Omega.{arith}
+use mathlib.Core.Path.{subst, sym, _∙_}
 use borrow.Author.Needs.{needs}
 use Rattle.pieces.proofs.piece.stop.Statement.{statement}
 use Rattle.pieces.proofs.piece.stop.Tie as tie
-use Rattle.pieces.proofs.piece.stop.Reads as reads
-use Rattle.pieces.proofs.piece.stop.Lts as lts
-use Rattle.pieces.proofs.piece.barred.Reads as barred-reads
-use Rattle.text.proofs.refusal.Refusal.entry_too_long.Reads as entry-too-long-reads
-use Rattle.text.proofs.refusal.placed_behind.Reads as placed-behind-reads
 
--- src/piece.rt:42:25
 enum-known-stands : tie.Need-enum-known-stands
 enum-known-stands c = search needs
 
--- src/piece.rt:42:37
 placed-behind-requires : tie.Need-placed-behind-requires
-placed-behind-requires c κs = ?
+placed-behind-requires c κs = subst (λ (x : Stands). StopFits x (c .before .before .before .args .end) (c .before .before .before .args .base)) (c .before .stands .given .1) (c .before .before .before .pre)
 
--- src/piece.rt:43:30
 enum-told : tie.Need-enum-told
 enum-told c = search needs
 
--- src/piece.rt:43:30
 barred-requires : tie.Need-barred-requires
 barred-requires c κs = search needs
 
--- src/piece.rt:44:28
 enum-told-2 : tie.Need-enum-told-2
 enum-told-2 c = search needs
 
--- src/piece.rt:44:28
 barred-requires-2 : tie.Need-barred-requires-2
 barred-requires-2 c κs = search needs
 
--- src/piece.rt:45:23
 enum-known-stands-2 : tie.Need-enum-known-stands-2
 enum-known-stands-2 c = search needs
 
--- src/piece.rt:46:16
 sub-if1 : tie.Need-sub-if1
-sub-if1 c = ?
+sub-if1 c = subst (λ (x : Stands). StopFits x (c .before .before .before .args .end) (c .before .before .before .args .base)) (c .before .stands2 .given .1) (c .before .before .before .pre) .0
 
--- src/piece.rt:47:17
 barred-requires-3 : tie.Need-barred-requires-3
 barred-requires-3 c κs = search needs
 
--- src/piece.rt:47:17
 returns : tie.Need-returns
-returns c = ?
+returns c = c .barred3 .ensures ∙ sym (rw (c .before .before .before .stands2 .given .1) (simp (lt-ltb _ _ (c .before .if1 .taken))))
 
--- src/piece.rt:49:53
 add-entry-too-long : tie.Need-add-entry-too-long
-add-entry-too-long c = ?
+add-entry-too-long c = omega (arith, subst (λ (x : Stands). StopFits x (c .before .before .before .before .args .end) (c .before .before .before .before .args .base)) (c .before .before .stands2 .given .1) (c .before .before .before .before .pre) .1)
 
--- src/piece.rt:49:29
 entry-too-long-requires : tie.Need-entry-too-long-requires
 entry-too-long-requires c κs = search needs
 
--- src/piece.rt:49:13
 barred-requires-4 : tie.Need-barred-requires-4
 barred-requires-4 c κs = search needs
 
--- src/piece.rt:37:1
 returns-2 : tie.Need-returns-2
-returns-2 c = ?
+returns-2 c = c .placed-behind .ensures ∙ sym (rw (c .before .before .stands .given .1))
 
--- src/piece.rt:37:1
 returns-3 : tie.Need-returns-3
-returns-3 c = ?
+returns-3 c = c .barred .ensures ∙ sym (rw (c .before .enum-told .given .1))
 
--- src/piece.rt:37:1
 returns-4 : tie.Need-returns-4
-returns-4 c = ?
+returns-4 c = c .barred2 .ensures ∙ sym (rw (c .before .enum-told2 .given .1))
 
--- src/piece.rt:37:1
 returns-5 : tie.Need-returns-5
-returns-5 c = ?
+returns-5 c = c .barred4 .ensures ∙ sym (rw (c .before .before .before .before .stands2 .given .1, c .before .entry-too-long .ensures) (simp (le-ltb _ _ (c .before .before .if1 .left))))
 
 pub stop-spec : {M : Type 1} → statement M
 stop-spec =

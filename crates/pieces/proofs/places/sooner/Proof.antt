@@ -1,15 +1,15 @@
+use Rattle.pieces.specs.Come.{sooner}
+use borrow.Author.Tests.{le-leb, lt-leb}
 use Rattle.pieces.proofs.places.sooner.Statement.{statement}
 use Rattle.pieces.proofs.places.sooner.Tie as tie
-use Rattle.pieces.proofs.places.sooner.Reads as reads
-use Rattle.pieces.proofs.places.sooner.Lts as lts
 
--- src/places.rt:18:9
 returns : tie.Need-returns
-returns c = ?
+unfolding sooner
+returns c = simp (le-leb _ _ (c .if1 .taken))
 
--- src/places.rt:14:1
 returns-2 : tie.Need-returns-2
-returns-2 c = ?
+unfolding sooner
+returns-2 c = simp (lt-leb _ _ (c .if1 .left))
 
 pub sooner-spec : {M : Type 1} → statement M
 sooner-spec = tie.close (tie.spec returns returns-2)

@@ -1,122 +1,106 @@
+use Prim.Native.Nat.{_-_, _≤_}
+use native.Mathlib.Omega.{arith}
+use mathlib.Core.Path.{_∙_}
+use lib.ListN.{length, length-drop}
+use Rattle.text.proofs.Lists.{tail-part}
+use Rattle.read.proofs.ReadSteps.{blanks-within, plain-within, refuse-within, step-within}
+use Rattle.pieces.proofs.ScanLaws.{Gone, gone-end, gone-plain, gone-refused, gone-starts, gone-stop, gone-token}
 use borrow.Author.Needs.{needs}
 use Rattle.pieces.proofs.scan.scan.Statement.{statement}
 use Rattle.pieces.proofs.scan.scan.Tie as tie
-use Rattle.pieces.proofs.scan.scan.Reads as reads
-use Rattle.pieces.proofs.scan.scan.Lts as lts
-use Rattle.plain.proofs.forms.plain.Reads as plain-reads
-use Rattle.read.proofs.pass.behind_blanks.Reads as behind-blanks-reads
-use Rattle.text.proofs.refusal.placed_behind.Reads as placed-behind-reads
-use Rattle.tokens.proofs.following.next_token.Reads as next-token-reads
 
 abbrev Inv-loop : tie.InvT-loop
-Inv-loop part at₀ before₀ count₀ at before count = ?
+Inv-loop part at₀ before₀ count₀ at before count = (at ≤ length part) × (count ≤ at) × Gone part at before count
 
 abbrev μ-loop : tie.MeasureT-loop
-μ-loop part at₀ before₀ count₀ at before count = ?
+μ-loop part at₀ before₀ count₀ at before count = length part - at
 
--- src/scan.rt:37:5
 loop-holds : tie.Need-loop-holds Inv-loop μ-loop
-loop-holds c = ?
+loop-holds c = (omega arith, omega arith, gone-starts (c .before .args .part .now))
 
--- src/scan.rt:38:13
 behind-blanks-requires : tie.Need-behind-blanks-requires Inv-loop μ-loop
-behind-blanks-requires c κs = search needs
+behind-blanks-requires c κs = c .loop .inv .0
 
--- src/scan.rt:41:13
+told-requires : tie.Need-told-requires Inv-loop μ-loop
+told-requires c κs = search needs
+
 returns : tie.Need-returns Inv-loop μ-loop
-returns c = ?
+returns c = c .told .ensures ∙ gone-end (c .before .before .before .before .before .args .part .now) (c .before .before .before .loop .at) (c .before .before .before .loop .before) (c .before .before .before .loop .count) (c .before .before .before .loop .inv .2) (c .before .before .behind-blanks .result) (c .before .before .behind-blanks .ensures) (c .before .if1 .taken)
 
--- src/scan.rt:43:23
 sub-plain : tie.Need-sub-plain Inv-loop μ-loop
 sub-plain c = search needs
 
--- src/scan.rt:43:23
 part-plain-start : tie.Need-part-plain-start Inv-loop μ-loop
 part-plain-start c = search needs
 
--- src/scan.rt:43:23
 part-plain-end : tie.Need-part-plain-end Inv-loop μ-loop
 part-plain-end c = search needs
 
--- src/scan.rt:43:13
 plain-requires : tie.Need-plain-requires Inv-loop μ-loop
-plain-requires c κs = search needs
+plain-requires c κs = simp tail-part (omega (arith, length-drop (c .before .before .behind-blanks .result) (c .before .before .before .before .before .args .part .now)))
 
--- src/scan.rt:46:18
 add-at : tie.Need-add-at Inv-loop μ-loop
-add-at c = search needs
+add-at c = let w = plain-within (c .before .before .before .before .before .before .before .before .before .args .part .now) (c .before .before .before .before .before .before .behind-blanks .result) _ (c .before .before .before .plain .ensures) (c .before .if2 .taken) in omega (arith, w .0, c .before .before .before .before .before .before .before .before .before .pre)
 
--- src/scan.rt:47:13
 add-count : tie.Need-add-count Inv-loop μ-loop
-add-count c = search needs
+add-count c = omega (arith, c .before .before .before .before .before .before .before .loop .inv .0, c .before .before .before .before .before .before .before .loop .inv .1, c .before .before .before .before .before .before .before .before .before .pre)
 
--- src/scan.rt:37:5
 loop-less : tie.Need-loop-less Inv-loop μ-loop
-loop-less c = search needs
+loop-less c = let w = plain-within (c .before .before .before .before .before .before .before .before .before .args .part .now) (c .before .before .before .before .before .before .behind-blanks .result) _ (c .before .before .before .plain .ensures) (c .before .if2 .taken) in omega (arith, w .0, c .before .if2 .taken, c .before .before .before .before .before .before .behind-blanks .ensures, c .before .before .before .before .before .before .before .loop .inv .0)
 
--- src/scan.rt:37:5
 loop-again : tie.Need-loop-again Inv-loop μ-loop
-loop-again c = ?
+loop-again c = let w = plain-within (c .before .before .before .before .before .before .before .before .before .args .part .now) (c .before .before .before .before .before .before .behind-blanks .result) _ (c .before .before .before .plain .ensures) (c .before .if2 .taken) in (w .0, omega (arith, c .before .if2 .taken, c .before .before .before .before .before .before .behind-blanks .ensures, c .before .before .before .before .before .before .before .loop .inv .1), gone-plain (c .before .before .before .before .before .before .before .before .before .args .part .now) (c .before .before .before .before .before .before .before .loop .at) (c .before .before .before .before .before .before .before .loop .before) (c .before .before .before .before .before .before .before .loop .count) (c .before .before .before .before .before .before .before .loop .inv .2) (c .before .before .before .before .before .before .behind-blanks .result) (c .before .before .before .before .before .before .behind-blanks .ensures) _ (c .before .before .before .plain .ensures) (c .before .if2 .taken))
 
--- src/scan.rt:50:32
 sub-next-token : tie.Need-sub-next-token Inv-loop μ-loop
-sub-next-token c = search needs
+sub-next-token c = let f = blanks-within (c .before .before .before .before .before .before .before .before .args .part .now) (c .before .before .before .before .before .before .loop .at) (c .before .before .before .before .before .behind-blanks .result) (c .before .before .before .before .before .behind-blanks .ensures) (c .before .before .before .before .before .before .loop .inv .0) in omega (arith, f)
 
--- src/scan.rt:50:32
 part-next-token-start : tie.Need-part-next-token-start Inv-loop μ-loop
-part-next-token-start c = search needs
+part-next-token-start c = let f = blanks-within (c .before .before .before .before .before .before .before .before .args .part .now) (c .before .before .before .before .before .before .loop .at) (c .before .before .before .before .before .behind-blanks .result) (c .before .before .before .before .before .behind-blanks .ensures) (c .before .before .before .before .before .before .loop .inv .0) in omega (arith, f)
 
--- src/scan.rt:50:32
 part-next-token-end : tie.Need-part-next-token-end Inv-loop μ-loop
 part-next-token-end c = search needs
 
--- src/scan.rt:50:13
 next-token-requires : tie.Need-next-token-requires Inv-loop μ-loop
 next-token-requires c κs = search needs
 
--- src/scan.rt:52:30
 enum-known-found : tie.Need-enum-known-found Inv-loop μ-loop
 enum-known-found c = search needs
 
--- src/scan.rt:54:22
 add-at-2 : tie.Need-add-at-2 Inv-loop μ-loop
-add-at-2 c = search needs
+add-at-2 c = let w = step-within (c .before .before .before .before .before .before .before .before .before .before .before .before .before .args .part .now) (c .before .before .before .before .before .before .before .before .before .before .behind-blanks .result) _ (c .before .before .before .next-token .ensures) _ _ (c .before .found .given .1) in omega (arith, w .0, w .1, c .before .before .before .before .before .before .before .before .before .before .before .before .before .pre)
 
--- src/scan.rt:54:22
 add-at-3 : tie.Need-add-at-3 Inv-loop μ-loop
-add-at-3 c = search needs
+add-at-3 c = let w = step-within (c .before .before .before .before .before .before .before .before .before .before .before .before .before .before .args .part .now) (c .before .before .before .before .before .before .before .before .before .before .before .behind-blanks .result) _ (c .before .before .before .before .next-token .ensures) _ _ (c .before .before .found .given .1) in omega (arith, w .0, w .1, c .before .before .before .before .before .before .before .before .before .before .before .before .before .before .pre)
 
--- src/scan.rt:55:17
 add-count-2 : tie.Need-add-count-2 Inv-loop μ-loop
-add-count-2 c = search needs
+add-count-2 c = omega (arith, c .before .before .before .before .before .before .before .before .before .before .before .before .loop .inv .0, c .before .before .before .before .before .before .before .before .before .before .before .before .loop .inv .1, c .before .before .before .before .before .before .before .before .before .before .before .before .before .before .pre)
 
--- src/scan.rt:37:5
 loop-less-2 : tie.Need-loop-less-2 Inv-loop μ-loop
-loop-less-2 c = search needs
+loop-less-2 c = let w = step-within (c .before .before .before .before .before .before .before .before .before .before .before .before .before .before .args .part .now) (c .before .before .before .before .before .before .before .before .before .before .before .behind-blanks .result) _ (c .before .before .before .before .next-token .ensures) _ _ (c .before .before .found .given .1) in omega (arith, w .0, w .1, c .before .before .before .before .before .before .before .before .before .before .before .behind-blanks .ensures, c .before .before .before .before .before .before .before .before .before .before .before .before .loop .inv .0)
 
--- src/scan.rt:37:5
 loop-again-2 : tie.Need-loop-again-2 Inv-loop μ-loop
-loop-again-2 c = ?
+loop-again-2 c = let w = step-within (c .before .before .before .before .before .before .before .before .before .before .before .before .before .before .args .part .now) (c .before .before .before .before .before .before .before .before .before .before .before .behind-blanks .result) _ (c .before .before .before .before .next-token .ensures) _ _ (c .before .before .found .given .1) in (w .1, omega (arith, w .0, c .before .before .before .before .before .before .before .before .before .before .before .behind-blanks .ensures, c .before .before .before .before .before .before .before .before .before .before .before .before .loop .inv .1), gone-token (c .before .before .before .before .before .before .before .before .before .before .before .before .before .before .args .part .now) (c .before .before .before .before .before .before .before .before .before .before .before .before .loop .at) (c .before .before .before .before .before .before .before .before .before .before .before .before .loop .before) (c .before .before .before .before .before .before .before .before .before .before .before .before .loop .count) (c .before .before .before .before .before .before .before .before .before .before .before .before .loop .inv .2) (c .before .before .before .before .before .before .before .before .before .before .before .behind-blanks .result) (c .before .before .before .before .before .before .before .before .before .before .before .behind-blanks .ensures) _ (c .before .before .before .before .next-token .ensures) _ _ (c .before .before .found .given .1))
 
--- src/scan.rt:58:21
 enum-told : tie.Need-enum-told Inv-loop μ-loop
 enum-told c = search needs
 
--- src/scan.rt:59:17
-returns-2 : tie.Need-returns-2 Inv-loop μ-loop
-returns-2 c = ?
+told-requires-2 : tie.Need-told-requires-2 Inv-loop μ-loop
+told-requires-2 c κs = search needs
 
--- src/scan.rt:61:32
+returns-2 : tie.Need-returns-2 Inv-loop μ-loop
+returns-2 c = c .told2 .ensures ∙ gone-stop (c .before .before .before .before .before .before .before .before .before .before .before .before .before .args .part .now) (c .before .before .before .before .before .before .before .before .before .before .before .loop .at) (c .before .before .before .before .before .before .before .before .before .before .before .loop .before) (c .before .before .before .before .before .before .before .before .before .before .before .loop .count) (c .before .before .before .before .before .before .before .before .before .before .before .loop .inv .2) (c .before .before .before .before .before .before .before .before .before .before .behind-blanks .result) (c .before .before .before .before .before .before .before .before .before .before .behind-blanks .ensures) _ (c .before .before .before .next-token .ensures) (c .before .enum-told .given .1)
+
 enum-known-found-2 : tie.Need-enum-known-found-2 Inv-loop μ-loop
 enum-known-found-2 c = search needs
 
--- src/scan.rt:62:45
 placed-behind-requires : tie.Need-placed-behind-requires Inv-loop μ-loop
-placed-behind-requires c κs = search needs
+placed-behind-requires c κs = let f = blanks-within (c .before .before .before .before .before .before .before .before .before .before .before .before .before .args .part .now) (c .before .before .before .before .before .before .before .before .before .before .before .loop .at) (c .before .before .before .before .before .before .before .before .before .before .behind-blanks .result) (c .before .before .before .before .before .before .before .before .before .before .behind-blanks .ensures) (c .before .before .before .before .before .before .before .before .before .before .before .loop .inv .0) in let w = refuse-within (c .before .before .before .before .before .before .before .before .before .before .before .before .before .args .part .now) (c .before .before .before .before .before .before .before .before .before .before .behind-blanks .result) _ (c .before .before .before .next-token .ensures) _ (c .before .found2 .given .1) in omega (arith, w, f, c .before .before .before .before .before .before .before .before .before .before .before .before .before .pre)
 
--- src/scan.rt:63:17
+told-requires-3 : tie.Need-told-requires-3 Inv-loop μ-loop
+told-requires-3 c κs = search needs
+
 returns-3 : tie.Need-returns-3 Inv-loop μ-loop
-returns-3 c = ?
+returns-3 c = c .told3 .ensures ∙ gone-refused (c .before .before .before .before .before .before .before .before .before .before .before .before .before .before .before .args .part .now) (c .before .before .before .before .before .before .before .before .before .before .before .before .before .loop .at) (c .before .before .before .before .before .before .before .before .before .before .before .before .before .loop .before) (c .before .before .before .before .before .before .before .before .before .before .before .before .before .loop .count) (c .before .before .before .before .before .before .before .before .before .before .before .before .before .loop .inv .2) (c .before .before .before .before .before .before .before .before .before .before .before .before .behind-blanks .result) (c .before .before .before .before .before .before .before .before .before .before .before .before .behind-blanks .ensures) _ (c .before .before .before .before .before .next-token .ensures) _ _ (c .before .before .before .found2 .given .1) (c .before .placed-behind .ensures)
 
 pub scan-spec : {M : Type 1} → statement M
 scan-spec =
@@ -126,6 +110,7 @@ scan-spec =
     μ-loop
     loop-holds
     behind-blanks-requires
+    told-requires
     returns
     sub-plain
     part-plain-start
@@ -146,7 +131,9 @@ scan-spec =
     loop-less-2
     loop-again-2
     enum-told
+    told-requires-2
     returns-2
     enum-known-found-2
     placed-behind-requires
+    told-requires-3
     returns-3)

@@ -1,19 +1,23 @@
+use Prim.Native.Nat.{_≤_}
+use native.Mathlib.Omega.{arith}
+use mathlib.Core.Path.{_∙_, _≡_, sym}
+use lib.ListN.{drop, length}
+use Rattle.reading.specs.Kept.{lastQuiet}
+use Rattle.settled.specs.Bytes.{stopsByte}
+use Rattle.pieces.proofs.StopLaws.{last-end, last-here, last-none, last-on}
 use borrow.Author.Needs.{needs}
 use Rattle.pieces.proofs.waiting.behind_stops.Statement.{statement}
 use Rattle.pieces.proofs.waiting.behind_stops.Tie as tie
-use Rattle.pieces.proofs.waiting.behind_stops.Reads as reads
-use Rattle.pieces.proofs.waiting.behind_stops.Lts as lts
-use Rattle.settled.proofs.bytes.is_stop.Reads as is-stop-reads
 
 abbrev Inv-loop : tie.InvT-loop
-Inv-loop part from i₀ i = ?
+Inv-loop part from i₀ i = (from ≤ i) × (i ≤ length part) × (lastQuiet stopsByte (drop i part) ≡ 0)
 
 abbrev μ-loop : tie.MeasureT-loop
-μ-loop part from i₀ i = ?
+μ-loop part from i₀ i = i
 
 -- src/waiting.rt:45:5
 loop-holds : tie.Need-loop-holds Inv-loop μ-loop
-loop-holds c = ?
+loop-holds c = (c .before .pre, omega arith, last-end (c .before .args .part .now) (c .before .args .from))
 
 -- src/waiting.rt:46:25
 sub-is-stop : tie.Need-sub-is-stop Inv-loop μ-loop
@@ -29,7 +33,7 @@ is-stop-requires c κs = search needs
 
 -- src/waiting.rt:47:13
 returns : tie.Need-returns Inv-loop μ-loop
-returns c = ?
+returns c = last-here (c .before .before .before .before .before .before .args .part .now) (c .before .before .before .before .before .before .args .from) (c .before .before .before .before .loop .i) (c .before .before .before .loop-test .taken) (c .before .before .before .before .loop .inv .1) (c .before .before .before .before .loop .inv .2) (sym (c .before .is-stop .ensures) ∙ c .if1 .taken)
 
 -- src/waiting.rt:49:9
 sub-i : tie.Need-sub-i Inv-loop μ-loop
@@ -41,11 +45,11 @@ loop-less c = search needs
 
 -- src/waiting.rt:45:5
 loop-again : tie.Need-loop-again Inv-loop μ-loop
-loop-again c = ?
+loop-again c = (omega (arith, c .before .before .before .loop-test .taken), omega (arith, c .before .before .before .before .loop .inv .1), last-on (c .before .before .before .before .before .before .args .part .now) (c .before .before .before .before .before .before .args .from) (c .before .before .before .before .loop .i) (c .before .before .before .loop-test .taken) (c .before .before .before .before .loop .inv .1) (c .before .before .before .before .loop .inv .2) (sym (c .before .is-stop .ensures) ∙ c .if1 .left))
 
 -- src/waiting.rt:40:1
 returns-2 : tie.Need-returns-2 Inv-loop μ-loop
-returns-2 c = ?
+returns-2 c = last-none (c .before .before .before .args .part .now) (c .before .before .before .args .from) (c .before .loop .i) (omega (arith, c .loop-test .left, c .before .loop .inv .0)) (c .before .loop .inv .2)
 
 pub behind-stops-spec : {M : Type 1} → statement M
 behind-stops-spec =
