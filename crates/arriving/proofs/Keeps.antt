@@ -73,7 +73,7 @@ module _ (R : Reader) (bar : ℕ → List ℕ → ℕ → Passing) (O : Owes R) 
       }
 
   -- the entries that a byte decides
-  byte-keeps : (at : ℕ) (rest : List ℕ) (b : ℕ) → Keeps at rest (b ∷ []) (decided R at (rest ++ b ∷ []) b) (endOf at (decided R at (rest ++ b ∷ []) b))
+  pub byte-keeps : (at : ℕ) (rest : List ℕ) (b : ℕ) → Keeps at rest (b ∷ []) (decided R at (rest ++ b ∷ []) b) (endOf at (decided R at (rest ++ b ∷ []) b))
       (drop (endOf at (decided R at (rest ++ b ∷ []) b) - at) (rest ++ b ∷ []))
   byte-keeps at rest b =
       let s : List ℕ = rest ++ b ∷ [] in

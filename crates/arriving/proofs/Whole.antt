@@ -81,7 +81,7 @@ module _ (R : Reader) (O : Owes R) where
 
   module _ (bar : ℕ → List ℕ → ℕ → Passing) where
     -- a byte that is taken
-    taken-meant : (at : ℕ) (rest v : List ℕ) (b : ℕ)
+    pub taken-meant : (at : ℕ) (rest v : List ℕ) (b : ℕ)
         → readPart (R .tok) at (rest ++ b ∷ v) ≡ taken R at (rest ++ b ∷ []) b .entries ▸ meant R (taken R at (rest ++ b ∷ []) b .next) v
     taken-meant at rest v b =
         let es : List Entry = decided R at (rest ++ b ∷ []) b in

@@ -74,16 +74,22 @@ body-swap (passes {a} {b} {s} {t} e x) =
       again = λ t′. passes (subst (λ (c : ℕ). markOf a c ≡ Neither) same e) (p .again t′);
     }
 
-record Swapped (s t : List ℕ) : Type 0 where
-  front : List ℕ
-  split : s ≡ front ++ t
-  again : (t′ : List ℕ) → Gap (front ++ t′) t′
+pub record Swapped (s t : List ℕ) : Type 0 where
+  pub front : List ℕ
+  pub split : s ≡ front ++ t
+  pub again : (t′ : List ℕ) → Gap (front ++ t′) t′
 
 blank-lf : blank 0x0a ≡ true
 unfolding blank within
 blank-lf = refl
 
-swap : {s t : List ℕ} → Gap s t → Clear t → Swapped s t
+-- what is clear begins with no LF
+clear-no-lf : (t : List ℕ) → Clear t → (v : List ℕ) → t ≡ 0x0a ∷ v → ⊥
+unfolding encode
+clear-no-lf t c v e = c .no-blank 0x0a v (omega arith, inl (omega arith)) blank-lf e
+
+-- a gap is one before anything, unless an LF stands behind it, which ends a line
+pub swap : {s t : List ℕ} → Gap s t → ((v : List ℕ) → t ≡ 0x0a ∷ v → ⊥) → Swapped s t
 unfolding encode
 swap none c = record { front = []; split = refl; again = λ t′. none }
 swap (space {c} {s} {t} sc e g) k =
@@ -96,7 +102,7 @@ swap (space {c} {s} {t} sc e g) k =
 swap (line {w} {s} {t} l g) c = let p = swap g c in go (p .front) (p .split) (p .again)
   where
     go : (f : List ℕ) → 0x0a ∷ s ≡ f ++ t → ((t′ : List ℕ) → Gap (f ++ t′) t′) → Swapped (0x2f ∷ 0x2f ∷ (w ++ 0x0a ∷ s)) t
-    go [] e again = absurd (c .no-blank 0x0a s (omega arith, inl (omega arith)) blank-lf (sym e))
+    go [] e again = absurd (c s (sym e))
     go (a ∷ f) e again =
         let same : 0x0a ≡ a = heads e in
         let rest : s ≡ f ++ t = tails e in
@@ -138,7 +144,7 @@ front-clear u v k h le =
     let w = clear-exactly (u ++ v) k .0 h .1 in
     let t : List ℕ = drop k u in
     let split : drop k (u ++ v) ≡ t ++ v = drop-append-le k u v le in
-    let p = swap (w .0) (w .1) in
+    let p = swap (w .0) (clear-no-lf (drop k (u ++ v)) (w .1)) in
     let same : take k u ++ (t ++ v) ≡ p .front ++ (t ++ v) =
     sym (append-assoc (take k u) t v) ∙ ap (λ (x : List ℕ). x ++ v) (take-append-drop k u) ∙ p .split ∙ ap (λ (x : List ℕ). p .front ++ x) split in
     let g : Gap (p .front ++ t) t = p .again t in

@@ -2,7 +2,7 @@
 --     within-reaches                         where a gap says so, it reaches to the end
 --     reach-keeps, passed-keeps              its bytes are kept
 --     cut-bytes, cut-lead, cut-front, cut-no-char    what a front of a character is made of
---     part-keeps, within-keeps               such a front behind it is kept, and both are
+--     part-keeps, then-keeps, within-keeps   such a front behind it is kept; what is kept piece after piece; both together
 --     clear-with-part                        such a front behind what has begun leaves the gap as it is
 -- Assumes nothing.
 use Prim.Native.Nat.{ℕ, suc, _*_, _+_, _-_, _<_, _≤_, pred}
@@ -15,7 +15,7 @@ use lib.Dec.{eqb, ltb}
 use lib.ListN.{drop, drop-of-length-le, getD, length, length-append, length-drop, take, take-append-drop}
 use lib.Seq.{drop-append-add, drop-append-le, length-take-le, take-append-add, take-append-le, take-take}
 use borrow.Author.Tests.{le-ltb, lt-leb, ltb-false, ne-eqb}
-use Rattle.text.proofs.Choices.{and-false, bool-cases, either, lt-or-le}
+use Rattle.text.proofs.Choices.{and-false, either, lt-or-le}
 use Rattle.text.specs.Refusals.{eof, unclosedBlockComment, unexpectedChar}
 use Rattle.text.proofs.Utf8Agree.{char-encode, charLen-char}
 use Rattle.text.specs.Utf8.{Char, charLen, encode}
@@ -34,30 +34,26 @@ use Rattle.comments.proofs.BlockLaws.{after, step}
 use Rattle.comments.specs.Blocks.{blockEnd, blockFrom, decisionOf}
 use Rattle.comments.specs.declared.block.Decision.the-variants.{PassOn}
 use Rattle.comments.specs.Lines.{lineEnd, lineFrom}
-use Rattle.comments.specs.declared.block.CommentEnd.{CommentEnd}
-use Rattle.comments.specs.declared.block.CommentEnd.the-variants.{Closed, Unclosed}
+use Rattle.comments.specs.declared.block.CommentEnd.the-variants.{Unclosed}
 use Rattle.comments.specs.declared.gap.Item.{Item}
-use Rattle.comments.specs.declared.gap.Item.the-variants.{Blank, BlockOpen, Ended, LineOpen, Other, Unexpected}
+use Rattle.comments.specs.declared.gap.Item.the-variants.{BlockOpen, Ended, LineOpen, Other, Unexpected}
 use Rattle.gapped.proofs.Blanks.{blank-front, encode-pos}
 use Rattle.gaps.proofs.BlockOpens.{other-passed}
 use Rattle.gaps.proofs.Items.{Front, fronts, item-block, item-last, item-line, item-odd}
 use Rattle.gaps.proofs.Canon.{Ways, canon-is, rest, rest-pass, ways}
 use Rattle.gaps.specs.Opens.{canon, front, lastByte, marks, openOf}
 use Rattle.gaps.specs.Passes.{passedBy, passedOf}
-use Rattle.gaps.specs.declared.pass.Passed.{Passed}
 use Rattle.gaps.specs.declared.pass.Passed.the-variants.{Begins, Within}
 use Rattle.gaps.specs.declared.state.Open.{Open}
 use Rattle.gaps.specs.declared.state.Open.the-variants.{Clear, Slash, Line, Block}
-use Rattle.reading.specs.Tokens.{Answer}
-use Rattle.reading.specs.Tokens.Answer.{refuse, stop, token}
 use Rattle.tokens.proofs.RonLaws.{gap-end}
 use Rattle.tokens.specs.Ron.{byGap, ronToken}
 use Rattle.arriving.proofs.Whole.{both, cut}
 use Rattle.arriving.proofs.Waits.{Free, Unlooked, Waits, keeping, unlooked, waits}
 use Rattle.arriving.proofs.Waits.Waits.{no-more, not-ended}
-use Rattle.arriving.specs.Arrivals.{Coming, Given, Passing, looks, piece}
-use Rattle.arriving.specs.Arrivals.Coming.{going, halted, shut}
-use Rattle.arriving.specs.Arrivals.Passing.{halt, pass}
+use Rattle.arriving.specs.Arrivals.{Given, looks, piece}
+use Rattle.arriving.specs.Arrivals.Coming.{going}
+use Rattle.arriving.specs.Arrivals.Passing.{pass}
 use Rattle.arriving.specs.Owing.{tellsEnd}
 use Rattle.settled.proofs.Owed.{ron}
 use Rattle.settled.proofs.CodeLaws.{nothing-cut}
@@ -156,7 +152,7 @@ high-3 a b c h k m = (more {a = a} (omega arith) (more k (more m none)), h)
 high-4 : (a b c d : ℕ) → 0xC2 ≤ a → 0x80 ≤ b → 0x80 ≤ c → 0x80 ≤ d → High (a ∷ b ∷ c ∷ d ∷ []) × (0xC2 ≤ a)
 high-4 a b c d h k m n = (more {a = a} (omega arith) (more k (more m (more n none))), h)
 
-char-high : {l : List ℕ} → Char l → 2 ≤ length l → High l × (0xC2 ≤ getD l 0 0)
+pub char-high : {l : List ℕ} → Char l → 2 ≤ length l → High l × (0xC2 ≤ getD l 0 0)
 char-high (utf8-1 h) n = absurd (omega arith)
 char-high (utf8-2 {a} {b} h k) n = high-2 a b (h .0) (k .0)
 char-high (utf8-3a {a} {b} {c} e h k) n = high-3 a b c (omega arith) (omega (arith, h .0)) (k .0)
@@ -348,6 +344,14 @@ part-keeps y p i at r c l =
 
 -- ---- both
 
+-- bytes that are kept, and then others that are
+pub then-keeps : (s t x y z : List ℕ) (at m n : ℕ) → piece ronReader barOf (going at x) s ≡ keeping at y m → piece ronReader barOf (going at y) t ≡ keeping at z n
+    → piece ronReader barOf (going at x) (s ++ t) ≡ keeping at z (m + n)
+then-keeps s t x y z at m n e f =
+    cut ronReader barOf s t (going at x)
+    ∙ ap (λ (g : Given). both g (λ b. piece ronReader barOf b t)) e
+    ∙ ap (λ (g : Given). record { entries = g .entries; next = g .next; bytes = m + g .bytes }) f
+
 pub within-keeps : (y p : List ℕ) (o : Open) (i at : ℕ) → passedOf Clear y ≡ Within o → Cut p → i ≤ length (y ++ p)
     → piece ronReader barOf (going at (take i (y ++ p))) (drop i (y ++ p)) ≡ keeping at (y ++ p) (length (y ++ p) - i)
 within-keeps y p o i at h c l = either (lt-or-le (length y) i) (λ k. past (i - length y) (omega arith)) before
@@ -367,12 +371,10 @@ within-keeps y p o i at h c l = either (lt-or-le (length y) i) (λ k. past (i - 
     before : i ≤ length y → piece ronReader barOf (going at (take i (y ++ p))) (drop i (y ++ p)) ≡ keeping at (y ++ p) (length (y ++ p) - i)
     before m =
         let n : length y - i + (length p - 0) ≡ length (y ++ p) - i = omega (arith, length-append y p) in
-        let none : piece ronReader barOf (going at y) p ≡ keeping at (y ++ p) (length p - 0) =
+        let all : piece ronReader barOf (going at y) p ≡ keeping at (y ++ p) (length p - 0) =
         ap (λ (x : List ℕ). piece ronReader barOf (going at x) p) (sym (append-nil y)) ∙ part-keeps y p 0 at r c (omega arith) in
         ap₂ (λ (x w : List ℕ). piece ronReader barOf (going at x) w) (take-append-le i y p m) (drop-append-le i y p m)
-        ∙ cut ronReader barOf (drop i y) p (going at (take i y))
-        ∙ ap (λ (g : Given). both g (λ b. piece ronReader barOf b p)) (reach-keeps y i at r m)
-        ∙ ap (λ (g : Given). record { entries = g .entries; next = g .next; bytes = length y - i + g .bytes }) none
+        ∙ then-keeps (drop i y) p (take i y) y (y ++ p) at (length y - i) (length p - 0) (reach-keeps y i at r m) all
         ∙ ap (keeping at (y ++ p)) n
 
 -- ---- what has begun behind a gap goes on with such a front

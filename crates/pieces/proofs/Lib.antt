@@ -1,7 +1,11 @@
+pub mod PlaceLaws
 pub mod GapCuts
 pub mod RonAlike
 pub mod Reaching
 pub mod GapKeeps
+pub mod Rests
+pub mod OddKeeps
+pub mod OddGaps
 pub mod ScanLaws
 pub mod JudgeLaws
 pub mod FrontLaws
@@ -9,7 +13,14 @@ pub mod StopLaws
 pub mod WaitLaws
 pub mod WaitedRuns
 pub mod TurnLaws
+pub mod RunLaws
 pub mod OrderLaws
 pub mod LimitLaws
 pub mod LayLaws
 pub mod LastLaws
+pub mod PassedLaws
+pub mod CutLaws
+pub mod TakenLaws
+pub mod StandLaws
+pub mod OutcomeLaws
+pub mod AnswerLaws

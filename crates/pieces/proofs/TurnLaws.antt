@@ -7,7 +7,7 @@ use mathlib.Core.List.{List, [], _++_, _∷_, append-assoc, append-nil}
 use mathlib.Core.Path.{_≡_, ap, ap₂, refl, subst, sym, _∙_}
 use lib.Dec.{eqb, leb, ltb}
 use lib.ListN.{drop, drop-of-length-le, getD, length, length-append, length-drop, length-take, take, take-append-drop}
-use lib.Seq.{drop-append-le, length-take-le}
+use lib.Seq.{drop-append-le, getD-drop, getD-take, length-take-le}
 use borrow.Author.Tests.{eq-eqb, ne-eqb, le-leb, lt-leb, lt-ltb, le-ltb, leb-true, ltb-true, eqb-true}
 use Rattle.text.proofs.Choices.{bool-cases, either, lt-or-le}
 use Rattle.text.specs.Refusals.{entryTooLong, placedBehind, unexpectedChar}
@@ -16,6 +16,9 @@ use Rattle.rows.specs.declared.Entry.{Entry}
 use Rattle.comments.specs.Gaps.{gapOf}
 use Rattle.comments.specs.declared.gap.Gap.{Gap}
 use Rattle.comments.specs.declared.gap.Gap.the-variants as gap
+use Rattle.comments.proofs.GapLaws.{EndsBy, gap-bounded, gap-restarts}
+use Rattle.gapped.proofs.Exactly.{five-exactly}
+use Rattle.gapped.proofs.Passing.{gap-passed}
 use Rattle.gaps.proofs.Cuts.{begins-told, unexpected-told}
 use Rattle.gaps.specs.Opens.{front, openOf}
 use Rattle.gaps.specs.Passes.{passedBy, passedOf}
@@ -40,7 +43,7 @@ use Rattle.settled.specs.Settled.{ronReader}
 use Rattle.pieces.specs.Bars.{barBy, barOf, bytesGive, mostHeld}
 use Rattle.pieces.specs.Come.{later, sooner}
 use Rattle.pieces.specs.inner.Runs.{standsBy, standsIn}
-use Rattle.pieces.specs.inner.Turns.{between, decidedAt, turnBy, turnOf, turnPassed, undecidedAt}
+use Rattle.pieces.specs.inner.Turns.{behindSlashAt, between, decidedAt, turnBy, turnOf, turnPassed, undecidedAt}
 use Rattle.pieces.specs.inner.Waiting.{waitedFrom, waitedOf}
 use Rattle.pieces.specs.declared.turn.Stands.{Stands}
 use Rattle.pieces.specs.declared.turn.Stands.the-variants as stands
@@ -52,26 +55,11 @@ use Rattle.pieces.specs.declared.waiting.Waited.{Waited}
 use Rattle.pieces.proofs.GapCuts.{front-clear}
 use Rattle.pieces.proofs.GapKeeps.{clear-with-part, cut-bytes, high-at, passed-keeps, within-keeps}
 use Rattle.settled.proofs.WordEnds.{stop-ascii}
+use Rattle.pieces.proofs.OddGaps.{odd-keeps, odd-shuts}
+use Rattle.pieces.proofs.PlaceLaws.{later-left, later-right, sooner-left, sooner-right}
+use Rattle.pieces.proofs.Rests.{halted-rest, shut-rest}
 use Rattle.pieces.proofs.RonAlike.{bar-moves, ron-alike-clear}
 use Rattle.pieces.proofs.WaitedRuns.{Decided, Gave, Stopping, gives, shuts as shut-by, waited-gives, waits}
-
--- ---- places
-
-pub later-left : (a b : ℕ) → b ≤ a → later a b ≡ a
-unfolding later
-later-left a b h = either (lt-or-le b a) (λ l. rw (lt-leb a b l)) (λ l. rw (le-leb a b l) (omega arith))
-
-pub later-right : (a b : ℕ) → a ≤ b → later a b ≡ b
-unfolding later
-later-right a b h = rw (le-leb a b h)
-
-pub sooner-left : (a b : ℕ) → a ≤ b → sooner a b ≡ a
-unfolding sooner
-sooner-left a b h = rw (le-leb a b h)
-
-pub sooner-right : (a b : ℕ) → b ≤ a → sooner a b ≡ b
-unfolding sooner
-sooner-right a b h = either (lt-or-le b a) (λ l. rw (lt-leb a b l)) (λ l. rw (le-leb a b l) (omega arith))
 
 -- ---- bytes between two places
 
@@ -163,16 +151,6 @@ joined-run s at a b c x h l k e =
     ∙ cut ronReader barOf (between a b s) (between b c s) (going at x)
     ∙ ap (λ (g : Given). both g (λ c′. bytesGive c′ (between b c s))) e
 
-shut-rest : (z : List ℕ) (d : Refusal) → bytesGive (shut d) z ≡ record { entries = []; next = shut d; bytes = 0 }
-unfolding piece
-shut-rest [] d = refl
-shut-rest (b ∷ z) d = ap (λ (g : Given). record { entries = g .entries; next = g .next; bytes = 0 + g .bytes }) (shut-rest z d)
-
-halted-rest : (z : List ℕ) (d : Refusal) → bytesGive (halted d) z ≡ record { entries = []; next = halted d; bytes = 0 }
-unfolding piece
-halted-rest [] d = refl
-halted-rest (b ∷ z) d = ap (λ (g : Given). record { entries = g .entries; next = g .next; bytes = 0 + g .bytes }) (halted-rest z d)
-
 none-between : (s : List ℕ) (at a : ℕ) (x : List ℕ) → bytesGive (going at x) (between a a s) ≡ keeping at x (a - a)
 unfolding piece
 none-between s at a x =
@@ -261,6 +239,26 @@ none-after x y {at} n e = ap (λ (l : List ℕ). record { entries = []; next = g
 
 later-least : (a b : ℕ) → b ≤ later a b
 later-least a b = either (lt-or-le a b) (λ l. omega (arith, later-right a b (omega arith))) (λ l. omega (arith, later-left a b l))
+
+later-first : (a b : ℕ) → a ≤ later a b
+later-first a b = either (lt-or-le a b) (λ l. omega (arith, later-right a b (omega arith))) (λ l. omega (arith, later-left a b l))
+
+later-moved : (p at seen : ℕ) → at ≤ seen → seen + (later p (seen - at + 1) - (seen - at)) ≡ later (at + p) (seen + 1)
+later-moved p at seen h =
+    either (lt-or-le (seen - at + 1) p)
+    (λ l. omega (arith, later-left p (seen - at + 1) (omega arith), later-left (at + p) (seen + 1) (omega arith)))
+    (λ l. omega (arith, later-right p (seen - at + 1) l, later-right (at + p) (seen + 1) (omega arith)))
+
+nothing-more : (at : ℕ) (x : List ℕ) → bytesGive (going at x) [] ≡ keeping at x 0
+unfolding piece
+nothing-more at x = refl
+
+-- where a 5 stands: behind the `/`, and within the text
+odd-first : (y : List ℕ) (p : ℕ) → gapOf y ≡ gap.Refused (unexpectedChar p) → 0 < p
+odd-first y p h = let k = five-exactly y p .0 h in omega (arith, k .3, gap-passed (k .2 .0) .whole)
+
+odd-inside : (y : List ℕ) (p : ℕ) → gapOf y ≡ gap.Refused (unexpectedChar p) → p ≤ length y
+odd-inside y p h = subst (EndsBy (length y)) h (gap-bounded y)
 
 -- where a token begins
 passed-begins : (y : List ℕ) (k : ℕ) → gapOf y ≡ gap.Clear k → k < length y → passedOf Clear y ≡ Begins k
@@ -650,5 +648,206 @@ module _ (s : List ℕ) (at seen whole : ℕ) (low : at ≤ seen) (top : seen �
               (λ i. far i ∙ sym (later-right seen (at + k + 4096) (omega (arith, here-seen, far i)))) (λ i. omega (arith, later-least seen (at + k + 4096), near))
           go (gives u z n m end e l st p le v) =
               subst (λ (c : ℕ). Goes s at seen whole m (at + k + end) c) (sym (sum-is u n l)) (gives-means u z m end e st p (omega (arith, l)) v)
-          go (shut-by u z n m end d e l p v) =
+          go (shut-by u z n m end d e l p i v) =
               subst (λ (c : ℕ). Stops s at seen whole m (cond (eqb m 0) at (at + k + end)) c (stands.Stopped (placedBehind (at + k) d))) (sym (sum-is u n l)) (shuts-means u z m end d e v)
+
+    -- ---- what has begun, decided or not
+    begun-means : Means s at seen whole (decidedAt s at (at + k) seen)
+    unfolding decidedAt
+    begun-means =
+        let hr : ℕ = later seen (at + k) in
+        let to : ℕ = sooner (at + k + 4096) (length s) in
+        let lt : at + k < to = either (lt-or-le (at + k + 4096) (length s)) (λ l. omega (arith, sooner-left (at + k + 4096) (length s) (omega arith))) (λ l. omega (arith, sooner-right (at + k + 4096) (length s) l, before-whole)) in
+        let near : to ≤ at + k + 4096 = either (lt-or-le (at + k + 4096) (length s)) (λ l. omega (arith, sooner-left (at + k + 4096) (length s) (omega arith))) (λ l. omega (arith, sooner-right (at + k + 4096) (length s) l)) in
+        let inside : to ≤ length s = either (lt-or-le (at + k + 4096) (length s)) (λ l. omega (arith, sooner-left (at + k + 4096) (length s) (omega arith))) (λ l. omega (arith, sooner-right (at + k + 4096) (length s) l)) in
+        let far : to < length s → to ≡ at + k + 4096 = λ i. either (lt-or-le (at + k + 4096) (length s)) (λ l. sooner-left (at + k + 4096) (length s) (omega arith)) (λ l. absurd (omega (arith, sooner-right (at + k + 4096) (length s) l))) in
+        either (lt-or-le hr to)
+        (λ l. rw (lt-leb to hr l) (by-decided to l near inside (waitedOf (between (at + k) to s) (hr - (at + k))) (decided-is to l near inside) far))
+        (λ l. rw (le-leb to hr l) (past to lt l far))
+      where
+        past : (to : ℕ) → at + k < to → to ≤ later seen (at + k) → (to < length s → to ≡ at + k + 4096) → Means s at seen whole (undecidedAt s at (at + k) seen)
+        past to lt l far =
+            let is-seen : later seen (at + k) ≡ seen = either (lt-or-le seen (at + k)) (λ i. absurd (omega (arith, later-right seen (at + k) (omega arith)))) (λ i. later-left seen (at + k) i) in
+            undecided-means seen (none-between s at seen (between at seen s)) (omega arith) top (omega (arith, is-seen))
+            (λ i. sym (later-left seen (at + k + 4096) (omega (arith, is-seen, far (omega (arith, is-seen))))))
+            (λ i. omega (arith, i, later-first seen (at + k + 4096)))
+
+  -- ---- a `/` and what is no comment
+  odd-means : (p : ℕ) → gapOf (between at whole s) ≡ gap.Refused (unexpectedChar p) → passedOf Clear (between at whole s) ≡ Unexpected p
+      → 0 < p → p ≤ length (between at whole s) → Means s at seen whole (behindSlashAt s at (at + p) seen)
+  unfolding behindSlashAt endOf
+  odd-means p h q pos le =
+      let byte : getD s (at + p - 1) 0 ≡ getD (between at whole s) (p - 1) 0 = byte-is p pos le in
+      either (bool-cases (eqb (getD s (at + p - 1) 0) 0x2f))
+      (λ t. rw t (keeps-all p h q (subst (λ (b : ℕ). eqb b 0x2f ≡ true) byte t)))
+      (λ t. either (bool-cases (eqb seen (length s)))
+      (λ e. rw (t, e) (stands-still p q (eqb-true seen (length s) e)))
+      (λ e. rw (t, e) (shuts-now p h (subst (λ (b : ℕ). eqb b 0x2f ≡ false) byte t) (not-all e))))
+    where
+      ly : length (between at whole s) ≡ whole - at
+      ly = between-length s at whole wide
+      not-all : eqb seen (length s) ≡ false → seen < length s
+      not-all e = either (lt-or-le seen (length s)) (λ l. l) (λ l. let z : true ≡ false = sym (eq-eqb seen (length s) (omega arith)) ∙ e in let k : _≡_ {A = ℕ} 0 1 = cc in absurd (omega arith))
+      byte-is : (p : ℕ) → 0 < p → p ≤ length (between at whole s) → getD s (at + p - 1) 0 ≡ getD (between at whole s) (p - 1) 0
+      byte-is p pos le =
+          let e : at + (p - 1) ≡ at + p - 1 = omega arith in
+          sym (getD-drop at (take whole s) (p - 1) 0 ∙ ap (λ (i : ℕ). getD (take whole s) i 0) e ∙ getD-take whole s (at + p - 1) 0 (omega (arith, ly)))
+      run-all : (g : Given) → bytesGive (going at (take (seen - at) (between at whole s ++ drop whole s))) (drop (seen - at) (between at whole s ++ drop whole s)) ≡ g
+          → bytesGive (going at (between at seen s)) (drop seen s) ≡ g
+      run-all g e =
+          ap₂ (λ (a b : List ℕ). bytesGive (going at a) b) (sym (ap (take (seen - at)) all-is ∙ seen-is)) (sym (ap (drop (seen - at)) all-is ∙ left-is)) ∙ e
+      keeps-all : (p : ℕ) → gapOf (between at whole s) ≡ gap.Refused (unexpectedChar p) → passedOf Clear (between at whole s) ≡ Unexpected p → eqb (getD (between at whole s) (p - 1) 0) 0x2f ≡ true → Stops s at seen whole 0 at (length s) (stands.Held at)
+      keeps-all p h q t =
+          let k = odd-keeps (between at whole s) (drop whole s) p (seen - at) at h t cut-off (omega (arith, ap length all-is, len-all)) in
+          record {
+            entries = [];
+            next = going at (drop at s);
+            taken = length (drop at s) - (seen - at);
+            run = run-all (keeping at (between at whole s ++ drop whole s) (length (between at whole s ++ drop whole s) - (seen - at))) k ∙ ap (λ (l : List ℕ). keeping at l (length l - (seen - at))) all-is;
+            count = refl;
+            ends = refl;
+            all = omega (arith, len-all);
+            stands-is = kept-stands ∙ ap (λ (x : Passed). standsBy x at) q;
+          }
+      stands-still : (p : ℕ) → passedOf Clear (between at whole s) ≡ Unexpected p → seen ≡ length s → Stops s at seen whole 0 at seen (stands.Held at)
+      stands-still p q e =
+          record {
+            entries = [];
+            next = going at (drop at s);
+            taken = 0;
+            run = ap₂ (λ (a b : List ℕ). bytesGive (going at a) b) (between-all s at seen (omega (arith, e))) (let l : length s ≤ seen = omega (arith, e) in drop-of-length-le s l) ∙ nothing-more at (drop at s);
+            count = refl;
+            ends = refl;
+            all = omega arith;
+            stands-is = kept-stands ∙ ap (λ (x : Passed). standsBy x at) q;
+          }
+      shuts-now : (p : ℕ) → gapOf (between at whole s) ≡ gap.Refused (unexpectedChar p) → eqb (getD (between at whole s) (p - 1) 0) 0x2f ≡ false → seen < length s
+          → Stops s at seen whole 0 at (later (at + p) (seen + 1)) (stands.Stopped (unexpectedChar (at + p)))
+      shuts-now p h t l =
+          let k = odd-shuts (between at whole s) (drop whole s) p (seen - at) at h t cut-off (omega (arith, ap length all-is, len-all)) in
+          record {
+            entries = [];
+            next = shut (unexpectedChar (at + p));
+            taken = later p (seen - at + 1) - (seen - at);
+            run = run-all (record { entries = []; next = shut (unexpectedChar (at + p)); bytes = later p (seen - at + 1) - (seen - at) }) k;
+            count = refl;
+            ends = refl;
+            all = later-moved p at seen low;
+            stands-is = refl;
+          }
+
+-- ---- a turn
+
+pub turn-means : (s : List ℕ) (at seen whole : ℕ) → at ≤ seen → seen ≤ length s → at ≤ whole → whole ≤ length s → Cut (drop whole s) → Means s at seen whole (turnOf s at seen whole)
+unfolding turnOf front
+turn-means s at seen whole low top fit wide c = go (passedOf Clear (between at whole s)) refl
+  where
+    go : (x : Passed) → passedOf Clear (between at whole s) ≡ x → Means s at seen whole (turnPassed x s at seen)
+    go (Within o) e = within-means s at seen whole low top fit wide c o e
+    go (Begins k) e =
+        let t = begins-told Clear (between at whole s) k e in
+        begun-means s at seen whole low top fit wide c k (t .0 ∙ ap gap.Clear (omega arith)) (t .1)
+    go (Unexpected p) e =
+        let t = unexpected-told Clear (between at whole s) p e in
+        let h : gapOf (between at whole s) ≡ gap.Refused (unexpectedChar p) = t ∙ ap (λ (n : ℕ). gap.Refused (unexpectedChar n)) (omega arith) in
+        odd-means s at seen whole low top fit wide c p h e (odd-first (between at whole s) p h) (odd-inside (between at whole s) p h)
+
+-- ---- what a window says is small enough
+
+-- the numbers of what is decided first
+abbrev pub Small : ℕ → Verdict → Type 0
+Small k Nothing = Unit {0}
+Small k (Gives n end) = end ≤ k
+Small k (Shuts n end d) = (end ≤ k) × (d .place ≤ k)
+
+pub waited-small : (part : List ℕ) (seen : ℕ) → length part ≤ 4096 → seen ≤ length part
+    → (waitedOf part seen .bytes ≤ length part) × Small (length part) (waitedOf part seen .verdict)
+unfolding waitedOf
+waited-small part seen l m = go (waited-gives (drop seen part) (take seen part) (short-free (take seen part) (drop seen part) (omega (arith, ap length (take-append-drop seen part)))))
+  where
+    go : {r : Waited} → Decided (take seen part) (drop seen part) r → (r .bytes ≤ length part) × Small (length part) (r .verdict)
+    go (waits k e r) = (omega (arith, e, ap length (take-append-drop seen part)), tt)
+    go (gives u z k n end e f st l′ le v) =
+        let b : k ≤ length part = omega (arith, f, ap length e, length-append u z, length-take-le seen part m, length-drop seen part) in (b, omega (arith, b, le))
+    go (shut-by u z k n end d e f l′ m′ v) =
+        let b : k ≤ length part = omega (arith, f, ap length e, length-append u z, length-take-le seen part m, length-drop seen part) in (b, (omega (arith, b, l′), omega (arith, b, m′)))
+
+-- ---- what the code answers
+
+-- nothing is left to look at
+pub decided-past : (s : List ℕ) (at start seen here to : ℕ) → here ≡ later seen start → to ≡ sooner (start + mostHeld) (length s) → to ≤ here → undecidedAt s at start seen ≡ decidedAt s at start seen
+unfolding decidedAt
+decided-past s at start seen here to a b l = rw (← a, ← b, le-leb to here l)
+
+pub decided-waits : (s : List ℕ) (at start seen here to : ℕ) (w : Waited) → here ≡ later seen start → to ≡ sooner (start + mostHeld) (length s) → here < to
+    → w ≡ waitedOf (take (to - start) (drop start s)) (here - start) → turnBy (w .verdict) s at start seen (start + w .bytes) ≡ decidedAt s at start seen
+unfolding decidedAt
+decided-waits s at start seen here to w a b l e =
+    let q : w ≡ waitedOf (between start to s) (here - start) = e ∙ ap (λ (x : List ℕ). waitedOf x (here - start)) (sym (between-take s start to)) in
+    rw (← a, ← b, lt-leb to here l, ← q)
+
+-- the window in which it waits
+pub window-fits : (s : List ℕ) (start seen here to : ℕ) → here ≡ later seen start → to ≡ sooner (start + mostHeld) (length s) → start < length s → seen ≤ length s → here < to
+    → (length (take (to - start) (drop start s)) ≡ to - start) × (to - start ≤ 4096) × (here - start < to - start) × (start ≤ here) × (to ≤ length s)
+window-fits s start seen here to a b l m i =
+    let top : to ≤ length s = either (lt-or-le (start + 4096) (length s)) (λ x. omega (arith, b, sooner-left (start + 4096) (length s) (omega arith))) (λ x. omega (arith, b, sooner-right (start + 4096) (length s) x)) in
+    let near : to ≤ start + 4096 = either (lt-or-le (start + 4096) (length s)) (λ x. omega (arith, b, sooner-left (start + 4096) (length s) (omega arith))) (λ x. omega (arith, b, sooner-right (start + 4096) (length s) x)) in
+    let low : start ≤ here = omega (arith, a, later-least seen start) in
+    (length-take-le (to - start) (drop start s) (omega (arith, length-drop start s)), omega arith, omega arith, low, top)
+
+pub waited-fits : (s : List ℕ) (start seen here to : ℕ) (w : Waited) → here ≡ later seen start → to ≡ sooner (start + mostHeld) (length s) → start < length s → seen ≤ length s → here < to
+    → w ≡ waitedOf (take (to - start) (drop start s)) (here - start) → (w .bytes ≤ 4096) × Small 4096 (w .verdict)
+waited-fits s start seen here to w a b l m i e =
+    let f = window-fits s start seen here to a b l m i in
+    let part : List ℕ = take (to - start) (drop start s) in
+    let k = waited-small part (here - start) (omega (arith, f .0, f .1)) (omega (arith, f .0, f .2)) in
+    subst (λ (r : Waited). (r .bytes ≤ 4096) × Small 4096 (r .verdict)) (sym e) (omega (arith, k .0, f .0, f .1), less (length part) (waitedOf part (here - start) .verdict) (omega (arith, f .0, f .1)) (k .1))
+  where
+    less : (n : ℕ) (v : Verdict) → n ≤ 4096 → Small n v → Small 4096 v
+    less n Nothing l h = tt
+    less n (Gives c end) l h = omega (arith, h)
+    less n (Shuts c end d) l h = (omega (arith, h .0), omega (arith, h .1))
+
+-- each verdict
+module _ (s : List ℕ) (at start seen bytes : ℕ) (v : Verdict) where
+  pub by-nothing : v ≡ Nothing → undecidedAt s at start seen ≡ turnBy v s at start seen bytes
+  by-nothing e = rw e
+
+  pub by-gives : (n end : ℕ) → v ≡ Gives n end → On n (start + end) bytes ≡ turnBy v s at start seen bytes
+  by-gives n end e = rw e
+
+  pub by-shuts-none : (n end : ℕ) (d q : Refusal) → v ≡ Shuts n end d → n ≡ 0 → q ≡ placedBehind start d → Over 0 at bytes (stands.Stopped q) ≡ turnBy v s at start seen bytes
+  by-shuts-none n end d q e z p = rw (e, z, p)
+
+  pub by-shuts : (n end : ℕ) (d q : Refusal) → v ≡ Shuts n end d → (n ≡ 0 → ⊥) → q ≡ placedBehind start d → Over n (start + end) bytes (stands.Stopped q) ≡ turnBy v s at start seen bytes
+  by-shuts n end d q e z p = rw (e, p, ne-eqb n 0 z)
+
+  pub small-gives : (n end : ℕ) → Small 4096 v → v ≡ Gives n end → end ≤ 4096
+  small-gives n end h e = subst (Small 4096) e h
+
+  pub small-shuts : (n end : ℕ) (d : Refusal) → Small 4096 v → v ≡ Shuts n end d → (end ≤ 4096) × (d .place ≤ 4096)
+  small-shuts n end d h e = subst (Small 4096) e h
+
+-- a turn by where the gap ends
+module _ (s : List ℕ) (at seen whole : ℕ) (x : Passed) (e : x ≡ passedOf Clear (take (whole - at) (drop at s))) where
+  passed-is : passedOf Clear (between at whole s) ≡ x
+  passed-is = ap (passedOf Clear) (between-take s at whole) ∙ sym e
+
+  pub turn-is : (y : Passed) → x ≡ y → turnPassed y s at seen ≡ turnOf s at seen whole
+  unfolding turnOf
+  turn-is y q = sym (ap (λ (z : Passed). turnPassed z s at seen) (passed-is ∙ q))
+
+  pub begins-at : (k : ℕ) → x ≡ Begins k → whole ≤ length s → at ≤ whole → Cut (drop whole s) → (at + k < length s) × (gapOf (drop (at + k) s) ≡ gap.Clear 0)
+  unfolding front
+  begins-at k q wide fit c =
+      let t = begins-told Clear (between at whole s) k (passed-is ∙ q) in
+      let h : gapOf (between at whole s) ≡ gap.Clear k = t .0 ∙ ap gap.Clear (omega arith) in
+      let all : gapOf (drop at s) ≡ gap.Clear k = ap gapOf (sym (between-rest s at whole fit)) ∙ clear-with-part (between at whole s) (drop whole s) k h (t .1) c in
+      (omega (arith, t .1, between-length s at whole wide), ap gapOf (sym (drop-on at k (at + k) s refl)) ∙ gap-restarts (drop at s) k all)
+
+  pub odd-at : (p : ℕ) → x ≡ Unexpected p → whole ≤ length s → at ≤ whole → (0 < at + p) × (at + p ≤ length s)
+  unfolding front
+  odd-at p q wide fit =
+      let t = unexpected-told Clear (between at whole s) p (passed-is ∙ q) in
+      let h : gapOf (between at whole s) ≡ gap.Refused (unexpectedChar p) = t ∙ ap (λ (n : ℕ). gap.Refused (unexpectedChar n)) (omega arith) in
+      (omega (arith, odd-first (between at whole s) p h), omega (arith, odd-inside (between at whole s) p h, between-length s at whole wide))

@@ -5,17 +5,19 @@ use mathlib.Core.Bool.{Bool, true, false, cond}
 use mathlib.Core.List.{List, [], _++_, _∷_, append-assoc, append-nil}
 use mathlib.Core.Path.{_≡_, ap, ap₂, refl, subst, sym, _∙_}
 use lib.Dec.{eqb}
-use lib.ListN.{drop, length, length-append}
+use lib.ListN.{drop, length, length-append, length-drop}
 use borrow.Author.Tests.{eq-eqb, ne-eqb, eqb-true}
 use Rattle.text.proofs.Choices.{bool-cases, either}
+use Rattle.text.specs.Refusals.{placedBehind}
 use Rattle.text.specs.declared.refusal.Refusal.{Refusal}
+use Rattle.tokens.proofs.RonLaws.{refused-within}
 use Rattle.rows.specs.declared.Entry.{Entry}
 use Rattle.reading.specs.Readings.{endOf}
 use Rattle.reading.specs.Tokens.{Answer}
 use Rattle.reading.specs.Tokens.Answer.{refuse, stop, token}
 use Rattle.tokens.specs.Ron.{ronToken}
 use Rattle.arriving.proofs.Decides.{none-decided}
-use Rattle.arriving.proofs.Keeps.{Keeps, piece-keeps}
+use Rattle.arriving.proofs.Keeps.{Keeps, byte-keeps, piece-keeps}
 use Rattle.arriving.proofs.Waits.{Free, free-first, free-rest, keeping, none-kept}
 use Rattle.arriving.specs.Arrivals.{Coming, Given, Passing, behind, byAnswer, byPassing, decided, leftAt, looks, piece, step, taken}
 use Rattle.arriving.specs.Arrivals.Coming.{going, halted, shut}
@@ -49,7 +51,7 @@ pub data Decided (x w : List ℕ) : Waited → Type 0 where
   waits : (k : ℕ) → k ≡ length (x ++ w) → bytesGive (going 0 x) w ≡ keeping 0 (x ++ w) (length w) → Decided x w (record { bytes = k; verdict = Nothing })
   gives : (u z : List ℕ) (k n end : ℕ) → w ≡ u ++ z → k ≡ length x + length u → Stopping u → 0 < n → end ≤ k → Gave x u n end (going end (drop end (x ++ u)))
       → Decided x w (record { bytes = k; verdict = Gives n end })
-  shuts : (u z : List ℕ) (k n end : ℕ) (d : Refusal) → w ≡ u ++ z → k ≡ length x + length u → 0 < length u → Gave x u n end (shut d)
+  shuts : (u z : List ℕ) (k n end : ℕ) (d : Refusal) → w ≡ u ++ z → k ≡ length x + length u → end ≤ k → d .place ≤ k → Gave x u n end (shut d)
       → Decided x w (record { bytes = k; verdict = Shuts n end d })
 
 -- ---- one byte
@@ -94,6 +96,12 @@ NotHalted (going at r) = Unit {0}
 NotHalted (shut d) = Unit {0}
 NotHalted (halted d) = ⊥
 
+-- an arrival is refused so
+abbrev IsShut : Coming → Refusal → Type 0
+IsShut (going at r) d = ⊥
+IsShut (shut e) d = e ≡ d
+IsShut (halted e) d = ⊥
+
 left-goes : (at : ℕ) (l : List ℕ) → NotHalted (leftAt ronReader at l)
 unfolding leftAt
 left-goes at l = either (bool-cases (ronSettles l)) (λ t. rw t (go (ronToken l))) (λ t. rw t tt)
@@ -106,6 +114,35 @@ left-goes at l = either (bool-cases (ronSettles l)) (λ t. rw t (go (ronToken l)
 taken-goes : (s : List ℕ) (b : ℕ) → NotHalted (taken ronReader 0 s b .next)
 taken-goes s b =
     either (bool-cases (looks ronReader s b)) (λ t. rw t (left-goes (endOf 0 (decided ronReader 0 s b)) (drop (endOf 0 (decided ronReader 0 s b) - 0) s))) (λ t. rw t tt)
+
+-- ---- where its entries end, and its refusal stands
+
+refused-place : (at : ℕ) (l : List ℕ) (d : Refusal) → leftAt ronReader at l ≡ shut d → d .place ≤ at + length l
+unfolding leftAt
+refused-place at l d h = either (bool-cases (ronSettles l)) (λ t. go (ronToken l) refl (rw t at h)) (λ t. absurd (is-shut (going at l) d (rw t at h)))
+  where
+    is-shut : (c : Coming) (d : Refusal) → c ≡ shut d → IsShut c d
+    is-shut c d e = subst (λ (x : Coming). IsShut x d) (sym e) refl
+    go : (a : Answer) → ronToken l ≡ a → byAnswer a at l ≡ shut d → d .place ≤ at + length l
+    go (token t) e q = absurd (is-shut (going at l) d q)
+    go stop e q = absurd (is-shut (going at l) d q)
+    go (refuse r) e q = let z : placedBehind at r ≡ d = is-shut (shut (placedBehind at r)) d q in subst (λ (x : Refusal). x .place ≤ at + length l) z (omega (arith, refused-within l r e))
+
+taken-end : (x : List ℕ) (b : ℕ) → endOf 0 (taken ronReader 0 (x ++ b ∷ []) b .entries) ≤ length (x ++ b ∷ [])
+unfolding endOf
+taken-end x b =
+    either (bool-cases (looks ronReader (x ++ b ∷ []) b))
+    (λ t. rw t (let h = byte-keeps ronReader (λ at s c. pass) ron 0 x b .high in omega (arith, h)))
+    (λ t. rw t (omega arith))
+
+taken-place : (x : List ℕ) (b : ℕ) (d : Refusal) → taken ronReader 0 (x ++ b ∷ []) b .next ≡ shut d → d .place ≤ length (x ++ b ∷ [])
+taken-place x b d =
+    either (bool-cases (looks ronReader (x ++ b ∷ []) b))
+    (λ t. rw t (λ e. let k = byte-keeps ronReader (λ at s c. pass) ron 0 x b in
+    let to : ℕ = endOf 0 (decided ronReader 0 (x ++ b ∷ []) b) in
+    let r = refused-place to (drop (to - 0) (x ++ b ∷ [])) d e in
+    omega (arith, r, k .high, length-drop (to - 0) (x ++ b ∷ []))))
+    (λ t. rw t (λ e. absurd (subst (λ (c : Coming). IsShut c d) (sym e) refl)))
 
 -- ---- a byte, and then others
 
@@ -140,8 +177,8 @@ module _ (x : List ℕ) (b : ℕ) (free : barOf 0 x b ≡ pass) (w : List ℕ) w
         count = v .count;
         ends = v .ends;
       })
-  kept-on r e (shuts u z k n end d s l p v) =
-      shuts (b ∷ u) z k n end d (ap {B = List ℕ} (λ (y : List ℕ). b ∷ y) s) (omega (arith, l, length-append x (b ∷ []))) (omega arith)
+  kept-on r e (shuts u z k n end d s l p q v) =
+      shuts (b ∷ u) z k n end d (ap {B = List ℕ} (λ (y : List ℕ). b ∷ y) s) (omega (arith, l, length-append x (b ∷ []))) p q
       (record {
         entries = v .entries;
         run = more-is x b free u e ∙ ap (λ (y : Given). record { entries = y .entries; next = y .next; bytes = suc (y .bytes) }) (v .run);
@@ -164,7 +201,7 @@ module _ (x : List ℕ) (b : ℕ) (free : barOf 0 x b ≡ pass) (w : List ℕ) w
   unfolding givesOf endOf
   by-next es (halted d) ee ec nh ih = absurd nh
   by-next es (shut d) ee ec nh ih =
-      shuts (b ∷ []) w (length (x ++ b ∷ [])) (length es) (endOf 0 es) d refl (length-append x (b ∷ [])) (omega arith)
+      shuts (b ∷ []) w (length (x ++ b ∷ [])) (length es) (endOf 0 es) d refl (length-append x (b ∷ [])) (subst (λ (fs : List Entry). endOf 0 fs ≤ length (x ++ b ∷ [])) ee (taken-end x b)) (taken-place x b d ec)
       (record {
         entries = es;
         run = one-is x b free ∙ whole es (shut d) ee ec;

@@ -3,10 +3,10 @@ use crate::places::later;
 use crate::places::sooner;
 use crate::run::Ran;
 use crate::run::run;
+use gaps::pass_gap;
 use crate::turn::Stands;
 use gaps::Open;
 use gaps::Passed;
-use gaps::pass_gap;
 use text::Refusal;
 ghost use mathlib.Core.Path.{_≡_};
 ghost use mathlib.Core.Bool.{true};
@@ -29,14 +29,27 @@ pub fn come(left: Open, s: &[u8], kept: usize, whole: usize) -> Reached
 {
     let gap = pass_gap(left, &s[..whole]);
     match gap {
-        Passed::Begins(k) => Reached { from: k, ran: run(s, k, kept, whole) },
+        Passed::Begins(k) => Reached {
+            from: k,
+            ran: run(s, k, kept, whole),
+        },
         Passed::Within(left) => {
-            let ran = Ran { count: 0, end: 0, bytes: s.len(), stands: Stands::Within(left) };
+            let ran = Ran {
+                count: 0,
+                end: 0,
+                bytes: s.len(),
+                stands: Stands::Within(left),
+            };
             Reached { from: 0, ran }
         }
         Passed::Unexpected(p) => {
             let bytes = sooner(later(p, kept + 1), s.len());
-            let ran = Ran { count: 0, end: 0, bytes, stands: Stands::Stopped(Refusal::unexpected_char(p)) };
+            let ran = Ran {
+                count: 0,
+                end: 0,
+                bytes,
+                stands: Stands::Stopped(Refusal::unexpected_char(p)),
+            };
             Reached { from: 0, ran }
         }
     }

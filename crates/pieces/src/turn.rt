@@ -13,6 +13,7 @@ ghost use Prim.Native.Nat.{_+_, _-_, _≤_, _<_};
 ghost use lib.ListN.{length, drop, take};
 ghost use Rattle.comments.specs.Gaps.{gapOf};
 ghost use Rattle.comments.specs.declared.gap.Gap.the-variants.{Clear};
+ghost use Rattle.octets.specs.Octets.{Cut};
 ghost use Rattle.pieces.specs.inner.Turns.{behindSlashAt, undecidedAt, decidedAt, turnOf};
 
 // How many bytes from an undecided entry's start are held at most.
@@ -94,7 +95,7 @@ fn decided(s: &[u8], at: usize, start: usize, seen: usize) -> Turned
 // The next decision of the bytes of s, where the last entry given ended at a place and those before `seen` were looked at; those from `whole` on belong to a character
 // that has not come whole.
 pub fn turn(s: &[u8], at: usize, seen: usize, whole: usize) -> Turned
-    requires { ⌜ (at ≤ whole) × (whole ≤ length (now s)) × (seen ≤ length (now s)) × (length (now s) ≤ 65536) ⌝ }
+    requires { ⌜ (at ≤ whole) × (whole ≤ length (now s)) × (seen ≤ length (now s)) × (length (now s) ≤ 65536) × Cut (drop whole (now s)) ⌝ }
     ensures { λ r. ⌜ r ≡ turnOf (now (s .entry)) at seen whole ⌝ }
 {
     let gap = pass_gap(Open::Clear, &s[at..whole]);

@@ -36,7 +36,7 @@ body-more v (closes e) = closes e
 body-more v (nests e x y) = nests e (body-more v x) (body-more v y)
 body-more v (passes e x) = passes e (body-more v x)
 
-gap-more : {s t : List ℕ} (v : List ℕ) → Gap s t → Gap (s ++ v) (t ++ v)
+pub gap-more : {s t : List ℕ} (v : List ℕ) → Gap s t → Gap (s ++ v) (t ++ v)
 gap-more v none = none
 gap-more v (space {c} {s} {t} sc e g) = subst (λ (x : List ℕ). Gap x (t ++ v)) (sym (append-assoc (encode c) s v)) (space sc e (gap-more v g))
 gap-more v (line {w} {s} {t} l g) = subst (λ (x : List ℕ). Gap (0x2f ∷ 0x2f ∷ x) (t ++ v)) (sym (append-assoc w (0x0a ∷ s) v)) (line l (gap-more v g))

@@ -1,0 +1,12 @@
+pub mod Both
+pub mod Gaps
+pub mod Escapes
+pub mod Integers
+pub mod Numbers
+pub mod Strings
+pub mod Chars
+pub mod Words
+pub mod Steps
+pub mod Lists
+pub mod Attributes
+pub mod Tokens
