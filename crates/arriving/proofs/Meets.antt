@@ -123,7 +123,7 @@ module _ (R : Reader) (bar : ℕ → List ℕ → ℕ → Passing) where
         settle = λ v. ap (R .settles) (ya v) ∙ k .settle (u ++ v) ∙ ap (R .settles) (sym (xa v));
         at-once = λ v. ap (R .once) (ya v) ∙ k .at-once (u ++ v) ∙ ap (R .once) (sym (xa v));
         bars = λ v b o n at at′ h. subst (λ (s : List ℕ). PassThere o n (bar at s b) (bar at′ (x ++ u ++ v) b)) (sym (ya v))
-        (subst (λ (s : List ℕ). PassThere o n (bar at (y ++ (u ++ v)) b) (bar at′ s b)) (sym (xa v)) (k .bars (u ++ v) b o n at at′ h));
+            (subst (λ (s : List ℕ). PassThere o n (bar at (y ++ (u ++ v)) b) (bar at′ s b)) (sym (xa v)) (k .bars (u ++ v) b o n at at′ h));
       }
 
   -- what stands between two bytes

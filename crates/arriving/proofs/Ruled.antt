@@ -73,7 +73,7 @@ module _ (R : Reader) (O : Owes R) (bar : ℕ → List ℕ → ℕ → Passing) 
         ap (λ (w : List ℕ). w ++ b ∷ []) (h .0) ∙ sym (drop-append-le at text (b ∷ []) (h .1)),
         omega (arith, h .1, length-append text (b ∷ [])),
         subst (λ (w : List ℕ). Unsealed R O at w) same
-        (subst (λ (n : ℕ). Unsealed R O n (drop (endOf at (decided R at s b) - at) s)) to k),
+            (subst (λ (n : ℕ). Unsealed R O n (drop (endOf at (decided R at s b) - at) s)) to k),
       )
 
   taken-holds : (text : List ℕ) (at : ℕ) (rest : List ℕ) (b : ℕ) → Holds text (going at rest) → Holds (text ++ b ∷ []) (taken R at (rest ++ b ∷ []) b .next)

@@ -110,6 +110,7 @@ module _ (R : Reader) (bar : ℕ → List ℕ → ℕ → Passing) where
             let e : c ≡ d = cc in
             let y : true ≡ false = sym is ∙ ap tellsEnd e ∙ O .open-end s d t q in
             let k : _≡_ {A = ℕ} 0 1 = cc in omega arith
+
         go : (a : Answer) → R .tok s ≡ a → R .settles s ≡ true → byAnswer a at s ≡ going at s
         go (token u) q t = refl
         go stop q t = refl

@@ -383,6 +383,7 @@ module _ (s : List ℕ) (at seen whole : ℕ) (low : at ≤ seen) (top : seen �
       where
         barred : (b : ℕ) → barOf at (between at c s) b ≡ halt (entryTooLong (at + k))
         barred b = bar-halts at (between at c s) b k (gap-to c (omega arith)) (omega (arith, between-length s at c (omega arith)))
+
         go : (l : List ℕ) → 0 < length l → bytesGive (going at (between at c s)) l ≡ record { entries = []; next = halted (entryTooLong (at + k)); bytes = 0 }
         go [] p = absurd (omega arith)
         go (b ∷ z) p = halts-first at (between at c s) b z (entryTooLong (at + k)) (barred b)
@@ -423,6 +424,7 @@ module _ (s : List ℕ) (at seen whole : ℕ) (low : at ≤ seen) (top : seen �
       where
         begins-is : passedOf Clear (between at whole s) ≡ Begins k
         begins-is = passed-begins (between at whole s) k h some
+
         none-left : (x y : List ℕ) (c : ℕ) → x ≡ y → _≡_ {A = Given} (record { entries = bytesGive (going at x) [] .entries; next = bytesGive (going at x) [] .next; bytes = c - seen + bytesGive (going at x) [] .bytes }) (record { entries = []; next = going at y; bytes = c - seen + 0 })
         none-left x y c e = none-after x y (c - seen) e
 
@@ -555,20 +557,25 @@ module _ (s : List ℕ) (at seen whole : ℕ) (low : at ≤ seen) (top : seen �
         where
           hr : ℕ
           hr = later seen (at + k)
+
           lf : length u ≡ suc (length (st .front))
           lf = ap length (st .split) ∙ (let z : length (st .front ++ st .byte ∷ []) ≡ suc (length (st .front)) = omega (arith, length-append (st .front) (st .byte ∷ [])) in z)
+
           fst : whole < c → List ℕ
           fst l = cond (leb hr whole) (drop (whole - hr) (st .front)) (between whole hr s ++ st .front)
+
           whole-first : (l : whole < c) → hr ≤ whole → drop whole s ≡ drop (whole - hr) (st .front) ++ st .byte ∷ drop c s
           whole-first l i =
               sym (between-rest s whole c (omega arith))
               ∙ ap (λ (x : List ℕ). x ++ drop c s) (sym (between-drop s hr whole c i) ∙ ap (drop (whole - hr)) (sym us ∙ st .split) ∙ drop-append-le (whole - hr) (st .front) (st .byte ∷ []) (omega (arith, lf)))
               ∙ append-assoc (drop (whole - hr) (st .front)) (st .byte ∷ []) (drop c s)
+
           here-first : (l : whole < c) → whole ≤ hr → drop whole s ≡ (between whole hr s ++ st .front) ++ st .byte ∷ drop c s
           here-first l i =
               sym (between-rest s whole hr i)
               ∙ ap (λ (x : List ℕ). between whole hr s ++ x) (sym (between-rest s hr c (omega arith)) ∙ ap (λ (x : List ℕ). x ++ drop c s) (sym us ∙ st .split) ∙ append-assoc (st .front) (st .byte ∷ []) (drop c s))
               ∙ sym (append-assoc (between whole hr s) (st .front) (st .byte ∷ drop c s))
+
           snd : (l : whole < c) → drop whole s ≡ fst l ++ st .byte ∷ drop c s
           snd l = either (lt-or-le whole hr) (λ i. rw (lt-leb hr whole i) (here-first l (omega arith))) (λ i. rw (le-leb hr whole i) (whole-first l i))
 
@@ -638,10 +645,13 @@ module _ (s : List ℕ) (at seen whole : ℕ) (low : at ≤ seen) (top : seen �
         where
           st : ℕ
           st = at + k
+
           hr : ℕ
           hr = later seen (at + k)
+
           sum-is : (u : List ℕ) (n : ℕ) → n ≡ length (between (at + k) (later seen (at + k)) s) + length u → at + k + n ≡ later seen (at + k) + length u
           sum-is u n e = omega (arith, e, x-length, here-low)
+
           go : {r : Waited} → Decided (between (at + k) (later seen (at + k)) s) (between (later seen (at + k)) to s) r → Means s at seen whole (turnBy (r .verdict) s at (at + k) seen (at + k + r .bytes))
           go (waits n l e) =
               undecided-means to (nothing-means e) (omega (arith, here-seen)) inside (omega (arith, here-low))
@@ -686,16 +696,20 @@ module _ (s : List ℕ) (at seen whole : ℕ) (low : at ≤ seen) (top : seen �
     where
       ly : length (between at whole s) ≡ whole - at
       ly = between-length s at whole wide
+
       not-all : eqb seen (length s) ≡ false → seen < length s
       not-all e = either (lt-or-le seen (length s)) (λ l. l) (λ l. let z : true ≡ false = sym (eq-eqb seen (length s) (omega arith)) ∙ e in let k : _≡_ {A = ℕ} 0 1 = cc in absurd (omega arith))
+
       byte-is : (p : ℕ) → 0 < p → p ≤ length (between at whole s) → getD s (at + p - 1) 0 ≡ getD (between at whole s) (p - 1) 0
       byte-is p pos le =
           let e : at + (p - 1) ≡ at + p - 1 = omega arith in
           sym (getD-drop at (take whole s) (p - 1) 0 ∙ ap (λ (i : ℕ). getD (take whole s) i 0) e ∙ getD-take whole s (at + p - 1) 0 (omega (arith, ly)))
+
       run-all : (g : Given) → bytesGive (going at (take (seen - at) (between at whole s ++ drop whole s))) (drop (seen - at) (between at whole s ++ drop whole s)) ≡ g
           → bytesGive (going at (between at seen s)) (drop seen s) ≡ g
       run-all g e =
           ap₂ (λ (a b : List ℕ). bytesGive (going at a) b) (sym (ap (take (seen - at)) all-is ∙ seen-is)) (sym (ap (drop (seen - at)) all-is ∙ left-is)) ∙ e
+
       keeps-all : (p : ℕ) → gapOf (between at whole s) ≡ gap.Refused (unexpectedChar p) → passedOf Clear (between at whole s) ≡ Unexpected p → eqb (getD (between at whole s) (p - 1) 0) 0x2f ≡ true → Stops s at seen whole 0 at (length s) (stands.Held at)
       keeps-all p h q t =
           let k = odd-keeps (between at whole s) (drop whole s) p (seen - at) at h t cut-off (omega (arith, ap length all-is, len-all)) in
@@ -709,6 +723,7 @@ module _ (s : List ℕ) (at seen whole : ℕ) (low : at ≤ seen) (top : seen �
             all = omega (arith, len-all);
             stands-is = kept-stands ∙ ap (λ (x : Passed). standsBy x at) q;
           }
+
       stands-still : (p : ℕ) → passedOf Clear (between at whole s) ≡ Unexpected p → seen ≡ length s → Stops s at seen whole 0 at seen (stands.Held at)
       stands-still p q e =
           record {
@@ -721,6 +736,7 @@ module _ (s : List ℕ) (at seen whole : ℕ) (low : at ≤ seen) (top : seen �
             all = omega arith;
             stands-is = kept-stands ∙ ap (λ (x : Passed). standsBy x at) q;
           }
+
       shuts-now : (p : ℕ) → gapOf (between at whole s) ≡ gap.Refused (unexpectedChar p) → eqb (getD (between at whole s) (p - 1) 0) 0x2f ≡ false → seen < length s
           → Stops s at seen whole 0 at (later (at + p) (seen + 1)) (stands.Stopped (unexpectedChar (at + p)))
       shuts-now p h t l =

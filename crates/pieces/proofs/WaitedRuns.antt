@@ -123,6 +123,7 @@ refused-place at l d h = either (bool-cases (ronSettles l)) (λ t. go (ronToken 
   where
     is-shut : (c : Coming) (d : Refusal) → c ≡ shut d → IsShut c d
     is-shut c d e = subst (λ (x : Coming). IsShut x d) (sym e) refl
+
     go : (a : Answer) → ronToken l ≡ a → byAnswer a at l ≡ shut d → d .place ≤ at + length l
     go (token t) e q = absurd (is-shut (going at l) d q)
     go stop e q = absurd (is-shut (going at l) d q)
@@ -226,6 +227,7 @@ module _ (x : List ℕ) (b : ℕ) (free : barOf 0 x b ≡ pass) (w : List ℕ) w
     where
       same : (es : List Entry) (at : ℕ) (r : List ℕ) → es ≡ [] → at ≡ 0 → r ≡ x ++ b ∷ [] → _≡_ {A = Given} (record { entries = es; next = going at r; bytes = 1 }) (keeping 0 (x ++ b ∷ []) 1)
       same es at r p q l = rw (p, q, l)
+
       some : (es : List Entry) → eqb (length es) 0 ≡ false → 0 < length es
       some [] t = let z : _≡_ {A = ℕ} 0 1 = clash t in absurd (omega arith)
         where

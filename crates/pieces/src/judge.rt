@@ -2,10 +2,10 @@
 use crate::scan::Ending;
 use crate::scan::Scanned;
 use crate::scan::scan;
-use settled::refused::settles;
 use crate::verdict::Verdict;
 use settled::bytes::is_closer;
 use settled::bytes::is_decider;
+use settled::refused::settles;
 ghost use mathlib.Core.Path.{_≡_};
 ghost use mathlib.Core.Bool.{true};
 ghost use Prim.Native.Nat.{_≤_, _<_, _-_};

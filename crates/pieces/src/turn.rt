@@ -51,7 +51,12 @@ fn behind_slash(s: &[u8], at: usize, place: usize, seen: usize) -> Turned
         return Turned::Over(0, at, seen, Stands::Held(at));
     }
     let bytes = later(place, seen + 1);
-    Turned::Over(0, at, bytes, Stands::Stopped(Refusal::unexpected_char(place)))
+    Turned::Over(
+        0,
+        at,
+        bytes,
+        Stands::Stopped(Refusal::unexpected_char(place)),
+    )
 }
 
 // Nothing is decided of what has begun at a place: 30 where more bytes have come than may be held.
