@@ -3,13 +3,9 @@ use Prim.Native.Nat.{ℕ, _+_, _-_, zero, suc}
 use mathlib.Core.List.{List, [], _∷_}
 use Rattle.reading.specs.Readings.{Reading, complete, broken, entry, place, readPart, counted}
 use Rattle.reading.specs.Tokens.{Answer, token, stop, refuse, reach, Tokens, done, fault, next, byAnswer, tokensFrom, tokens}
+pub use Rattle.inner.proofs.Tokens.{Inner-answer}
 use Rattle.given.specs.Given.{Inner}
 use Rattle.given.proofs.Front.{FourTo-told}
-
-abbrev pub Inner-answer : Answer → Type 0
-Inner-answer (token t) = Unit
-Inner-answer stop = Unit
-Inner-answer (refuse r) = Inner r
 
 abbrev pub Inner-tokens : Tokens → Type 0
 Inner-tokens done = Unit
