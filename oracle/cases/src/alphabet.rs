@@ -73,6 +73,15 @@ const EDITED: Alphabet = Alphabet {
     longest: 5,
 };
 
+/// What ends entries, decides them or holds them back.
+const ARRIVING: Alphabet = Alphabet {
+    pieces: &[
+        "/", "*", "\"", "'", "\\", "#", "r", "b", "r#\"", "\"#", "//", "\n", " ", ",", "(", "]", "!", "a", "1", "0x",
+        "u8", "e", ".", "-", "é", "×", "\u{85}", "\u{b}", "€", "\\x", "\\q", "u{", "}",
+    ],
+    longest: 5,
+};
+
 pub fn of_call(call: u8) -> &'static Alphabet {
     match call {
         b's' => &SKIP,
@@ -82,6 +91,7 @@ pub fn of_call(call: u8) -> &'static Alphabet {
         b'k' => &STRUCT,
         b'w' => &WALK,
         b'p' => &EDITED,
+        b'q' => &ARRIVING,
         _ => &READ,
     }
 }
@@ -136,7 +146,7 @@ mod tests {
 
     #[test]
     fn strides_visit_every_text() {
-        for alphabet in [&SKIP, &INTEGER, &NUMBERS, &CONTENTS, &STRUCT, &READ, &WALK, &EDITED] {
+        for alphabet in [&SKIP, &INTEGER, &NUMBERS, &CONTENTS, &STRUCT, &READ, &WALK, &EDITED, &ARRIVING] {
             assert_ne!(texts(alphabet.pieces.len() as u64, alphabet.longest) % STRIDE, 0);
         }
         let all = texts(EDGES.len() as u64, LONGEST_EDGES);

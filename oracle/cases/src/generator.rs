@@ -1,10 +1,12 @@
 //! Case number `n` of a seed.
+use crate::arrivals::Cut;
 use crate::documents::Draft;
 use crate::edits::Edit;
 use crate::random::Random;
 use crate::tapes::WIDTH;
 use crate::{
-    alphabet, damage, edits, fields, gaps, limits, line, many, names, numbers, places, repairs, strings, tapes, walks,
+    alphabet, arrivals, damage, edits, fields, gaps, limits, line, many, names, numbers, places, repairs, strings,
+    tapes, walks,
 };
 
 /// One case in so many that have no short text has one at the size limit: one in 20,000 of all.
@@ -29,6 +31,8 @@ pub fn case(seed: u64, n: u64, calls: &[u8], into: &mut Vec<u8>) {
         b'W' => line::walk_of(into, &walks::any(&mut r)),
         b'w' if round % 2 == 1 => walk(&mut r, into),
         b'I' => line::integers_of(into, &many::any(&mut r)),
+        b'q' => line::pieces(into, &pieces(&mut r, seed, round)),
+        b'Q' => line::piece(into, &arrivals::call(&mut r)),
         b'n' if round % 4 != 0 => integers(&mut r, into),
         _ => {
             let sample = match round % 4 {
@@ -53,6 +57,17 @@ fn edit(r: &mut Random, seed: u64, round: u64) -> Edit {
     match round % 4 {
         0 => edits::of_short_text(r, first_short(seed) + round / 4),
         _ => edits::any(r),
+    }
+}
+
+/// A short text in pieces, or any.
+fn pieces(r: &mut Random, seed: u64, round: u64) -> Cut {
+    match round % 4 {
+        0 => {
+            let text = short(r, seed, round / 4, b'q');
+            arrivals::cut(r, text)
+        }
+        _ => arrivals::any(r),
     }
 }
 
@@ -91,7 +106,7 @@ fn short(r: &mut Random, seed: u64, number: u64, call: u8) -> Vec<u8> {
     let front = match call {
         b'c' | b'C' => r.pick(&["", "\"", "\"", "b\"", "r", "br", "r#\"", "\"\\"]),
         b'k' => r.pick(&["", "(", "(", "(1", "(a"]),
-        b'r' | b'R' if r.once_in(6) => r.pick(&["#![", "#![enable(", "#![type=", "#![enable(implicit_some"]),
+        b'r' | b'R' | b'q' if r.once_in(6) => r.pick(&["#![", "#![enable(", "#![type=", "#![enable(implicit_some"]),
         _ => "",
     };
     [front.as_bytes(), &alphabet::of_call(call).text(from + number - number / 8)].concat()

@@ -1,5 +1,6 @@
 //! Makers of case lines. They lean on nothing, and give the same bytes on every machine.
 pub mod alphabet;
+pub mod arrivals;
 pub mod chosen;
 pub mod damage;
 pub mod documents;

@@ -1,4 +1,5 @@
 //! A case line: the call's letter, then words.
+use crate::arrivals::{Call, Cut};
 use crate::edits::Edit;
 use crate::many::Many;
 use crate::repairs::Repair;
@@ -145,4 +146,25 @@ pub fn repair(line: &mut Vec<u8>, repair: &Repair) {
     number(line, repair.to);
     bytes(line, &repair.new);
     tape(line, &repair.tape);
+}
+
+/// `q CUTS HEX`.
+pub fn pieces(line: &mut Vec<u8>, cut: &Cut) {
+    line.push(b'q');
+    tape(line, &cut.lengths);
+    bytes(line, &cut.text);
+}
+
+/// `Q NUMBERS STATE KEPT PIECE`; the end in the place of a piece is `end`.
+pub fn piece(line: &mut Vec<u8>, call: &Call) {
+    line.push(b'Q');
+    number(line, call.numbers);
+    let state = call.state.numbers().map(|n| n.to_string());
+    line.push(b' ');
+    line.extend_from_slice(state.join(",").as_bytes());
+    bytes(line, &call.kept);
+    match &call.piece {
+        Some(piece) => bytes(line, piece),
+        None => line.extend_from_slice(b" end"),
+    }
 }

@@ -7,6 +7,8 @@ pub struct Store {
     pub put: Vec<u8>,
     pub tape: Vec<u32>,
     pub list: Vec<u32>,
+    /// Whether pieces are to be answered word by word (`literal.rs`).
+    pub literal: bool,
 }
 
 /// Entry numbers in the longest list that is a word of a case.
@@ -77,6 +79,15 @@ impl<'a> Line<'a> {
                 Some(())
             }
         }
+    }
+
+    /// Bytes, or `end`: whether it is bytes.
+    pub fn bytes_or_end(&mut self, into: &mut Vec<u8>) -> Option<bool> {
+        if self.rest == Some(b"end") {
+            self.rest = None;
+            return Some(false);
+        }
+        self.bytes(into).map(|()| true)
     }
 
     /// Numbers below 2^32 separated by commas, `-` for none.

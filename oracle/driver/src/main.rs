@@ -1,10 +1,15 @@
 //! The oracle: cases on standard input, one a line, and one answer line each from ron's own parse module.
+//! With the word `literal`, cases of `q` are answered by `literal.rs`.
+mod arrivals;
+mod coming;
 mod contents;
 mod grammar;
 mod integer;
 mod integers;
 mod line;
+mod literal;
 mod read;
+mod reading;
 mod refusal;
 mod repair;
 mod run;
@@ -33,6 +38,8 @@ fn answer(line: &[u8], store: &mut Store, out: &mut Vec<u8>) -> Option<Answer> {
         b's' => skip::skip(&mut words, store, out),
         b'w' => walk::of_text(&mut words, store, out),
         b'W' => walk::of_any_tape(&mut words, store, out),
+        b'q' => arrivals::in_pieces(&mut words, store, out),
+        b'Q' => arrivals::one_call(&mut words, store, out),
         b'p' => repair::of_text(&mut words, store, out),
         b'P' => repair::of_any_tape(&mut words, store, out),
         _ => None,
@@ -60,6 +67,7 @@ fn main() -> io::Result<()> {
     let mut input = BufReader::with_capacity(1 << 20, io::stdin().lock());
     let mut output = BufWriter::with_capacity(1 << 20, io::stdout().lock());
     let (mut line, mut store, mut out) = (Vec::new(), Store::default(), Vec::new());
+    store.literal = std::env::args().nth(1).is_some_and(|word| word == "literal");
     while input.read_until(b'\n', &mut line)? > 0 {
         if line.last() == Some(&b'\n') {
             line.pop();

@@ -87,7 +87,7 @@ pub fn entries_into(text: &str, entries: &mut Vec<Entry>) -> Answer {
 }
 
 /// The entry where the parser stands; `former` is the end of the one before it, or the text's start.
-fn entry(parser: &mut Parser, former: usize) -> Answer<Entry> {
+pub fn entry(parser: &mut Parser, former: usize) -> Answer<Entry> {
     let start = cursor(parser);
     let gap = start - former;
     if parser.check_char('#') {

@@ -4,6 +4,7 @@ use std::io::Write;
 use ron::error::Error;
 
 /// The reason is 0 for every number but 13.
+#[derive(Clone, Copy)]
 pub struct Refusal {
     pub number: u32,
     pub place: usize,

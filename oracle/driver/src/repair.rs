@@ -122,7 +122,7 @@ fn repaired(old: &[Entry], cut: &Cut, new: &str) -> Answer<Repaired> {
 }
 
 /// "space, tab, LF, CR, comma, colon or any of the six brackets".
-fn is_quiet(byte: &u8) -> bool {
+pub fn is_quiet(byte: &u8) -> bool {
     b" \t\n\r,:()[]{}".contains(byte)
 }
 

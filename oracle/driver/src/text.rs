@@ -3,7 +3,7 @@ use std::str::from_utf8;
 
 use crate::refusal::{Answer, Refusal};
 
-const LARGEST: usize = 65_536;
+pub const LARGEST: usize = 65_536;
 
 /// The text, or refusal 1 or 2.
 pub fn text(bytes: &[u8]) -> Answer<&str> {

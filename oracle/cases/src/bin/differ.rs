@@ -31,9 +31,9 @@ fn cut(line: &str) -> String {
 fn readable(case: &str) -> String {
     let word = match case.bytes().next() {
         Some(b'r' | b'n') => 1,
-        Some(b'R' | b'w') => 2,
+        Some(b'R' | b'w' | b'q') => 2,
         Some(b'i' | b'c') => 3,
-        Some(b'k' | b's' | b'C' | b'p' | b'W') => 4,
+        Some(b'k' | b's' | b'C' | b'p' | b'W' | b'Q') => 4,
         _ => 5,
     };
     let hex = case.split(' ').nth(word).unwrap_or("");

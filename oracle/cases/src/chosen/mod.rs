@@ -1,4 +1,5 @@
 //! Cases chosen by hand, for the fixed list that a gate runs.
+mod arrivals;
 mod contents;
 mod fields;
 mod gaps;
@@ -54,5 +55,6 @@ pub fn lines(call: u8) -> Lines {
     gaps::lines(&mut lines, call);
     fields::lines(&mut lines, call);
     many::lines(&mut lines, call);
+    arrivals::lines(&mut lines, call);
     lines
 }

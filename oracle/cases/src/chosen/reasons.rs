@@ -21,27 +21,27 @@ pub fn lines(lines: &mut Lines, call: u8) {
 }
 
 /// Each reason, 1 to 8, in the literals that can give it; the last two are refused in one or two of them only.
-const EACH: &[&str] = &[
+pub const EACH: &[&str] = &[
     r"\xg", r"\xC3\x!", r"\u{1", r"\q", r"\é", r"\xC3\x41", r"\u41", r"\u{}", r"\u{1234567}", r"\u{123456",
     r"\u{D800}", r"\u{41}", r"\x80",
 ];
 
 /// Letters that begin no escape, of one byte to four; a line's end continues strings only.
-const LETTERS: &[&str] = &[
+pub const LETTERS: &[&str] = &[
     r"\a", r"\b", r"\e", r"\f", r"\v", r"\s", r"\1", r"\8", r"\N", r"\R", r"\T", r"\X41", r"\U{41}", r"\ ", r"\(",
     r"\{41}", r"\}", r"\/", r"\`", "\\\0", "\\\t", "\\\n", "\\\r", "\\\r\n", "\\\u{7f}", r"\ŵ", r"\·", "\\\u{85}",
     "\\\u{301}", r"\€", "\\\u{2028}", "\\\u{feff}", r"\𝄞", "\\\u{10ffff}",
 ];
 
 /// `\x` with what is no digit first or second: neighbours of the digits in ASCII, and longer characters.
-const DIGITS: &[&str] = &[
+pub const DIGITS: &[&str] = &[
     r"\x", r"\x4", r"\xg1", r"\xG1", r"\x/1", r"\x:1", r"\x@1", r"\x`1", r"\x 1", r"\x-1", r"\x{41}", r"\x\x41",
     r"\xé1", r"\x€1", r"\x𝄞1", r"\x1g", r"\x1G", r"\x1/", r"\x1:", r"\x1@", r"\x1`", r"\x1 ", r"\x1_", r"\x1}",
     r"\x1\", r"\x1é", r"\x1€", r"\x1𝄞", r"\xfF", r"\xFf", r"\xaA", r"\x0g", r"\X4g",
 ];
 
 /// `\x` one to five times: what forms no character, breaks off, or has a bad digit further on.
-const RUNS: &[&str] = &[
+pub const RUNS: &[&str] = &[
     r"\x00", r"\x7F", r"\x7f", r"\x80", r"\xBF", r"\xC2", r"\xFF", r"\xC3\xA9", r"\xc3\xa9", r"\xC3\xA9\xA9",
     r"\xC3\x7F", r"\xC3\xC3\xA9", r"\xC0\x80", r"\xC1\xBF\x80\x80", r"\xE0\x80\x80", r"\xE0\x80\x80\x80", r"\xE2\x82",
     r"\xE2\x82\x41", r"\xE2\x82\x41\x41", r"\xE2\x41\x82\xAC", r"\xE2\x82\xAC\xAC", r"\xED\xA0\x80",
@@ -55,7 +55,7 @@ const RUNS: &[&str] = &[
 ];
 
 /// `\u` without its brace, and with none to seven digits, closed and not.
-const BRACES: &[&str] = &[
+pub const BRACES: &[&str] = &[
     r"\u4", r"\u}", r"\u41}", r"\u(41)", r"\u[41]", r"\u {41}", r"\u\u{41}", r"\ué", r"\u𝄞", r"\u{", r"\u{1}",
     r"\u{12}", r"\u{123}", r"\u{1234}", r"\u{12345}", r"\u{012345}", r"\u{123456}", r"\u{0123456}", r"\u{0000000}",
     r"\u{12", r"\u{123", r"\u{1234", r"\u{12345", r"\u{012345", r"\u{1234567", r"\u{0}", r"\u{000000}", r"\u{}}",
