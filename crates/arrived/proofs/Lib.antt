@@ -1,0 +1,14 @@
+pub mod Bounds
+pub mod GapCuts
+pub mod Parts
+pub mod Waiting
+pub mod PieceLaws
+pub mod Fits
+pub mod States
+pub mod Taken
+pub mod Fives
+pub mod Came
+pub mod PieceShows
+pub mod FinishShows
+pub mod CallLaws
+pub mod Halting
