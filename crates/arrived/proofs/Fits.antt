@@ -216,12 +216,15 @@ module _ (at : ℕ) (x : List ℕ) (part : ℕ) (k : GoesOn at x part) (b : ℕ)
       let r : Reading = readPart ronToken (endOf at es) (left ++ []) in (
         omega arith,
         refl,
-        (t .part, record {
-          utf8 = entries-keep es at s r (f []) (t .part) (t .utf8);
-          calm = calm left c;
-          size = omega (arith, t .size);
-          held = held-left at x b es (t .bar) f;
-        }),
+        (
+          t .part,
+          record {
+            utf8 = entries-keep es at s r (f []) (t .part) (t .utf8);
+            calm = calm left c;
+            size = omega (arith, t .size);
+            held = held-left at x b es (t .bar) f;
+          },
+        ),
       )
 
   shut-fit : (es : List Entry) (d : Refusal) → ruleBar at x b ≡ pass → Fronts ronReader ruleBar at x b es → ronToken (leftBy ronReader ruleBar at x b es) ≡ refuse d

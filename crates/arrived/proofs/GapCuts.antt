@@ -84,7 +84,7 @@ gap-front (Gap.line {w} {s} {t} l g) n = let p = gap-front g n in go (p .before)
           before = 0x2f ∷ 0x2f ∷ (w ++ 0x0a ∷ b);
           is = ap {B = List ℕ} (λ (x : List ℕ). 0x2f ∷ 0x2f ∷ x) (ap (λ (x : List ℕ). w ++ x) e′ ∙ sym (append-assoc w (0x0a ∷ b) t));
           again = λ z. subst (λ (x : List ℕ). Gap (0x2f ∷ 0x2f ∷ x) z) (sym (append-assoc w (0x0a ∷ b) z))
-          (Gap.line l (subst (λ (x : ℕ). Gap (x ∷ (b ++ z)) z) q (f z)));
+              (Gap.line l (subst (λ (x : ℕ). Gap (x ∷ (b ++ z)) z) q (f z)));
         }
 gap-front (Gap.block {s} {u} {t} x g) n =
     let p = gap-front g n in

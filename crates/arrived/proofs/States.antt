@@ -180,8 +180,13 @@ module _ (at : ℕ) (rest : List ℕ) (part : ℕ) (k : GoesOn at rest part) whe
   going-kept : keptFits (goingState at rest part) ≡ true
   unfolding keptFits
   going-kept =
-      rw (le-leb part 3 (all-bound rest part (k .utf8) .1), le-leb part (length (heldOf rest part)) (omega (arith, held-length)), le-leb (length (heldOf rest part)) mostHeld held-few,
-      le-leb (at + length (heldOf rest part)) (at + length rest) (omega (arith, held-less)), gap-fits)
+      rw (
+        le-leb part 3 (all-bound rest part (k .utf8) .1),
+        le-leb part (length (heldOf rest part)) (omega (arith, held-length)),
+        le-leb (length (heldOf rest part)) mostHeld held-few,
+        le-leb (at + length (heldOf rest part)) (at + length rest) (omega (arith, held-less)),
+        gap-fits,
+      )
 
   pub going-in-order : inOrder (goingState at rest part) ≡ true
   unfolding inOrder refusalFits isNone
@@ -219,6 +224,10 @@ shown-kept (Shows.shows-shut taken former d k) = (refl, omega arith)
 shown-kept (Shows.shows-halted taken former d k) = (refl, omega arith)
 
 -- the beginning
+pub begun-goes : GoesOn 0 [] 0
+unfolding gapOf gapFrom allowedOf utf8Of utf8From ronOnce startsNothing charLen
+begun-goes = record { utf8 = refl; calm = refl; size = omega arith; held = λ g h. omega arith }
+
 pub begun-shows : Shows (going 0 []) 0 begun []
-unfolding keptOf openOf openFrom gapOf gapFrom allowedOf utf8Of utf8From ronOnce startsNothing charLen
-begun-shows = Shows.shows-going 0 [] 0 (record { utf8 = refl; calm = refl; size = omega arith; held = λ g h. omega arith })
+unfolding keptOf openOf openFrom gapOf gapFrom
+begun-shows = Shows.shows-going 0 [] 0 begun-goes

@@ -4,16 +4,20 @@
 use Prim.Native.Nat.{ℕ, zero, suc, _+_, _-_}
 use mathlib.Core.Bool.{cond}
 use mathlib.Core.List.{List, [], _∷_, _++_}
+use mathlib.Core.Path.{_≡_}
 use lib.Dec.{leb}
-use lib.ListN.{length}
-use Rattle.text.specs.Refusals.{notUtf8, tooLong}
+use lib.ListN.{length, take}
+use Rattle.text.specs.Refusals.{entryTooLong, notUtf8, tooLong}
+use Rattle.text.specs.declared.refusal.Refusal.{Refusal}
+use Rattle.comments.specs.Gaps.{gapOf}
+use Rattle.comments.specs.declared.gap.Gap.the-variants as gap
 use Rattle.octets.specs.Octets.{allowedOf}
 use Rattle.octets.specs.declared.answer.Allowed.{Allowed}
 use Rattle.octets.specs.declared.answer.Allowed.the-variants.{All, Bad}
 use Rattle.reading.specs.Readings.{Reading, broken}
 use Rattle.arriving.specs.Arrivals.{Coming, Given, Passing, ended, going, halt, halted, pass, piece, shut}
 use Rattle.settled.specs.Settled.{ronReader}
-use Rattle.pieces.specs.Bars.{barOf}
+use Rattle.pieces.specs.Bars.{barOf, mostHeld}
 use Rattle.pieces.specs.Orders.{mostTaken}
 
 -- ---- before a byte is taken
@@ -57,3 +61,12 @@ endGives (halted d) = broken d
 -- What the end of this text gives.
 abbrev pub textEnds : List ℕ → Reading
 textEnds text = endGives (textGives text .next)
+
+-- ---- the three exceptions
+
+-- Why the byte behind the first n bytes of a text is not taken, and the refusal: 4,096 bytes have come from where something began that is undecided; or 65,536 bytes of
+-- the text; or with this byte no UTF-8 goes on.
+pub data Barred (text : List ℕ) (n : ℕ) : Refusal → Type 0 where
+  long-entry : (at g : ℕ) (rest : List ℕ) → textGives (take n text) .next ≡ going at rest → gapOf rest ≡ gap.Clear g → length rest ≡ g + mostHeld → Barred text n (entryTooLong (at + g))
+  long-text : n ≡ mostTaken → Barred text n tooLong
+  bad-utf8 : (p : ℕ) → allowedOf text ≡ Bad n p → Barred text n (notUtf8 p)
