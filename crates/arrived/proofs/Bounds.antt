@@ -8,18 +8,18 @@ use mathlib.Core.List.{List, [], _++_, _∷_, append-assoc, append-nil}
 use mathlib.Core.Logic.{_⊎_, inl, inr}
 use mathlib.Core.Path.{_≡_, ap, refl, subst, sym, _∙_}
 use lib.Dec.{eqb, ltb}
-use lib.ListN.{drop, getD, length, length-append, length-drop, length-take, take, take-append-drop}
-use lib.Seq.{append-snoc, drop-append-seam, drop-at, drop-drop, getD-drop, length-take-le, split-at, take-append-seam}
-use borrow.Author.Tests.{eqb-false, eqb-true, ltb-true}
-use Rattle.text.proofs.Choices.{and-true, bool-cases, either, or-cases}
+use lib.ListN.{drop, getD, length, take, take-append-drop}
+use lib.Seq.{append-snoc, drop-at, drop-drop, length-take-le, split-at, take-append-seam}
+use borrow.Author.Tests.{eqb-true, ltb-true}
+use Rattle.text.proofs.Choices.{and-true, or-cases}
 use Rattle.text.proofs.ClassLaws.{allOf, within-true}
 use Rattle.text.proofs.RunLaws.{run-holds, run-le}
 use Rattle.text.proofs.Utf8Agree.{char-encode}
 use Rattle.text.specs.Classes.{digit, hexDigit, intChar, within}
 use Rattle.text.specs.Runs.{run}
-use Rattle.text.specs.Utf8.{Char, Scalar, Text, encode}
+use Rattle.text.specs.Utf8.{Scalar, Text, encode}
 use Rattle.text.specs.Utf8.Char.{utf8-1}
-use Rattle.octets.proofs.Cutting.{all-text, allowed-behind, allowed-stays, ascii-breaks, front-all, text-append}
+use Rattle.octets.proofs.Cutting.{all-text, allowed-behind, allowed-stays, ascii-breaks, front-all}
 use Rattle.octets.specs.Octets.{allowedOf, further}
 use Rattle.octets.specs.declared.answer.Allowed.{Allowed}
 use Rattle.octets.specs.declared.answer.Allowed.the-variants.{All, Bad}
@@ -30,7 +30,7 @@ use Rattle.escapes.specs.declared.answers.Mode.{Mode}
 use Rattle.escaped.proofs.Exactly.{escape-reads}
 use Rattle.quoted.specs.Bodies.{Blanks, Continued, Inside}
 use Rattle.quoted.specs.Literals.{ByteAt, ByteStringAt, CharAt, Raw, StringAt, hashes}
-use Rattle.floats.specs.Classes.{point, scale, sign}
+use Rattle.floats.specs.Classes.{point}
 use Rattle.floats.specs.Grammar.{Digits, Exponent, Numeral, Signable, Some}
 use Rattle.floats.specs.Judged.{stripped}
 use Rattle.names.specs.Names.{IsName, IsRawName, Run}
@@ -39,7 +39,7 @@ use Rattle.integers.specs.Width.{suffix, suffixOf, suffixWord, widthAt}
 use Rattle.integers.specs.Words.{Word, nothingFound}
 use Rattle.integers.specs.declared.ident.Found.{Found}
 use Rattle.integers.specs.declared.width.Width.{Width}
-use Rattle.written.specs.Written.{IsWritten, digitsIn, suffixIn, unprefixed, writtenLen}
+use Rattle.written.specs.Written.{IsWritten, digitsIn, suffixIn, writtenLen}
 use Rattle.tiled.proofs.Found.{Each, Stands, first-stands}
 use Rattle.tiled.proofs.ReadTiles.{token-form}
 use Rattle.rows.specs.declared.Entry.{Entry}

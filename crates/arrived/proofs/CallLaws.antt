@@ -1,35 +1,33 @@
 -- However a text is cut: what the calls give together, and the state behind them (`calls-show`, `calls-cut`); the only refusal of a call is 22 (`only-no-room`); a refusal
 -- that was given comes again (`refusal-again`, `refusal-at-the-end`). Assumes nothing.
-use Prim.Native.Nat.{ℕ, zero, suc, _+_, _-_, _<_, _≤_}
+use Prim.Native.Nat.{ℕ, _+_, _-_, _≤_}
 use native.Mathlib.Nat.{add-zero}
 use native.Mathlib.Omega.{arith}
-use mathlib.Core.Bool.{Bool, true, false, cond, _&&_}
-use mathlib.Core.List.{List, [], _++_, _∷_, append-assoc, append-nil}
+use mathlib.Core.Bool.{Bool, true, false, cond}
+use mathlib.Core.List.{List, [], _++_}
 use mathlib.Core.Path.{_≡_, ap, ap₂, refl, subst, sym, _∙_}
 use lib.Dec.{eqb, ltb}
 use lib.ListN.{length}
-use Rattle.text.proofs.Choices.{bool-cases, either}
-use Rattle.text.specs.Refusals.{Told, accepted, refused, noRoom}
+use Rattle.text.specs.Refusals.{accepted, refused, noRoom}
 use Rattle.text.specs.declared.refusal.Refusal.{Refusal}
 use Rattle.rows.specs.declared.Entry.{Entry}
 use Rattle.octets.specs.Octets.{allowedOf}
-use Rattle.octets.specs.declared.answer.Allowed.the-variants.{All}
-use Rattle.reading.specs.Readings.{endOf}
+use Rattle.reading.specs.Readings.{endOf, entries}
 use Rattle.arriving.proofs.Whole.{cut}
 use Rattle.arriving.specs.Arrivals.{Coming, Given, joined, piece}
 use Rattle.arriving.specs.Arrivals.Coming.{going, halted, shut}
 use Rattle.settled.specs.Settled.{ronReader}
 use Rattle.pieces.specs.Bars.{mostHeld}
-use Rattle.pieces.specs.Ends.{Rest, finishOf}
+use Rattle.pieces.specs.Ends.{finishOf}
 use Rattle.pieces.specs.Orders.{inOrder}
 use Rattle.pieces.specs.Pieces.{Outcome, cutOff, inRoom, pieceOf, unchanged}
 use Rattle.pieces.specs.declared.state.Arrival.{Arrival}
 use Rattle.arrived.specs.Calls.{Calls, FromBegin}
-use Rattle.arrived.specs.Ruled.{ruleBar, textGives}
-use Rattle.arrived.specs.Shown.{GoesOn, Shows, goingState, heldOf, stoppedState}
+use Rattle.arrived.specs.Ruled.{endGives, ruleBar, textGives}
+use Rattle.arrived.specs.Shown.{Shows, goingState, heldOf, stoppedState}
 use Rattle.arrived.proofs.PieceLaws.{end-append}
-use Rattle.arrived.proofs.FinishShows.{finish-is}
-use Rattle.arrived.proofs.PieceShows.{Answers, Called, call-is, called}
+use Rattle.arrived.proofs.FinishShows.{finish-is, finish-shows, restGiven}
+use Rattle.arrived.proofs.PieceShows.{Answers, call-is, called}
 use Rattle.arrived.proofs.States.{begun-shows, shown-in-order, shown-kept}
 
 -- ---- one call
@@ -58,6 +56,14 @@ module _ {c : Coming} {t : ℕ} {a : Arrival} {kept : List ℕ} (s : Shows c t a
   -- document 02: 23 "never for [a state] that these calls made": a call over one is refused with 22, or not at all
   pub only-no-room : (d : Refusal) → pieceOf a (kept ++ (w ++ junk)) (length w) room ≡ refused d → d ≡ noRoom
   only-no-room d e = let k = called s w junk room in room-refused room (k .outcome) d (sym (k .is) ∙ e)
+
+-- nor is the end
+pub end-no-room : {c : Coming} {t : ℕ} {a : Arrival} {kept : List ℕ} → Shows c t a kept → (junk : List ℕ) (room : ℕ) (d : Refusal) → finishOf a (kept ++ junk) room ≡ refused d → d ≡ noRoom
+end-no-room {c} s junk room d e = go (ltb room (length (entries (endGives c)))) (sym (finish-shows s junk room) ∙ e)
+  where
+    go : (t : Bool) → cond t (refused noRoom) (accepted (restGiven (endGives c))) ≡ refused d → d ≡ noRoom
+    go true h = let z : noRoom ≡ d = cc in sym z
+    go false h = let z : _≡_ {A = ℕ} 0 1 = cc in absurd (omega arith)
 
 -- ---- calls
 

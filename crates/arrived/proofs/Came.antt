@@ -1,19 +1,18 @@
 -- What the bytes that are taken of a piece give by the state (crate pieces, specs/Come) is what they give by the text (`came-meets`). Assumes nothing.
-use Prim.Native.Nat.{ℕ, zero, suc, _+_, _-_, _<_, _≤_}
-use native.Mathlib.Nat.{add-zero, sub-self, zero-add}
+use Prim.Native.Nat.{ℕ, _+_, _-_, _<_, _≤_}
 use native.Mathlib.Omega.{arith}
-use mathlib.Core.Bool.{Bool, true, false, cond}
+use mathlib.Core.Bool.{true, false, cond}
 use mathlib.Core.List.{List, [], _++_, _∷_, append-assoc, append-nil}
-use mathlib.Core.Logic.{_⊎_, inl, inr}
+use mathlib.Core.Logic.{inl}
 use mathlib.Core.Path.{_≡_, ap, ap₂, refl, subst, sym, _∙_}
-use lib.Dec.{eqb, leb, ltb}
+use lib.Dec.{eqb}
 use lib.ListN.{drop, drop-of-length-le, length, length-append, length-drop, take, take-append-drop}
 use lib.Seq.{drop-append-add, drop-append-le, drop-drop, drop-length, length-take-le, take-append-seam, take-at}
 use borrow.Author.Tests.{eqb-true, le-leb, le-ltb, lt-leb, lt-ltb}
 use Rattle.text.proofs.Choices.{bool-cases, either, lt-or-le}
 use Rattle.text.specs.Classes.{oneOf}
 use Rattle.text.specs.Refusals.{atPlace, eof, unclosedBlockComment, unexpectedChar}
-use Rattle.text.specs.Utf8.{Text, charLen}
+use Rattle.text.specs.Utf8.{Text}
 use Rattle.text.specs.declared.refusal.Refusal.{Refusal}
 use Rattle.comments.proofs.GapLaws.{EndsBy, gap-bounded, gap-restarts}
 use Rattle.comments.specs.Gaps.{gapOf}
@@ -27,14 +26,14 @@ use Rattle.gaps.specs.Passes.{passedBy, passedOf}
 use Rattle.gaps.specs.declared.pass.Passed.{Passed}
 use Rattle.gaps.specs.declared.pass.Passed.the-variants as passed
 use Rattle.gaps.specs.declared.state.Open.{Open}
-use Rattle.gaps.specs.declared.state.Open.the-variants.{Clear, Slash, Line, Block}
+use Rattle.gaps.specs.declared.state.Open.the-variants.{Clear}
 use Rattle.octets.proofs.Cutting.{all-text, front-all, text-append}
 use Rattle.octets.proofs.Exactly.{text-all}
-use Rattle.octets.specs.Octets.{Cut, allowedOf}
-use Rattle.octets.specs.declared.answer.Allowed.the-variants.{All, Bad}
-use Rattle.reading.specs.Kept.{AllThere, MovedThere}
+use Rattle.octets.specs.Octets.{allowedOf}
+use Rattle.octets.specs.declared.answer.Allowed.the-variants.{All}
+use Rattle.reading.specs.Kept.{AllThere}
 use Rattle.reading.specs.Readings.{endOf}
-use Rattle.arriving.proofs.Meets.{Alike, ComingThere, GivenThere, PassThere, RefusalThere, piece-there}
+use Rattle.arriving.proofs.Meets.{ComingThere, GivenThere, PassThere, RefusalThere, piece-there}
 use Rattle.arriving.proofs.Waits.{keeping}
 use Rattle.arriving.proofs.Whole.{both}
 use Rattle.arriving.proofs.Whole.{cut as cut-piece}
@@ -53,9 +52,8 @@ use Rattle.arrived.proofs.Bounds.{gap-keeps}
 use Rattle.arrived.proofs.Fives.{FiveFront, five-front, five-step}
 use Rattle.arrived.proofs.GapCuts.{front-of, gap-cut}
 use Rattle.arrived.proofs.Parts.{Parted, char-some, cut-allowed, parted}
-use Rattle.arrived.proofs.PieceLaws.{Left, piece-none, piece-rest, piece-step, shut-piece, then}
-use Rattle.arrived.proofs.States.{Standing, five-once, parts, standing, standing-by}
-use Rattle.arrived.proofs.Taken.{part-append, whole-append}
+use Rattle.arrived.proofs.PieceLaws.{piece-none, piece-rest, piece-step, shut-piece, then}
+use Rattle.arrived.proofs.States.{Standing, five-once, parts, standing}
 use Rattle.arrived.proofs.Waiting.{Within, bar-part, five-is, gap-kept, within-clear}
 
 -- ---- when the state and the text agree

@@ -1,19 +1,17 @@
 -- The end by the calls is the end by the text: `finish-shows`. Assumes nothing.
-use Prim.Native.Nat.{ℕ, zero, suc, _+_, _-_, _<_, _≤_}
-use native.Mathlib.Nat.{sub-self}
+use Prim.Native.Nat.{ℕ, zero, suc, _+_, _-_, _≤_}
 use native.Mathlib.Omega.{arith}
-use mathlib.Core.Bool.{Bool, true, false, cond, _&&_}
-use mathlib.Core.List.{List, [], _++_, _∷_, append-assoc, append-nil, map}
+use mathlib.Core.Bool.{true, false, cond}
+use mathlib.Core.List.{List, [], _++_, append-nil, map}
 use mathlib.Core.Path.{_≡_, ap, ap₂, refl, subst, sym, _∙_}
-use lib.Dec.{eqb, leb, ltb}
+use lib.Dec.{eqb, leb}
 use lib.ListN.{drop, length, length-append, take}
 use lib.Seq.{drop-append-add, drop-length, take-append-seam, take-length}
 use borrow.Author.Tests.{le-leb, le-ltb, lt-ltb, ne-eqb}
-use Rattle.text.specs.Refusals.{Told, accepted, refused, eof, notUtf8, placedBehind, unclosedBlockComment, unexpectedChar}
+use Rattle.text.specs.Refusals.{accepted, eof, notUtf8, placedBehind, unclosedBlockComment}
 use Rattle.text.specs.Utf8.{Text}
 use Rattle.text.specs.declared.refusal.Refusal.{Refusal}
 use Rattle.comments.specs.Gaps.{gapOf}
-use Rattle.comments.specs.declared.gap.Gap.{Gap}
 use Rattle.comments.specs.declared.gap.Gap.the-variants as gap
 use Rattle.rows.specs.declared.Entry.{Entry}
 use Rattle.gaps.proofs.Canon.{Ways, kept-is, ways}
@@ -30,19 +28,18 @@ use Rattle.octets.specs.declared.answer.Allowed.the-variants.{All}
 use Rattle.given.proofs.Front.{number-in}
 use Rattle.given.proofs.Readings.{Inner-reading, reading-inner}
 use Rattle.given.proofs.Tokens.{ron-inner}
-use Rattle.given.specs.Given.{Inner}
 use Rattle.reading.proofs.Steps.{read-refuse, read-stop}
 use Rattle.reading.specs.Kept.{AllThere}
 use Rattle.reading.specs.Readings.{Reading, entries, readPart}
-use Rattle.reading.specs.Readings.Reading.{broken, complete, entry}
-use Rattle.reading.specs.Tokens.Answer.{refuse, stop}
+use Rattle.reading.specs.Readings.Reading.{broken, complete}
+use Rattle.reading.specs.Tokens.Answer.{stop}
 use Rattle.tokens.proofs.RonLaws.{gap-end}
 use Rattle.tokens.specs.Ron.{byGap, ronToken}
 use Rattle.arriving.proofs.Fronts.{all-entries}
 use Rattle.arriving.proofs.Fronts.{lastOf as tail}
-use Rattle.arriving.proofs.Meets.{ComingThere, ReadThere, RefusalThere, ended-there}
+use Rattle.arriving.proofs.Meets.{ComingThere, ReadThere, ended-there}
 use Rattle.arriving.specs.Arrivals.{Coming}
-use Rattle.arriving.specs.Arrivals.Coming.{going, halted, shut}
+use Rattle.arriving.specs.Arrivals.Coming.{going}
 use Rattle.settled.proofs.Owed.{ron}
 use Rattle.settled.proofs.RonArrives.{ron-laws}
 use Rattle.settled.specs.Bytes.{stopsByte}
@@ -51,14 +48,14 @@ use Rattle.pieces.proofs.RonAlike.{bar-moves, ron-alike-clear}
 use Rattle.pieces.specs.Bars.{barOf}
 use Rattle.pieces.specs.Ends.{Rest, endingOf, endsIn, finishOf, fitting, lastOf, placedLast, restBy, restOf}
 use Rattle.pieces.specs.Orders.{inOrder}
-use Rattle.pieces.specs.Pieces.{gapped, movedTo, noRefusal}
+use Rattle.pieces.specs.Pieces.{gapped, movedTo}
 use Rattle.pieces.specs.declared.state.Arrival.{Arrival}
 use Rattle.arrived.specs.Ruled.{endBy, endGives, ruleBar}
 use Rattle.arrived.specs.Shown.{GoesOn, Shows, goingState, heldOf, partOf, stoppedState, wholeOf}
 use Rattle.arrived.proofs.Came.{Passes, before, passes, rest-back, rest-long}
 use Rattle.arrived.proofs.PieceLaws.{read-gapped}
 use Rattle.arrived.proofs.PieceShows.{moved-gapped, placed-there}
-use Rattle.arrived.proofs.States.{given-number, no-five, parts, shown-in-order, shown-kept}
+use Rattle.arrived.proofs.States.{given-number, no-five, parts, shown-in-order}
 use Rattle.arrived.proofs.Waiting.{Within, within-clear, within-odd}
 
 -- ---- two readings at places that differ by the same

@@ -1,15 +1,15 @@
 -- What the rule comes to is in order: behind every byte, what has come may go on so, or the refusal is one that may have been given (`fits-piece`).
 -- Assumes nothing.
-use Prim.Native.Nat.{ℕ, zero, suc, _+_, _-_, _<_, _≤_}
+use Prim.Native.Nat.{ℕ, _+_, _-_, _<_, _≤_}
 use native.Mathlib.Nat.{add-zero, sub-self}
 use native.Mathlib.Omega.{arith}
-use mathlib.Core.Bool.{Bool, true, false, cond, not, _&&_, _||_}
-use mathlib.Core.List.{List, [], _++_, _∷_, append-assoc, append-nil}
+use mathlib.Core.Bool.{true, false, not, _&&_, _||_}
+use mathlib.Core.List.{List, [], _++_, _∷_, append-nil}
 use mathlib.Core.Logic.{_⊎_, inl, inr}
 use mathlib.Core.Path.{_≡_, ap, refl, subst, sym, _∙_}
-use lib.Dec.{eqb, leb, ltb}
+use lib.Dec.{eqb, leb}
 use lib.ListN.{drop, length, length-append, length-drop}
-use borrow.Author.Tests.{eqb-true, le-leb, leb-false, leb-true, not-true}
+use borrow.Author.Tests.{le-leb, leb-false, not-true}
 use Rattle.text.proofs.Choices.{and-true, bool-cases, either, lt-or-le}
 use Rattle.text.proofs.ClassLaws.{in-within}
 use Rattle.text.proofs.Utf8Agree.{charLen-le}
@@ -32,14 +32,14 @@ use Rattle.given.specs.Given.{Inner, reasoned}
 use Rattle.reading.proofs.Stable.{ends-grow}
 use Rattle.reading.proofs.Steps.{first}
 use Rattle.reading.specs.Readings.{Reading, endOf, readPart, _▸_}
-use Rattle.reading.specs.Tokens.{Answer, Token, reach}
-use Rattle.reading.specs.Tokens.Answer.{refuse, stop, token}
+use Rattle.reading.specs.Tokens.{Token, reach}
+use Rattle.reading.specs.Tokens.Answer.{refuse}
 use Rattle.tokens.proofs.RonLaws.{gap-token, refused-within, token-is}
 use Rattle.tokens.specs.Lexemes.{lexemeOf}
 use Rattle.tokens.specs.Ron.{byGap, lexemeBehind, ronToken}
 use Rattle.tokens.specs.Token.{tokenOf}
 use Rattle.tokens.specs.declared.lexeme.LexemeAnswer.the-variants as lexeme
-use Rattle.arriving.specs.Arrivals.{Coming, Given, Passing, isRefused, piece, step}
+use Rattle.arriving.specs.Arrivals.{Coming, Given, Passing, isRefused, piece}
 use Rattle.arriving.specs.Arrivals.Coming.{going, halted, shut}
 use Rattle.arriving.specs.Arrivals.Passing.{halt, pass}
 use Rattle.settled.proofs.Owed.{ron}
@@ -53,7 +53,7 @@ use Rattle.arrived.specs.Ruled.{firstBar, ruleBar, sizeBar, utf8Bar}
 use Rattle.arrived.specs.Shown.{GoesOn, StopsSo}
 use Rattle.arrived.proofs.Bounds.{entries-keep}
 use Rattle.arrived.proofs.GapCuts.{gap-cut}
-use Rattle.arrived.proofs.PieceLaws.{Fronts, Stepped, end-append, front-high, halted-piece, left-length, leftBy, shut-piece, staying, step-view, then}
+use Rattle.arrived.proofs.PieceLaws.{Fronts, Stepped, end-append, halted-piece, left-length, leftBy, shut-piece, staying, step-view, then}
 
 -- ---- refusals that may have been given
 

@@ -1,14 +1,13 @@
 -- 5 behind a `/` is given with the last byte of its character: what stands before that byte is kept (`five-front`), and with it the text is refused (`five-step`).
 -- Assumes nothing.
-use Prim.Native.Nat.{ℕ, zero, suc, _+_, _-_, _<_, _≤_}
+use Prim.Native.Nat.{ℕ, _+_, _-_}
 use native.Mathlib.Nat.{sub-self}
 use native.Mathlib.Omega.{arith}
-use mathlib.Core.Bool.{Bool, true, false}
+use mathlib.Core.Bool.{true, false}
 use mathlib.Core.List.{List, [], _++_, _∷_, append-assoc, append-nil}
 use mathlib.Core.Logic.{_⊎_, inl, inr}
 use mathlib.Core.Path.{_≡_, ap, refl, subst, sym, _∙_}
 use lib.ListN.{drop, getD, length, length-append}
-use Rattle.text.proofs.Choices.{either, lt-or-le}
 use Rattle.text.proofs.Utf8Agree.{char-encode, char-pos, charLen-char}
 use Rattle.text.specs.Refusals.{eof, placedBehind, unexpectedChar}
 use Rattle.text.specs.Utf8.{Char, Text, charLen, encode}
@@ -21,12 +20,12 @@ use Rattle.gapped.proofs.Exactly.{five-exactly, six-exactly}
 use Rattle.gapped.specs.Gap.{Gap}
 use Rattle.octets.proofs.Cutting.{text-append}
 use Rattle.octets.proofs.Exactly.{text-all}
-use Rattle.octets.specs.Octets.{Begins, Cut, allowedOf}
+use Rattle.octets.specs.Octets.{Cut, allowedOf}
 use Rattle.octets.specs.Octets.Begins.{begins}
 use Rattle.octets.specs.declared.answer.Allowed.the-variants.{All}
 use Rattle.reading.proofs.Steps.{not-broken, read-refuse}
 use Rattle.reading.specs.Readings.{Reading, endOf, readPart, _▸_}
-use Rattle.reading.specs.Readings.Reading.{broken, entry}
+use Rattle.reading.specs.Readings.Reading.{broken}
 use Rattle.reading.specs.Tokens.Answer.{refuse}
 use Rattle.tokens.specs.Ron.{byGap, ronToken}
 use Rattle.arriving.specs.Arrivals.{Given, isRefused, step}
@@ -39,7 +38,7 @@ use Rattle.settled.proofs.RonArrives.{ron-laws}
 use Rattle.settled.specs.Bytes.{stopsByte}
 use Rattle.settled.specs.Settled.{ronOnce, ronReader}
 use Rattle.pieces.specs.Bars.{barOf}
-use Rattle.arrived.proofs.Bounds.{ascii-text, behind-ascii, encoded, gap-keeps}
+use Rattle.arrived.proofs.Bounds.{ascii-text, behind-ascii, gap-keeps}
 use Rattle.arrived.proofs.GapCuts.{gap-front}
 use Rattle.arrived.proofs.Parts.{char-some}
 use Rattle.arrived.proofs.PieceLaws.{Fronts, Stepped, leftBy, step-view}

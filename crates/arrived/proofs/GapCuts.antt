@@ -1,22 +1,20 @@
 -- The gap of a front of a text: where the text's gap ends within the front, the front's ends there too (`gap-cut`, `five-cut`); and what has come behind a gap
 -- stays there (`clear-more`). Assumes nothing.
-use Prim.Native.Nat.{ℕ, zero, suc, _+_, _-_, _<_, _≤_}
+use Prim.Native.Nat.{ℕ, _+_, _-_, _≤_}
 use native.Mathlib.Omega.{arith}
-use mathlib.Core.List.{List, [], _++_, _∷_, append-assoc, append-nil}
+use mathlib.Core.List.{List, [], _++_, _∷_, append-assoc}
 use mathlib.Core.Bool.{true}
 use mathlib.Core.Logic.{inl}
 use mathlib.Core.Path.{_≡_, ap, refl, subst, sym, _∙_}
-use lib.ListN.{drop, getD, length, length-append, length-drop, take, take-append-drop}
-use lib.Seq.{drop-append-le, drop-at, take-append-le, take-at}
-use Rattle.text.proofs.Choices.{either, lt-or-le}
-use Rattle.text.specs.Refusals.{unexpectedChar}
+use lib.ListN.{drop, getD, length, length-append, length-drop}
+use lib.Seq.{drop-append-le}
 use Rattle.text.proofs.Utf8Agree.{encode-1}
 use Rattle.text.specs.Classes.{blank, within}
-use Rattle.text.specs.Utf8.{Scalar, charLen, encode}
+use Rattle.text.specs.Utf8.{Scalar, encode}
 use Rattle.comments.specs.Blocks.{Body}
 use Rattle.comments.specs.Gaps.{gapOf}
 use Rattle.comments.specs.declared.gap.Gap.the-variants as answer
-use Rattle.gapped.proofs.Exactly.{clear-exactly, five-exactly}
+use Rattle.gapped.proofs.Exactly.{clear-exactly}
 use Rattle.gapped.specs.Gap.{Clear, Gap, StraySlash}
 
 -- ---- the bytes of a gap alone

@@ -1,20 +1,17 @@
 -- The byte that is not taken (`halts-at`), over a text from its beginning why it is not (`halts-why`): 30, 1 or 2, and over a sound text 30 alone (`only-30`).
 -- Assumes nothing.
-use Prim.Native.Nat.{ℕ, zero, suc, _+_, _-_, _<_, _≤_}
-use native.Mathlib.Nat.{add-zero}
+use Prim.Native.Nat.{ℕ, suc, _+_, _-_, _<_, _≤_}
 use native.Mathlib.Omega.{arith}
-use mathlib.Core.Bool.{Bool, true, false, cond}
 use mathlib.Core.List.{List, [], _++_, _∷_, append-assoc, append-nil}
 use mathlib.Core.Path.{_≡_, ap, ap₂, refl, subst, sym, _∙_}
 use lib.Dec.{leb}
-use lib.ListN.{drop, length, length-append, length-drop, take, take-append-drop}
+use lib.ListN.{drop, length, length-append, take, take-append-drop}
 use lib.Seq.{append-snoc, take-append-seam}
-use borrow.Author.Tests.{leb-false, leb-true}
+use borrow.Author.Tests.{leb-true}
 use Rattle.text.proofs.Choices.{bool-cases, either, lt-or-le}
 use Rattle.text.specs.Refusals.{entryTooLong, notUtf8, placedBehind, tooLong}
-use Rattle.text.specs.Utf8.{Text, utf8Of}
+use Rattle.text.specs.Utf8.{Text}
 use Rattle.text.specs.declared.refusal.Refusal.{Refusal}
-use Rattle.text.specs.declared.utf8.Utf8Answer.the-variants.{BadAt}
 use Rattle.comments.specs.Gaps.{gapOf}
 use Rattle.comments.specs.declared.gap.Gap.{Gap}
 use Rattle.comments.specs.declared.gap.Gap.the-variants as gap
@@ -24,7 +21,7 @@ use Rattle.octets.proofs.Exactly.{text-all}
 use Rattle.octets.specs.Octets.{allowedOf, further}
 use Rattle.octets.specs.declared.answer.Allowed.{Allowed}
 use Rattle.octets.specs.declared.answer.Allowed.the-variants.{All, Bad}
-use Rattle.reading.specs.Readings.{Reading, endOf, readPart, _▸_}
+use Rattle.reading.specs.Readings.{endOf, readPart}
 use Rattle.tokens.specs.Ron.{ronToken}
 use Rattle.arriving.proofs.Whole.{front}
 use Rattle.arriving.specs.Arrivals.{Coming, Given, Passing, piece}
@@ -36,13 +33,12 @@ use Rattle.settled.specs.Settled.{ronReader}
 use Rattle.pieces.specs.Bars.{barBy, barOf, mostHeld}
 use Rattle.pieces.specs.Orders.{mostTaken}
 use Rattle.arrived.specs.Ruled.{Barred, firstBar, ruleBar, sizeBar, textGives, utf8Bar}
-use Rattle.arrived.specs.Shown.{GoesOn, partOf, wholeOf}
+use Rattle.arrived.specs.Shown.{GoesOn, partOf}
 use Rattle.arrived.proofs.Bounds.{entries-keep, further-all}
-use Rattle.arrived.proofs.Fits.{Fits, Passes, fits-piece, rule-pass}
-use Rattle.arrived.proofs.Parts.{parted}
-use Rattle.arrived.proofs.PieceLaws.{Fronts, Left, Stepped, halted-piece, left-length, left-on, leftBy, piece-none, piece-rest, piece-step, same-going, shut-piece, step-view, then}
+use Rattle.arrived.proofs.Fits.{Fits, fits-piece, rule-pass}
+use Rattle.arrived.proofs.PieceLaws.{Left, Stepped, halted-piece, leftBy, piece-none, piece-rest, piece-step, shut-piece, step-view, then}
 use Rattle.arrived.proofs.States.{begun-goes}
-use Rattle.arrived.proofs.Taken.{part-append, same-taken}
+use Rattle.arrived.proofs.Taken.{part-append}
 
 -- ---- the byte
 

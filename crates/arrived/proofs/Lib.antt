@@ -12,3 +12,5 @@ pub mod PieceShows
 pub mod FinishShows
 pub mod CallLaws
 pub mod Halting
+pub mod OneReading
+pub mod Worked

@@ -2,18 +2,17 @@
 use Prim.Native.Nat.{ℕ, suc, _+_, _-_, _<_, _≤_}
 use native.Mathlib.Omega.{arith}
 use mathlib.Core.List.{List, [], _++_, _∷_, append-assoc, append-nil}
-use mathlib.Core.Logic.{_⊎_, inl, inr}
+use mathlib.Core.Logic.{inl, inr}
 use mathlib.Core.Path.{_≡_, ap, refl, subst, sym, _∙_}
 use lib.ListN.{drop, length, length-append, take, take-append-drop}
 use lib.Seq.{drop-at, take-at}
 use Rattle.text.proofs.Choices.{either, lt-or-le}
 use Rattle.text.specs.Utf8.{Char, Text, charLen}
 use Rattle.octets.proofs.BegunLaws.Stops.{at-end}
-use Rattle.octets.proofs.Cutting.{all-text, ascii-breaks, ascii-whole, char-whole}
-use Rattle.octets.proofs.Exactly.{allowed-all, cut-none, text-all, whole-all}
+use Rattle.octets.proofs.Cutting.{ascii-breaks, ascii-whole, char-whole}
+use Rattle.octets.proofs.Exactly.{allowed-all, cut-none, whole-all}
 use Rattle.octets.specs.Octets.{Begins, Cut, allowedOf}
 use Rattle.octets.specs.Octets.Begins.{begins}
-use Rattle.octets.specs.declared.answer.Allowed.{Allowed}
 use Rattle.octets.specs.declared.answer.Allowed.the-variants.{All, Bad}
 use Rattle.arrived.specs.Shown.{partOf, wholeOf}
 

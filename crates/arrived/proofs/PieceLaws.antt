@@ -1,22 +1,21 @@
 -- What a byte gives, in three ways (`step-view`); and of a piece: what is left is the text from the end of its last entry on (`piece-rest`), its entries end within
 -- the bytes taken (`piece-ends`), and each has its distance from the former one (`piece-gapped`). Over any reader that owes the laws. Assumes nothing.
-use Prim.Native.Nat.{ℕ, zero, suc, _+_, _-_, _<_, _≤_}
+use Prim.Native.Nat.{ℕ, _+_, _-_, _≤_}
 use native.Mathlib.Nat.{sub-self}
 use native.Mathlib.Omega.{arith}
-use mathlib.Core.Bool.{Bool, true, false, cond, _||_}
+use mathlib.Core.Bool.{true, false}
 use mathlib.Core.List.{List, [], _++_, _∷_, append-assoc, append-nil}
 use mathlib.Core.Logic.{_⊎_, inl, inr}
 use mathlib.Core.Path.{_≡_, ap, ap₂, refl, subst, sym, _∙_}
 use lib.ListN.{drop, length, length-append, length-drop}
 use lib.Seq.{drop-append-le}
-use Rattle.text.proofs.Choices.{bool-cases, either, or-left, or-right}
+use Rattle.text.proofs.Choices.{bool-cases, either, or-right}
 use Rattle.text.specs.Refusals.{placedBehind}
 use Rattle.text.specs.declared.refusal.Refusal.{Refusal}
 use Rattle.rows.specs.declared.Entry.{Entry}
 use Rattle.reading.proofs.Stable.{ends-grow}
 use Rattle.reading.proofs.Steps.{drop-on, first}
 use Rattle.reading.specs.Readings.{Reading, endOf, entries, readPart, _▸_}
-use Rattle.reading.specs.Readings.Reading.{entry}
 use Rattle.reading.specs.Tokens.{Answer, Token, reach}
 use Rattle.reading.specs.Tokens.Answer.{refuse, stop, token}
 use Rattle.arriving.proofs.Decides.{stays}

@@ -1,6 +1,6 @@
 -- A piece by the calls is the piece by the text: `piece-shows`; with too little room nothing is taken: `piece-no-room`. Assumes nothing.
-use Prim.Native.Nat.{ℕ, zero, suc, _+_, _-_, _<_, _≤_}
-use native.Mathlib.Nat.{add-zero, zero-add}
+use Prim.Native.Nat.{ℕ, suc, _+_, _-_, _<_, _≤_}
+use native.Mathlib.Nat.{add-zero}
 use native.Mathlib.Omega.{arith}
 use mathlib.Core.Bool.{Bool, true, false, cond, _&&_}
 use mathlib.Core.List.{List, [], _++_, _∷_, append-assoc, append-nil, map}
@@ -8,25 +8,24 @@ use mathlib.Core.Logic.{_⊎_, inl, inr}
 use mathlib.Core.Path.{_≡_, ap, ap₂, refl, subst, sym, _∙_}
 use lib.Dec.{eqb, leb, ltb}
 use lib.ListN.{drop, drop-of-length-le, getD, length, length-append, length-drop, take, take-append-drop}
-use lib.Seq.{drop-append-seam, drop-at, drop-cons, length-take-le, take-all, take-append-seam}
+use lib.Seq.{drop-append-seam, drop-at, drop-cons, length-take-le, take-append-seam}
 use borrow.Author.Tests.{le-leb, le-ltb, lt-ltb}
 use Rattle.text.proofs.Choices.{either, lt-or-le}
-use Rattle.text.specs.Refusals.{Told, accepted, refused, noRoom, placedBehind}
+use Rattle.text.specs.Refusals.{accepted, refused, noRoom, placedBehind}
 use Rattle.text.specs.declared.refusal.Refusal.{Refusal}
 use Rattle.rows.specs.declared.Entry.{Entry}
 use Rattle.gaps.specs.Opens.{keptOf, openOf}
 use Rattle.gaps.specs.declared.state.Open.{Open}
 use Rattle.octets.proofs.Cutting.{all-bound}
 use Rattle.octets.specs.Octets.{allowedOf}
-use Rattle.octets.specs.declared.answer.Allowed.{Allowed}
-use Rattle.octets.specs.declared.answer.Allowed.the-variants.{All, Bad}
-use Rattle.reading.specs.Kept.{AllThere, MovedThere}
-use Rattle.reading.specs.Readings.{Reading, endOf, readPart, _▸_}
+use Rattle.octets.specs.declared.answer.Allowed.the-variants.{All}
+use Rattle.reading.specs.Kept.{AllThere}
+use Rattle.reading.specs.Readings.{endOf, readPart}
 use Rattle.tokens.specs.Ron.{ronToken}
 use Rattle.arriving.proofs.Meets.{PassThere, RefusalThere}
 use Rattle.arriving.proofs.Whole.{both}
 use Rattle.arriving.proofs.Whole.{cut as cut-piece, front as front-reading}
-use Rattle.arriving.specs.Arrivals.{Coming, Given, Passing, byPassing, piece, step, taken}
+use Rattle.arriving.specs.Arrivals.{Coming, Given, Passing, byPassing, piece, taken}
 use Rattle.arriving.specs.Arrivals.Coming.{going, halted, shut}
 use Rattle.arriving.specs.Arrivals.Passing.{halt, pass}
 use Rattle.settled.proofs.Owed.{ron}
@@ -34,16 +33,16 @@ use Rattle.settled.specs.Settled.{ronReader}
 use Rattle.pieces.specs.Bars.{barOf}
 use Rattle.pieces.specs.Come.{Came, Standing as Stands, behind, stopped, within}
 use Rattle.pieces.specs.Orders.{inOrder}
-use Rattle.pieces.specs.Pieces.{Outcome, barredBy, badAt, behindBytes, byBar, cameIn, cutOff, gapped, givenBy, goesOn, inRoom, keptAt, mayTake, movedTo, noRefusal, openAt, outcomeOf, pieceOf, stopBy, stops, unchanged}
+use Rattle.pieces.specs.Pieces.{Outcome, barredBy, badAt, behindBytes, cameIn, cutOff, gapped, givenBy, goesOn, inRoom, keptAt, mayTake, movedTo, noRefusal, openAt, outcomeOf, pieceOf, stopBy, stops, unchanged}
 use Rattle.pieces.specs.declared.state.Arrival.{Arrival}
 use Rattle.arrived.specs.Ruled.{firstBar, ruleBar, sizeBar}
 use Rattle.arrived.specs.Shown.{GoesOn, Shows, StopsSo, goingState, heldOf, partOf, stoppedState, wholeOf}
 use Rattle.arrived.proofs.Bounds.{entries-keep}
-use Rattle.arrived.proofs.Came.{Agrees, Meets, before, came-meets, rest-back, rest-long}
+use Rattle.arrived.proofs.Came.{Agrees, Meets, before, came-meets, rest-long}
 use Rattle.arrived.proofs.Fits.{Fits, fits-piece}
-use Rattle.arrived.proofs.Parts.{Parted, parted}
+use Rattle.arrived.proofs.Parts.{parted}
 use Rattle.arrived.proofs.PieceLaws.{Left, halted-piece, piece-gapped, piece-none, piece-rest, piece-step, shut-piece, staying, then}
-use Rattle.arrived.proofs.States.{given-number, going-in-order, parts, shown-in-order, shown-kept, stopped-in-order}
+use Rattle.arrived.proofs.States.{given-number, going-in-order, parts, shown-in-order, shown-kept}
 use Rattle.arrived.proofs.Taken.{barred, cut, here-all, judged, many, many-le, many-size, part-append, same-taken, whole-all}
 
 -- ---- entries at their places

@@ -1,43 +1,40 @@
 -- What is kept of a text that may go on (`standing`), and that a state which shows an arrival is in order (`shown-in-order`). Assumes nothing.
-use Prim.Native.Nat.{ℕ, zero, suc, _*_, _+_, _-_, _<_, _≤_}
+use Prim.Native.Nat.{ℕ, zero, suc, _+_, _-_, _<_, _≤_}
 use native.Mathlib.Omega.{arith}
-use mathlib.Core.Bool.{Bool, true, false, cond, not, _&&_, _||_}
-use mathlib.Core.List.{List, [], _++_, _∷_, append-assoc, append-nil}
+use mathlib.Core.Bool.{true, false, _&&_, _||_}
+use mathlib.Core.List.{List, [], _++_, _∷_}
 use mathlib.Core.Logic.{_⊎_, inl, inr}
 use mathlib.Core.Path.{_≡_, ap, refl, subst, sym, _∙_}
-use lib.Dec.{eqb, leb, ltb}
-use lib.ListN.{List·getD-append, drop, getD, length, length-append, length-drop, take, take-append-drop}
+use lib.Dec.{eqb, leb}
+use lib.ListN.{List·getD-append, drop, getD, length, length-append, length-drop, take}
 use lib.Seq.{getD-drop, length-take-le, split-at}
 use borrow.Author.Tests.{eq-eqb, eqb-true, le-leb, ne-eqb}
 use Rattle.text.proofs.CharFronts.{len-short}
 use Rattle.text.proofs.Choices.{and-true, bool-cases, either, lt-or-le, or-cases, or-true}
 use Rattle.text.proofs.ClassLaws.{within-true}
-use Rattle.text.proofs.Lists.{head-at}
 use Rattle.text.proofs.Utf8Agree.{charLen-le}
 use Rattle.text.specs.Classes.{oneOf, within}
 use Rattle.text.specs.Refusals.{eof, unclosedBlockComment, unexpectedChar}
 use Rattle.text.specs.Utf8.{Text, charLen, utf8From, utf8Of}
 use Rattle.text.specs.declared.refusal.Refusal.{Refusal}
 use Rattle.comments.specs.Gaps.{gapFrom, gapOf}
-use Rattle.comments.specs.declared.gap.Gap.{Gap}
 use Rattle.comments.specs.declared.gap.Gap.the-variants as gap
 use Rattle.gapped.proofs.Exactly.{clear-exactly, five-exactly}
 use Rattle.gapped.proofs.Passing.{gap-passed}
-use Rattle.gapped.specs.Gap.{StraySlash}
 use Rattle.gaps.proofs.Canon.{Ways, kept-is, ways}
 use Rattle.gaps.proofs.Fronts.{Opened, front-block, front-short, open-fits}
 use Rattle.gaps.specs.Opens.{Fits, front, keptOf, openFrom, openOf, unpaired}
 use Rattle.gaps.specs.declared.state.Open.{Open}
 use Rattle.gaps.specs.declared.state.Open.the-variants.{Clear, Slash, Line, Block}
-use Rattle.octets.proofs.Cutting.{all-bound, cut-few}
+use Rattle.octets.proofs.Cutting.{all-bound}
 use Rattle.octets.proofs.Exactly.{text-all}
-use Rattle.octets.specs.Octets.{Cut, allowedOf}
-use Rattle.octets.specs.declared.answer.Allowed.the-variants.{All, Bad}
+use Rattle.octets.specs.Octets.{allowedOf}
+use Rattle.octets.specs.declared.answer.Allowed.the-variants.{All}
 use Rattle.arriving.specs.Arrivals.{Coming}
-use Rattle.arriving.specs.Arrivals.Coming.{going, halted, shut}
+use Rattle.arriving.specs.Arrivals.Coming.{going}
 use Rattle.arriving.specs.Owing.{tellsEnd}
 use Rattle.settled.proofs.GapEnds.{gap-char, slash-stays}
-use Rattle.settled.specs.Settled.{behindSlash, onceBehind, ronOnce, startsNothing}
+use Rattle.settled.specs.Settled.{behindSlash, ronOnce, startsNothing}
 use Rattle.pieces.specs.Bars.{mostHeld}
 use Rattle.pieces.specs.Orders.{inOrder, isClear, isGiven, isNone, keptFits, mostTaken, openFits, reasonFits, refusalFits}
 use Rattle.pieces.specs.Pieces.{begun}
@@ -45,7 +42,7 @@ use Rattle.pieces.specs.declared.state.Arrival.{Arrival}
 use Rattle.arrived.specs.Shown.{GoesOn, Shows, StopsSo, goingState, heldOf, partOf, stoppedState, wholeOf}
 use Rattle.arrived.proofs.Bounds.{behind-ascii, gap-keeps}
 use Rattle.arrived.proofs.Parts.{Parted, char-some, parted}
-use Rattle.arrived.proofs.Waiting.{Within, five-is}
+use Rattle.arrived.proofs.Waiting.{Within}
 
 -- ---- a 5 whose character has come whole
 

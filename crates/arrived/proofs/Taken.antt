@@ -1,27 +1,22 @@
 -- Of the bytes that may be taken the rule bars none but by 30 (`same-taken`); and what bars the byte behind them (`barred`). Assumes nothing.
-use Prim.Native.Nat.{ℕ, zero, suc, _+_, _-_, _<_, _≤_}
-use native.Mathlib.Nat.{add-zero}
+use Prim.Native.Nat.{ℕ, suc, _+_, _-_, _<_, _≤_}
 use native.Mathlib.Omega.{arith}
-use mathlib.Core.Bool.{Bool, true, false, cond}
-use mathlib.Core.List.{List, [], _++_, _∷_, append-assoc, append-nil}
-use mathlib.Core.Logic.{_⊎_, inl, inr}
-use mathlib.Core.Path.{_≡_, ap, ap₂, refl, subst, sym, _∙_}
-use lib.Dec.{leb}
-use lib.ListN.{drop, length, length-append, length-drop, take, take-append-drop}
-use lib.Seq.{append-snoc, drop-append-add, drop-append-le, length-take-le, take-append-add, take-append-seam, take-suc}
-use borrow.Author.Tests.{le-leb, leb-false, leb-true, lt-leb}
-use Rattle.text.proofs.Choices.{bool-cases, either, lt-or-le}
-use Rattle.text.specs.Refusals.{notUtf8, placedBehind, tooLong}
+use mathlib.Core.List.{List, [], _++_, _∷_, append-assoc}
+use mathlib.Core.Path.{_≡_, ap, refl, sym, _∙_}
+use lib.ListN.{drop, length, length-append, take, take-append-drop}
+use lib.Seq.{append-snoc, drop-append-add, length-take-le, take-append-add, take-append-seam}
+use borrow.Author.Tests.{le-leb, lt-leb}
+use Rattle.text.proofs.Choices.{either, lt-or-le}
+use Rattle.text.specs.Refusals.{notUtf8, placedBehind}
 use Rattle.text.specs.declared.refusal.Refusal.{Refusal}
 use Rattle.text.specs.Utf8.{Text}
-use Rattle.rows.specs.declared.Entry.{Entry}
-use Rattle.octets.proofs.Cutting.{all-bound, allowed-on, allowed-stays, bad-bounds, front-all, front-before, front-past}
+use Rattle.octets.proofs.Cutting.{all-bound, allowed-on, bad-bounds, front-all, front-before, front-past}
 use Rattle.octets.specs.Octets.{allowedOf, further}
 use Rattle.octets.specs.declared.answer.Allowed.{Allowed}
 use Rattle.octets.specs.declared.answer.Allowed.the-variants.{All, Bad}
-use Rattle.reading.specs.Readings.{Reading, endOf, readPart}
+use Rattle.reading.specs.Readings.{endOf, readPart}
 use Rattle.tokens.specs.Ron.{ronToken}
-use Rattle.arriving.specs.Arrivals.{Coming, Given, Passing, byPassing, piece, step, taken}
+use Rattle.arriving.specs.Arrivals.{Given, Passing, byPassing, piece, step, taken}
 use Rattle.arriving.specs.Arrivals.Coming.{going, halted, shut}
 use Rattle.arriving.specs.Arrivals.Passing.{halt, pass}
 use Rattle.settled.proofs.Owed.{ron}
@@ -34,7 +29,7 @@ use Rattle.arrived.specs.Ruled.{firstBar, ruleBar, sizeBar, utf8Bar}
 use Rattle.arrived.specs.Shown.{GoesOn, goingState, partOf, wholeOf}
 use Rattle.arrived.proofs.Bounds.{entries-keep}
 use Rattle.arrived.proofs.Parts.{Parted, cut-allowed, parted}
-use Rattle.arrived.proofs.PieceLaws.{Fronts, Stepped, halted-piece, left-length, left-on, leftBy, shut-piece, step-view, then}
+use Rattle.arrived.proofs.PieceLaws.{Stepped, halted-piece, left-length, left-on, leftBy, shut-piece, step-view, then}
 
 -- ---- the whole characters of a list, and the front of one
 

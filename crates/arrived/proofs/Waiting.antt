@@ -1,14 +1,14 @@
 -- Where nothing has begun, bytes are kept: those of whitespace and comments, and of a character behind them that has not come whole (`gap-kept`).
 -- Assumes nothing.
-use Prim.Native.Nat.{ℕ, suc, _+_, _-_, _<_, _≤_}
+use Prim.Native.Nat.{ℕ, _+_, _-_, _<_, _≤_}
 use native.Mathlib.Nat.{add-zero}
 use native.Mathlib.Omega.{arith}
-use mathlib.Core.Bool.{Bool, true, false, cond, not, _&&_, _||_}
+use mathlib.Core.Bool.{true, false}
 use mathlib.Core.List.{List, [], _++_, _∷_, append-assoc, append-nil}
 use mathlib.Core.Path.{_≡_, ap, ap₂, refl, subst, sym, _∙_}
-use lib.Dec.{eqb, leb}
+use lib.Dec.{eqb}
 use lib.ListN.{drop, getD, length, length-append, length-drop}
-use lib.Seq.{drop-append-le, take-append-seam}
+use lib.Seq.{take-append-seam}
 use borrow.Author.Tests.{eq-eqb, eqb-true, lt-leb}
 use Rattle.text.proofs.Choices.{bool-cases, either, lt-or-le}
 use Rattle.text.proofs.Lists.{head-at}
@@ -25,9 +25,7 @@ use Rattle.gaps.proofs.Canon.{Ways, ways}
 use Rattle.octets.proofs.Cutting.{all-bound, cut-few, front-all}
 use Rattle.octets.proofs.Exactly.{Lies, lies, text-all}
 use Rattle.octets.specs.Octets.{Cut, allowedOf}
-use Rattle.octets.specs.declared.answer.Allowed.the-variants.{All, Bad}
-use Rattle.reading.specs.Tokens.{Answer}
-use Rattle.reading.specs.Tokens.Answer.{refuse, stop, token}
+use Rattle.octets.specs.declared.answer.Allowed.the-variants.{All}
 use Rattle.tokens.proofs.RonLaws.{gap-end}
 use Rattle.tokens.specs.Ron.{byGap, ronToken}
 use Rattle.arriving.proofs.Waits.{Free, Unlooked, Waits, keeping, unlooked, waits}

@@ -1,3 +1,4 @@
 pub mod Ruled
 pub mod Shown
 pub mod Calls
+pub mod Texts

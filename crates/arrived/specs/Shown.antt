@@ -1,5 +1,5 @@
 -- The state that the calls keep for a text of which so much has come (document 02, change request 3): "23, a state out of order, first and never for one that
--- these calls made". Behind the last entry given stand `rest`, which begins with whitespace and comments; of these only what is open is kept.
+-- these calls made". Behind the last entry given stands `rest`, which begins with whitespace and comments; of these only what is open is kept.
 use Prim.Native.Nat.{ℕ, _+_, _-_, _≤_}
 use mathlib.Core.Bool.{true, false}
 use mathlib.Core.List.{List, [], _++_}
