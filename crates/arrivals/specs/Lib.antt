@@ -1,0 +1,5 @@
+pub mod Arrives
+pub mod States
+pub mod Any
+pub mod Texts
+pub mod inner
