@@ -1,5 +1,5 @@
-// The calls that a host may make (document 01, "What the calls do"): read, walk, repair, integer, contents, decoded, struct_kind, skip; and integers (document
-// 02, CR 7).
+// The calls that a host may make (document 01, "What the calls do"): read, walk, repair, integer, contents, decoded, struct_kind, skip; integers (document
+// 02, CR 7); and begin, piece and finish for a text that arrives (CR 3), which crate pieces has.
 //
 // None has a `requires`, and each promise is one definition of the whole answer and of every lent number afterwards. proofs/*Determined show that two
 // answers which meet a promise are equal. One page with all promises is proofs/Promises.antt of crate promises; docs/PROMISES.md has them in words.
@@ -21,12 +21,19 @@ pub use cursor::Step;
 pub use decoded_call::decoded;
 pub use entries::ContentsAnswer;
 pub use entries::DecodedAnswer;
+pub use gaps::Open;
 pub use integer_call::IntegerAnswer;
 pub use integer_call::integer;
 pub use integers::Value;
 pub use integers::Width;
 pub use integers_call::IntegersAnswer;
 pub use integers_call::integers;
+pub use pieces::finish::finish;
+pub use pieces::piece::piece;
+pub use pieces::state::Arrival;
+pub use pieces::state::Arrived;
+pub use pieces::state::Ended;
+pub use pieces::state::begin;
 pub use read::measure::ReadAnswer;
 pub use read_call::read;
 pub use repair::repairer::RepairAnswer;
