@@ -13,4 +13,5 @@ pub mod FinishShows
 pub mod CallLaws
 pub mod Halting
 pub mod OneReading
+pub mod AsRead
 pub mod Worked

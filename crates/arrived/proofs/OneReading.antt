@@ -110,7 +110,7 @@ unfolding lastOf
 last-front [] r = refl
 last-front (e ∷ es) r = last-front es r
 
-fitting-accepted : (room : ℕ) (e q : Rest) → fitting room e ≡ accepted q → e ≡ q
+pub fitting-accepted : (room : ℕ) (e q : Rest) → fitting room e ≡ accepted q → e ≡ q
 fitting-accepted room e q = go (ltb room (length (e .entries)))
   where
     go : (t : Bool) → cond t (refused noRoom) (accepted e) ≡ accepted q → e ≡ q
@@ -118,12 +118,12 @@ fitting-accepted room e q = go (ltb room (length (e .entries)))
     go false h = cc
 
 -- the refusal of the state is that of the arrival
-shown-refusal : {t : ℕ} {a : Arrival} {kept : List ℕ} (c : Coming) (d : Refusal) → Shows c t a kept → c ≡ halted d → a .refusal ≡ d
+pub shown-refusal : {t : ℕ} {a : Arrival} {kept : List ℕ} (c : Coming) (d : Refusal) → Shows c t a kept → c ≡ halted d → a .refusal ≡ d
 shown-refusal c d (Shows.shows-going at rest part k) e = let z : _≡_ {A = ℕ} 0 1 = cc in absurd (omega arith)
 shown-refusal c d (Shows.shows-shut n former x k) e = let z : _≡_ {A = ℕ} 0 1 = cc in absurd (omega arith)
 shown-refusal c d (Shows.shows-halted n former x k) e = cc
 
-shut-refusal : {t : ℕ} {a : Arrival} {kept : List ℕ} (c : Coming) (d : Refusal) → Shows c t a kept → c ≡ shut d → a .refusal ≡ d
+pub shut-refusal : {t : ℕ} {a : Arrival} {kept : List ℕ} (c : Coming) (d : Refusal) → Shows c t a kept → c ≡ shut d → a .refusal ≡ d
 shut-refusal c d (Shows.shows-going at rest part k) e = let z : _≡_ {A = ℕ} 0 1 = cc in absurd (omega arith)
 shut-refusal c d (Shows.shows-shut n former x k) e = cc
 shut-refusal c d (Shows.shows-halted n former x k) e = let z : _≡_ {A = ℕ} 0 1 = cc in absurd (omega arith)

@@ -2,11 +2,12 @@
 -- cut, the entries .. and the last answer are those of one reading with room enough, with three exceptions: bad UTF-8 and the byte after the 65,536th are told
 -- when met, after the entries decided before, and a long entry has its own refusal."
 use Prim.Native.Nat.{ℕ, zero, suc, _+_, _-_}
-use mathlib.Core.Bool.{cond}
+use mathlib.Core.Bool.{Bool, cond, true, _&&_, _||_}
 use mathlib.Core.List.{List, [], _∷_, _++_}
 use mathlib.Core.Path.{_≡_}
 use lib.Dec.{leb}
 use lib.ListN.{length, take}
+use Rattle.text.specs.Classes.{oneOf, within}
 use Rattle.text.specs.Refusals.{entryTooLong, notUtf8, tooLong}
 use Rattle.text.specs.declared.refusal.Refusal.{Refusal}
 use Rattle.comments.specs.Gaps.{gapOf}
@@ -16,6 +17,7 @@ use Rattle.octets.specs.declared.answer.Allowed.{Allowed}
 use Rattle.octets.specs.declared.answer.Allowed.the-variants.{All, Bad}
 use Rattle.reading.specs.Readings.{Reading, broken}
 use Rattle.arriving.specs.Arrivals.{Coming, Given, Passing, ended, going, halt, halted, pass, piece, shut}
+use Rattle.inner.specs.Inner.{reasoned}
 use Rattle.settled.specs.Settled.{ronReader}
 use Rattle.pieces.specs.Bars.{barOf, mostHeld}
 use Rattle.pieces.specs.Orders.{mostTaken}
@@ -70,3 +72,13 @@ pub data Barred (text : List ℕ) (n : ℕ) : Refusal → Type 0 where
   long-entry : (at g : ℕ) (rest : List ℕ) → textGives (take n text) .next ≡ going at rest → gapOf rest ≡ gap.Clear g → length rest ≡ g + mostHeld → Barred text n (entryTooLong (at + g))
   long-text : n ≡ mostTaken → Barred text n tooLong
   bad-utf8 : (p : ℕ) → allowedOf text ≡ Bad n p → Barred text n (notUtf8 p)
+
+-- ---- the refusals
+
+-- A number that a text which arrives is refused with: 4 to 21 of reading, and the three exceptions.
+unfoldable pub arrives : ℕ → Bool
+arrives n = within 4 21 n || oneOf (1 ∷ 2 ∷ 30 ∷ []) n
+
+-- A refusal with such a number, and the reason that belongs to it.
+abbrev pub Arrives : Refusal → Type 0
+Arrives r = (arrives (r .number) && reasoned r) ≡ true

@@ -6,5 +6,6 @@ pub mod StructKinds
 pub mod Readings
 pub mod Walks
 pub mod Repairs
+pub mod Arrivals
 pub mod Hosts
 pub mod Promises
