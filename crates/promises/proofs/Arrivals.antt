@@ -5,7 +5,7 @@
 use Prim.Native.Nat.{ℕ, _+_, _<_, _≤_}
 use mathlib.Core.Bool.{false, true}
 use mathlib.Core.List.{List, [], _++_, _∷_}
-use mathlib.Core.Logic.{_⊎_}
+use mathlib.Core.Logic.{_↔_, _⊎_}
 use mathlib.Core.Path.{_≡_}
 use lib.Dec.{eqb}
 use lib.ListN.{length, take}
@@ -15,8 +15,9 @@ use Rattle.text.specs.declared.judge.Judged.the-variants.{Fit}
 use Rattle.text.specs.declared.refusal.Refusal.{Refusal}
 use Rattle.comments.specs.Gaps.{gapOf}
 use Rattle.comments.specs.declared.gap.Gap.the-variants as gap
-use Rattle.octets.specs.Octets.{allowedOf}
-use Rattle.octets.specs.declared.answer.Allowed.the-variants.{Bad}
+use Rattle.octets.specs.Octets.{Broken, Whole, allowedOf}
+use Rattle.octets.specs.declared.answer.Allowed.the-variants.{All, Bad}
+use Rattle.octets.proofs.Exactly as octets
 use Rattle.rows.specs.Rows.{laid, roomOf}
 use Rattle.rows.specs.declared.Entry.{Entry}
 use Rattle.reading.specs.Readings.{Reading, broken, entry, readPart, _▸_}
@@ -132,6 +133,16 @@ module _ {ps : List (List ℕ)} {es : List Entry} {a : Arrival} {kept : List ℕ
 
   pub refusal-ends : eqb (a .refusal .number) 0 ≡ false → (junk : List ℕ) (room : ℕ) → finishOf a (kept ++ junk) room ≡ accepted (record { entries = []; refusal = a .refusal })
   refusal-ends = laws.refusal-at-the-end (laws.begun-calls k .shows)
+
+-- ---- bytes that may be taken
+
+-- All bytes of a text may be taken exactly where it is whole characters and the front of one more,
+pub octets-all : (s : List ℕ) (m : ℕ) → (allowedOf s ≡ All m) ↔ Whole s m
+octets-all = octets.allowed-all
+
+-- and n of them exactly where such a front stands there, and behind it a byte with which no character goes on.
+pub octets-bad : (s : List ℕ) (n k : ℕ) → (allowedOf s ≡ Bad n k) ↔ Broken s n k
+octets-bad = octets.allowed-bad
 
 -- ---- worked texts
 

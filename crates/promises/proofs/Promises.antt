@@ -1,11 +1,17 @@
 -- What is promised: the index, and what all calls share. What the calls promise themselves stands in their contracts, crates/sarridok/src: the answer,
 -- told in the paper's words, is what a definition says of the arguments, and so is each lent slice afterwards; none has a `requires`. Beside this file:
--- Skips         skip; gaps and comments; 4, 5 and 6     Integers      integer; 6 to 10 and 27; digit runs, byte literals     Lists         integers; the
--- single calls that it is, and what refuses it     Strings       contents,
--- contents_part, decoded; escapes, strings, chars     StructKinds   struct_kind     Readings      read; what it reads, what is shut out; names, floats
--- Walks         walk; 24, 25, 26 and 31; links     Repairs       repair; the third demand     Hosts         the interface for C: nothing of an answer is cut
--- off Demand 1: `refused-read`, `refused-decoded`, `refused-walk`, `refused-repair`, `refused-integers`; the other calls are lent nothing to write. Demand 2: what is said of
--- each call. Demand 3: `repair-as-read`. In both a refusal is its number, place and reason. Each line is a theorem's statement; its proof only says where it is proved. Assumes nothing.
+--     Skips         skip; gaps and comments; 4, 5 and 6
+--     Integers      integer; 6 to 10 and 27; digit runs, byte literals
+--     Lists         integers; the single calls that it is, and what refuses it
+--     Strings       contents, contents_part, decoded; escapes, strings, chars
+--     StructKinds   struct_kind
+--     Readings      read; what it reads, what is shut out; names, floats
+--     Walks         walk; 24, 25, 26 and 31; links
+--     Repairs       repair; the third demand
+--     Arrivals      begin, piece, finish: a text that arrives; 30
+--     Hosts         the interface for C: nothing of an answer is cut off
+-- Demand 1: `refused-read`, `refused-decoded`, `refused-walk`, `refused-repair`, `refused-integers`; the other calls are lent nothing to write, or say what they write in their contract. Demand 2: what is said of each call. Demand 3: `repair-as-read`. In both a
+-- refusal is its number, place and reason. Each line is a theorem's statement; its proof only says where it is proved. Assumes nothing.
 use Prim.Native.Nat.{ℕ, _<_, _≤_}
 use mathlib.Core.Bool.{true}
 use mathlib.Core.List.{List, _++_}
