@@ -12,6 +12,7 @@ pub mod FrontLaws
 pub mod StopLaws
 pub mod WaitLaws
 pub mod WaitedRuns
+pub mod StrideLaws
 pub mod TurnLaws
 pub mod RunLaws
 pub mod OrderLaws

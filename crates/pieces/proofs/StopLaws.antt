@@ -14,7 +14,7 @@ use Rattle.text.proofs.RunLaws.{run-end, run-holds, run-le, run-more, run-out}
 use Rattle.text.specs.Runs.{run}
 use Rattle.reading.specs.Kept.{lastQuiet}
 use Rattle.settled.specs.Bytes.{stopsByte}
-use Rattle.pieces.specs.inner.Waiting.{behindStops, nextStop}
+use Rattle.pieces.specs.inner.Waiting.{behindLast, nextStop}
 
 -- no stop byte
 abbrev pub plainByte : ℕ → Bool
@@ -76,19 +76,19 @@ last-le quiet (b ∷ s) =
     let h = last-le quiet s in
     either (bool-cases (ltb 0 (lastQuiet quiet s))) (λ e. rw e (omega arith)) (λ e. either (bool-cases (quiet b)) (λ q. rw (e, q) (omega arith)) (λ q. rw (e, q) (omega arith)))
 
-module _ (part : List ℕ) (from : ℕ) where
-  pub behind-bounds : from ≤ length part → (from ≤ behindStops part from) × (behindStops part from ≤ length part)
-  unfolding behindStops
-  behind-bounds h = let l = last-le stopsByte (drop from part) in (omega arith, omega (arith, length-drop from part))
+module _ (class : ℕ → Bool) (part : List ℕ) (from : ℕ) where
+  pub behind-bounds : from ≤ length part → (from ≤ behindLast class part from) × (behindLast class part from ≤ length part)
+  unfolding behindLast
+  behind-bounds h = let l = last-le class (drop from part) in (omega arith, omega (arith, length-drop from part))
 
   -- none at the end
-  pub last-end : lastQuiet stopsByte (drop (length part) part) ≡ 0
+  pub last-end : lastQuiet class (drop (length part) part) ≡ 0
   unfolding lastQuiet
   last-end = let e : drop (length part) part ≡ [] = drop-length part in rw e
 
-  module _ (i : ℕ) (less : from < i) (le : i ≤ length part) (none : lastQuiet stopsByte (drop i part) ≡ 0) where
-    pub last-here : stopsByte (getD part (i - 1) 0) ≡ true → i ≡ behindStops part from
-    unfolding behindStops
+  module _ (i : ℕ) (less : from < i) (le : i ≤ length part) (none : lastQuiet class (drop i part) ≡ 0) where
+    pub last-here : class (getD part (i - 1) 0) ≡ true → i ≡ behindLast class part from
+    unfolding behindLast
     last-here e =
         let k = i - 1 - from in
         let s = drop from part in
@@ -97,17 +97,17 @@ module _ (part : List ℕ) (from : ℕ) where
         let b : getD s k 0 ≡ getD part (i - 1) 0 = getD-drop from part k 0 ∙ ap (λ (n : ℕ). getD part n 0) j in
         let m : from + suc k ≡ i = omega arith in
         let r : drop (suc k) s ≡ drop i part = drop-drop (suc k) from part ∙ ap (λ (n : ℕ). drop n part) m in
-        let z : lastQuiet stopsByte s ≡ suc (length (take k s)) =
-        ap (lastQuiet stopsByte) (split-at s k 0 l) ∙ last-at stopsByte (take k s) (drop (suc k) s) (getD s k 0) (ap stopsByte b ∙ e) (ap (lastQuiet stopsByte) r ∙ none) in
+        let z : lastQuiet class s ≡ suc (length (take k s)) =
+        ap (lastQuiet class) (split-at s k 0 l) ∙ last-at class (take k s) (drop (suc k) s) (getD s k 0) (ap class b ∙ e) (ap (lastQuiet class) r ∙ none) in
         omega (arith, length-take-le k s (omega arith))
 
-    pub last-on : stopsByte (getD part (i - 1) 0) ≡ false → lastQuiet stopsByte (drop (i - 1) part) ≡ 0
+    pub last-on : class (getD part (i - 1) 0) ≡ false → lastQuiet class (drop (i - 1) part) ≡ 0
     unfolding lastQuiet
     last-on e =
         let m : i - 1 + 1 ≡ i = omega arith in
         let r : drop (i - 1 + 1) part ≡ drop i part = ap (λ (n : ℕ). drop n part) m in
         rw (front part (i - 1) (omega arith), r, none, e)
 
-  pub last-none : (i : ℕ) → i ≡ from → lastQuiet stopsByte (drop i part) ≡ 0 → from ≡ behindStops part from
-  unfolding behindStops
-  last-none i e none = let z : lastQuiet stopsByte (drop from part) ≡ 0 = ap (λ (n : ℕ). lastQuiet stopsByte (drop n part)) (sym e) ∙ none in omega arith
+  pub last-none : (i : ℕ) → i ≡ from → lastQuiet class (drop i part) ≡ 0 → from ≡ behindLast class part from
+  unfolding behindLast
+  last-none i e none = let z : lastQuiet class (drop from part) ≡ 0 = ap (λ (n : ℕ). lastQuiet class (drop n part)) (sym e) ∙ none in omega arith

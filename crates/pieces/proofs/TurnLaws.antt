@@ -44,7 +44,8 @@ use Rattle.pieces.specs.Bars.{barBy, barOf, bytesGive, mostHeld}
 use Rattle.pieces.specs.Come.{later, sooner}
 use Rattle.pieces.specs.inner.Runs.{standsBy, standsIn}
 use Rattle.pieces.specs.inner.Turns.{behindSlashAt, between, decidedAt, turnBy, turnOf, turnPassed, undecidedAt}
-use Rattle.pieces.specs.inner.Waiting.{waitedFrom, waitedOf}
+use Rattle.pieces.specs.inner.Waiting.{stridden}
+use Rattle.pieces.proofs.StrideLaws.{stridden-gives}
 use Rattle.pieces.specs.declared.turn.Stands.{Stands}
 use Rattle.pieces.specs.declared.turn.Stands.the-variants as stands
 use Rattle.pieces.specs.declared.turn.Turned.{Turned}
@@ -59,7 +60,7 @@ use Rattle.pieces.proofs.OddGaps.{odd-keeps, odd-shuts}
 use Rattle.pieces.proofs.PlaceLaws.{later-left, later-right, sooner-left, sooner-right}
 use Rattle.pieces.proofs.Rests.{halted-rest, shut-rest}
 use Rattle.pieces.proofs.RonAlike.{bar-moves, ron-alike-clear}
-use Rattle.pieces.proofs.WaitedRuns.{Decided, Gave, Stopping, gives, shuts as shut-by, waited-gives, waits}
+use Rattle.pieces.proofs.WaitedRuns.{Decided, Gave, Stopping, gives, short-free, shuts as shut-by, waited-gives, waits}
 
 -- ---- bytes between two places
 
@@ -156,16 +157,6 @@ unfolding piece
 none-between s at a x =
     let e : between a a s ≡ [] = between-take s a a ∙ ap (λ (n : ℕ). take n (drop a s)) (sub-self a) in
     ap (bytesGive (going at x)) e ∙ ap (keeping at x) (sym (sub-self a))
-
--- a front that no bar stops: it is shorter than what may be held
-short-free : (x w : List ℕ) → length (x ++ w) ≤ 4096 → Free ronReader barOf 0 x w
-unfolding barOf
-short-free x w l u b z e = go (gapOf (x ++ u)) (omega (arith, l, ap length e, length-append x w, length-append x u, length-append u (b ∷ z)))
-  where
-    go : (a : Gap) → length (x ++ u) < 4096 → barBy 0 (x ++ u) a ≡ pass
-    go (gap.Clear g) h = rw (lt-leb (g + 4096) (length (x ++ u)) (omega arith))
-    go (gap.InLine n) h = refl
-    go (gap.Refused r) h = refl
 
 -- entries told from two beginnings
 there-length : (o n : ℕ) {es fs : List Entry} → AllThere o n es fs → length es ≡ length fs
@@ -453,12 +444,10 @@ module _ (s : List ℕ) (at seen whole : ℕ) (low : at ≤ seen) (top : seen �
       window-length = between-length s (at + k) to inside
 
       -- what is decided there, from the token's start
-      decided-is : Decided (between (at + k) (later seen (at + k)) s) (between (later seen (at + k)) to s) (waitedOf (between (at + k) to s) (later seen (at + k) - (at + k)))
-      unfolding waitedOf
+      decided-is : Decided (between (at + k) (later seen (at + k)) s) (between (later seen (at + k)) to s) (stridden (between (at + k) to s) (later seen (at + k) - (at + k)))
       decided-is =
-          subst (λ (x : List ℕ). Decided x (between (later seen (at + k)) to s) (waitedOf (between (at + k) to s) q)) seen-front
-          (subst (λ (w : List ℕ). Decided (take q W) w (waitedOf (between (at + k) to s) q)) left-back
-          (waited-gives (drop q W) (take q W) (short-free (take q W) (drop q W) (omega (arith, ap length (take-append-drop q W), window-length)))))
+          subst (λ (x : List ℕ). Decided x (between (later seen (at + k)) to s) (stridden (between (at + k) to s) q)) seen-front
+          (subst (λ (w : List ℕ). Decided (take q W) w (stridden (between (at + k) to s) q)) left-back (stridden-gives W q (omega (arith, window-length)) (omega (arith, window-length))))
 
       -- the same from the end of the last entry
       abbrev X : List ℕ
@@ -672,7 +661,7 @@ module _ (s : List ℕ) (at seen whole : ℕ) (low : at ≤ seen) (top : seen �
         let inside : to ≤ length s = either (lt-or-le (at + k + 4096) (length s)) (λ l. omega (arith, sooner-left (at + k + 4096) (length s) (omega arith))) (λ l. omega (arith, sooner-right (at + k + 4096) (length s) l)) in
         let far : to < length s → to ≡ at + k + 4096 = λ i. either (lt-or-le (at + k + 4096) (length s)) (λ l. sooner-left (at + k + 4096) (length s) (omega arith)) (λ l. absurd (omega (arith, sooner-right (at + k + 4096) (length s) l))) in
         either (lt-or-le hr to)
-        (λ l. rw (lt-leb to hr l) (by-decided to l near inside (waitedOf (between (at + k) to s) (hr - (at + k))) (decided-is to l near inside) far))
+        (λ l. rw (lt-leb to hr l) (by-decided to l near inside (stridden (between (at + k) to s) (hr - (at + k))) (decided-is to l near inside) far))
         (λ l. rw (le-leb to hr l) (past to lt l far))
       where
         past : (to : ℕ) → at + k < to → to ≤ later seen (at + k) → (to < length s → to ≡ at + k + 4096) → Means s at seen whole (undecidedAt s at (at + k) seen)
@@ -777,9 +766,8 @@ Small k (Gives n end) = end ≤ k
 Small k (Shuts n end d) = (end ≤ k) × (d .place ≤ k)
 
 pub waited-small : (part : List ℕ) (seen : ℕ) → length part ≤ 4096 → seen ≤ length part
-    → (waitedOf part seen .bytes ≤ length part) × Small (length part) (waitedOf part seen .verdict)
-unfolding waitedOf
-waited-small part seen l m = go (waited-gives (drop seen part) (take seen part) (short-free (take seen part) (drop seen part) (omega (arith, ap length (take-append-drop seen part)))))
+    → (stridden part seen .bytes ≤ length part) × Small (length part) (stridden part seen .verdict)
+waited-small part seen l m = go (stridden-gives part seen m l)
   where
     go : {r : Waited} → Decided (take seen part) (drop seen part) r → (r .bytes ≤ length part) × Small (length part) (r .verdict)
     go (waits k e r) = (omega (arith, e, ap length (take-append-drop seen part)), tt)
@@ -796,10 +784,10 @@ unfolding decidedAt
 decided-past s at start seen here to a b l = rw (← a, ← b, le-leb to here l)
 
 pub decided-waits : (s : List ℕ) (at start seen here to : ℕ) (w : Waited) → here ≡ later seen start → to ≡ sooner (start + mostHeld) (length s) → here < to
-    → w ≡ waitedOf (take (to - start) (drop start s)) (here - start) → turnBy (w .verdict) s at start seen (start + w .bytes) ≡ decidedAt s at start seen
+    → w ≡ stridden (take (to - start) (drop start s)) (here - start) → turnBy (w .verdict) s at start seen (start + w .bytes) ≡ decidedAt s at start seen
 unfolding decidedAt
 decided-waits s at start seen here to w a b l e =
-    let q : w ≡ waitedOf (between start to s) (here - start) = e ∙ ap (λ (x : List ℕ). waitedOf x (here - start)) (sym (between-take s start to)) in
+    let q : w ≡ stridden (between start to s) (here - start) = e ∙ ap (λ (x : List ℕ). stridden x (here - start)) (sym (between-take s start to)) in
     rw (← a, ← b, lt-leb to here l, ← q)
 
 -- the window in which it waits
@@ -812,12 +800,12 @@ window-fits s start seen here to a b l m i =
     (length-take-le (to - start) (drop start s) (omega (arith, length-drop start s)), omega arith, omega arith, low, top)
 
 pub waited-fits : (s : List ℕ) (start seen here to : ℕ) (w : Waited) → here ≡ later seen start → to ≡ sooner (start + mostHeld) (length s) → start < length s → seen ≤ length s → here < to
-    → w ≡ waitedOf (take (to - start) (drop start s)) (here - start) → (w .bytes ≤ 4096) × Small 4096 (w .verdict)
+    → w ≡ stridden (take (to - start) (drop start s)) (here - start) → (w .bytes ≤ 4096) × Small 4096 (w .verdict)
 waited-fits s start seen here to w a b l m i e =
     let f = window-fits s start seen here to a b l m i in
     let part : List ℕ = take (to - start) (drop start s) in
     let k = waited-small part (here - start) (omega (arith, f .0, f .1)) (omega (arith, f .0, f .2)) in
-    subst (λ (r : Waited). (r .bytes ≤ 4096) × Small 4096 (r .verdict)) (sym e) (omega (arith, k .0, f .0, f .1), less (length part) (waitedOf part (here - start) .verdict) (omega (arith, f .0, f .1)) (k .1))
+    subst (λ (r : Waited). (r .bytes ≤ 4096) × Small 4096 (r .verdict)) (sym e) (omega (arith, k .0, f .0, f .1), less (length part) (stridden part (here - start) .verdict) (omega (arith, f .0, f .1)) (k .1))
   where
     less : (n : ℕ) (v : Verdict) → n ≤ 4096 → Small n v → Small 4096 v
     less n Nothing l h = tt

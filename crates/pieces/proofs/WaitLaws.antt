@@ -144,7 +144,7 @@ beyond-goes part from l = go (ronToken (take end part)) refl
     end = behindStops part from
 
     bounds : (from ≤ end) × (end ≤ length part)
-    bounds = behind-bounds part from l
+    bounds = behind-bounds stopsByte part from l
 
     stays : Goes part from from
     stays = (omega arith, l, refl)
@@ -176,7 +176,7 @@ module _ (part : List ℕ) (from end : ℕ) (r : Following) (e : end ≡ behindS
     pub token-fits : from ≤ length part → g + l .len ≤ length part
     token-fits le =
         let t : Token = record { gap = g; len = l .len; kind = l .kind; detail = l .detail } in
-        let b = behind-bounds part from le in
+        let b = behind-bounds stopsByte part from le in
         let n : reach t ≤ length (take end part) = ron .laws .inside (take end part) t (sym q ∙ ap answerOf h) in
         omega (arith, e, b .1, length-take-le end part (omega (arith, e, b .1)))
 

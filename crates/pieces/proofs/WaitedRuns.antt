@@ -6,7 +6,7 @@ use mathlib.Core.List.{List, [], _++_, _∷_, append-assoc, append-nil}
 use mathlib.Core.Path.{_≡_, ap, ap₂, refl, subst, sym, _∙_}
 use lib.Dec.{eqb}
 use lib.ListN.{drop, length, length-append, length-drop}
-use borrow.Author.Tests.{eq-eqb, ne-eqb, eqb-true}
+use borrow.Author.Tests.{eq-eqb, ne-eqb, eqb-true, lt-leb}
 use Rattle.text.proofs.Choices.{bool-cases, either}
 use Rattle.text.specs.Refusals.{placedBehind}
 use Rattle.text.specs.declared.refusal.Refusal.{Refusal}
@@ -25,7 +25,10 @@ use Rattle.arriving.specs.Arrivals.Passing.{halt, pass}
 use Rattle.settled.proofs.Owed.{ron}
 use Rattle.settled.specs.Bytes.{stopsByte}
 use Rattle.settled.specs.Settled.{ronReader, ronSettles}
-use Rattle.pieces.specs.Bars.{barOf, bytesGive}
+use Rattle.comments.specs.Gaps.{gapOf}
+use Rattle.comments.specs.declared.gap.Gap.{Gap}
+use Rattle.comments.specs.declared.gap.Gap.the-variants as gap
+use Rattle.pieces.specs.Bars.{barBy, barOf, bytesGive}
 use Rattle.pieces.specs.inner.Judges.{givesOf, verdictBy, verdictOf}
 use Rattle.pieces.specs.inner.Waiting.{decides, waitedFrom}
 use Rattle.pieces.specs.declared.verdict.Verdict.{Verdict}
@@ -91,7 +94,7 @@ module _ (x : List ℕ) (b : ℕ) (free : barOf 0 x b ≡ pass) where
 
 -- ---- a byte never halts
 
-abbrev NotHalted : Coming → Type 0
+abbrev pub NotHalted : Coming → Type 0
 NotHalted (going at r) = Unit {0}
 NotHalted (shut d) = Unit {0}
 NotHalted (halted d) = ⊥
@@ -102,7 +105,7 @@ IsShut (going at r) d = ⊥
 IsShut (shut e) d = e ≡ d
 IsShut (halted e) d = ⊥
 
-left-goes : (at : ℕ) (l : List ℕ) → NotHalted (leftAt ronReader at l)
+pub left-goes : (at : ℕ) (l : List ℕ) → NotHalted (leftAt ronReader at l)
 unfolding leftAt
 left-goes at l = either (bool-cases (ronSettles l)) (λ t. rw t (go (ronToken l))) (λ t. rw t tt)
   where
@@ -117,7 +120,7 @@ taken-goes s b =
 
 -- ---- where its entries end, and its refusal stands
 
-refused-place : (at : ℕ) (l : List ℕ) (d : Refusal) → leftAt ronReader at l ≡ shut d → d .place ≤ at + length l
+pub refused-place : (at : ℕ) (l : List ℕ) (d : Refusal) → leftAt ronReader at l ≡ shut d → d .place ≤ at + length l
 unfolding leftAt
 refused-place at l d h = either (bool-cases (ronSettles l)) (λ t. go (ronToken l) refl (rw t at h)) (λ t. absurd (is-shut (going at l) d (rw t at h)))
   where
@@ -243,3 +246,13 @@ waited-gives (b ∷ w) x f =
     let g : Given = taken ronReader 0 (x ++ b ∷ []) b in
     by-next x b (free-first ronReader barOf 0 x w b f) w (g .entries) (g .next) refl refl (taken-goes (x ++ b ∷ []) b)
     (waited-gives w (x ++ b ∷ []) (free-rest ronReader barOf 0 x w b f))
+
+-- a front that no bar stops: it is shorter than what may be held
+pub short-free : (x w : List ℕ) → length (x ++ w) ≤ 4096 → Free ronReader barOf 0 x w
+unfolding barOf
+short-free x w l u b z e = go (gapOf (x ++ u)) (omega (arith, l, ap length e, length-append x w, length-append x u, length-append u (b ∷ z)))
+  where
+    go : (a : Gap) → length (x ++ u) < 4096 → barBy 0 (x ++ u) a ≡ pass
+    go (gap.Clear g) h = rw (lt-leb (g + 4096) (length (x ++ u)) (omega arith))
+    go (gap.InLine n) h = refl
+    go (gap.Refused r) h = refl

@@ -11,6 +11,7 @@ ghost use mathlib.Core.Bool.{true};
 ghost use Prim.Native.Nat.{_≤_, _<_, _-_};
 ghost use lib.ListN.{length, getD};
 ghost use Rattle.settled.specs.Bytes.{stopsByte};
+ghost use Rattle.pieces.specs.inner.Scans.{scannedOf};
 ghost use Rattle.pieces.specs.inner.Judges.{behindOf, givesOf, judgedOf};
 
 // So many entries, if any.
@@ -50,12 +51,11 @@ fn behind_entries(part: &[u8], s: Scanned) -> Verdict
     }
 }
 
-// What the last byte of a part decides.
-pub fn judge(part: &[u8]) -> Verdict
-    requires { ⌜ (0 < length (now part)) × (length (now part) ≤ 65536) × (stopsByte (getD (now part) (length (now part) - 1) 0) ≡ true) ⌝ }
+// What the last byte of a part decides, by what the part holds.
+pub fn judge_scanned(part: &[u8], s: Scanned) -> Verdict
+    requires { ⌜ (0 < length (now part)) × (stopsByte (getD (now part) (length (now part) - 1) 0) ≡ true) × (s ≡ scannedOf (now part)) ⌝ }
     ensures { λ r. ⌜ r ≡ judgedOf (now (part .entry)) ⌝ }
 {
-    let s = scan(part);
     let last = part[part.len() - 1];
     if s.end == part.len() {
         // The last entry ends with the byte.
@@ -68,4 +68,12 @@ pub fn judge(part: &[u8]) -> Verdict
         return Verdict::Nothing;
     }
     behind_entries(part, s)
+}
+
+// What the last byte of a part decides.
+pub fn judge(part: &[u8]) -> Verdict
+    requires { ⌜ (0 < length (now part)) × (length (now part) ≤ 65536) × (stopsByte (getD (now part) (length (now part) - 1) 0) ≡ true) ⌝ }
+    ensures { λ r. ⌜ r ≡ judgedOf (now (part .entry)) ⌝ }
+{
+    judge_scanned(part, scan(part))
 }

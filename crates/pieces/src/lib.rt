@@ -14,6 +14,7 @@ pub mod places;
 pub mod run;
 pub mod scan;
 pub mod state;
+pub mod stride;
 pub mod turn;
 pub mod verdict;
 pub mod waiting;

@@ -1,8 +1,8 @@
 // One decision: from where the last entry given ended, over the bytes that nobody has looked at yet.
 use crate::places::later;
 use crate::places::sooner;
+use crate::stride::stride;
 use crate::verdict::Verdict;
-use crate::waiting::wait;
 use gaps::Open;
 use gaps::Passed;
 use gaps::pass_gap;
@@ -81,7 +81,7 @@ fn decided(s: &[u8], at: usize, start: usize, seen: usize) -> Turned
     if to <= here {
         return undecided(s, at, start, seen);
     }
-    let waited = wait(&s[start..to], here - start);
+    let waited = stride(&s[start..to], here - start);
     let bytes = start + waited.bytes;
     let verdict = waited.verdict;
     match verdict {

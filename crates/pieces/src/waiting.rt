@@ -78,7 +78,7 @@ fn beyond(part: &[u8], from: usize) -> usize
 }
 
 // Something is decided.
-fn is_some(verdict: Verdict) -> bool
+pub fn is_some(verdict: Verdict) -> bool
     ensures { λ r. ⌜ r ≡ decides verdict ⌝ }
 {
     match verdict {

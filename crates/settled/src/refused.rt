@@ -48,7 +48,7 @@ fn stays_by(shape: Shape, p: &[u8], refused: Refusal) -> bool
 }
 
 // One that says that the text has ended.
-fn tells_end(refused: Refusal) -> bool
+pub fn tells_end(refused: Refusal) -> bool
     ensures { λ r. ⌜ r ≡ tellsEnd refused ⌝ }
 {
     if refused.number == Refusal::UNCLOSED_BLOCK_COMMENT {

@@ -11,7 +11,7 @@ use Rattle.gaps.specs.declared.pass.Passed.{Passed}
 use Rattle.gaps.specs.declared.pass.Passed.the-variants.{Begins, Within, Unexpected}
 use Rattle.pieces.specs.Bars.{mostHeld}
 use Rattle.pieces.specs.Come.{later, sooner}
-use Rattle.pieces.specs.inner.Waiting.{waitedOf}
+use Rattle.pieces.specs.inner.Waiting.{stridden}
 use Rattle.pieces.specs.declared.verdict.Verdict.{Verdict}
 use Rattle.pieces.specs.declared.verdict.Verdict.the-variants.{Nothing, Gives, Shuts}
 use Rattle.pieces.specs.declared.waiting.Waited.{Waited}
@@ -46,7 +46,7 @@ unfoldable pub decidedAt : List ℕ → ℕ → ℕ → ℕ → Turned
 decidedAt s at start seen =
     let here = later seen start in
     let to = sooner (start + mostHeld) (length s) in
-    let w = waitedOf (between start to s) (here - start) in
+    let w = stridden (between start to s) (here - start) in
     cond (leb to here) (undecidedAt s at start seen) (turnBy (w .verdict) s at start seen (start + w .bytes))
 
 abbrev pub turnPassed : Passed → List ℕ → ℕ → ℕ → Turned

@@ -1,6 +1,6 @@
 -- The first byte that decides something of what has begun.
 use Prim.Native.Nat.{ℕ, _+_, _-_}
-use mathlib.Core.Bool.{Bool, true, false, cond, not}
+use mathlib.Core.Bool.{Bool, true, false, cond, not, _&&_}
 use mathlib.Core.List.{List, [], _∷_, _++_}
 use lib.Dec.{eqb, ltb}
 use lib.ListN.{drop, length, take}
@@ -9,20 +9,29 @@ use Rattle.reading.specs.Kept.{lastQuiet}
 use Rattle.reading.specs.Tokens.{Answer, token, stop, refuse, reach}
 use Rattle.tokens.specs.Ron.{ronToken}
 use Rattle.arriving.specs.Arrivals.{taken}
-use Rattle.settled.specs.Bytes.{stopsByte}
+use Rattle.arriving.specs.Owing.{tellsEnd}
+use Rattle.settled.specs.Bytes.{decidesByte, stopsByte}
 use Rattle.settled.specs.Settled.{ronReader}
-use Rattle.pieces.specs.inner.Judges.{verdictOf}
+use Rattle.pieces.specs.declared.scan.Ending.{Ending}
+use Rattle.pieces.specs.declared.scan.Ending.the-variants.{Broken, Complete}
+use Rattle.pieces.specs.inner.Judges.{judgedOf, verdictOf}
+use Rattle.pieces.specs.inner.Scans.{scannedOf}
 use Rattle.pieces.specs.declared.verdict.Verdict.{Verdict}
 use Rattle.pieces.specs.declared.verdict.Verdict.the-variants.{Nothing, Gives, Shuts}
+use Rattle.pieces.specs.declared.stride.Leapt.{Leapt}
 use Rattle.pieces.specs.declared.waiting.Waited.{Waited}
 
 -- The first stop byte at a place or behind it.
 unfoldable pub nextStop : List ℕ → ℕ → ℕ
 nextStop part from = from + run (λ c. not (stopsByte c)) (drop from part)
 
--- Behind the last stop byte that stands at a place or behind it.
-unfoldable pub behindStops : List ℕ → ℕ → ℕ
-behindStops part from = from + lastQuiet stopsByte (drop from part)
+-- Behind the last byte of a class that stands at a place or behind it; that place where there is none.
+unfoldable pub behindLast : (ℕ → Bool) → List ℕ → ℕ → ℕ
+behindLast class part from = from + lastQuiet class (drop from part)
+
+-- Behind the last stop byte.
+abbrev pub behindStops : List ℕ → ℕ → ℕ
+behindStops part from = behindLast stopsByte part from
 
 -- Where the next byte stands that may decide something, by what the part up to its last stop byte begins with.
 abbrev pub beyondBy : Answer → ℕ → ℕ → ℕ
@@ -50,3 +59,39 @@ waitedFrom x (b ∷ w) =
 -- What is decided first of a part by bytes behind the first `seen`.
 unfoldable pub waitedOf : List ℕ → ℕ → Waited
 waitedOf part seen = waitedFrom (take seen part) (drop seen part)
+
+-- ---- many decisions at once
+
+-- Behind the last deciding byte.
+abbrev pub behindDeciders : List ℕ → ℕ → ℕ
+behindDeciders part from = behindLast decidesByte part from
+
+-- The reading of a part was broken off by its end, or not at all.
+abbrev pub opensEnd : Ending → Bool
+opensEnd Complete = true
+opensEnd (Broken d) = tellsEnd d
+
+-- Nothing is decided, and the last entry before what is refused ends there.
+abbrev pub noLeap : ℕ → Leapt
+noLeap end = record { bytes = 0; verdict = Nothing; end = end }
+
+-- What the last deciding byte of a part says of all that has come, where no byte before it can have refused anything; else where the last entry ends before that
+-- refusal.
+abbrev pub leapBy : List ℕ → ℕ → Ending → Leapt
+leapBy part bytes ending = cond (opensEnd ending) (record { bytes = bytes; verdict = judgedOf (take bytes part); end = 0 }) (noLeap (scannedOf (take bytes part) .end))
+
+unfoldable pub leapOf : List ℕ → ℕ → Leapt
+leapOf part seen =
+    let bytes = behindDeciders part seen in
+    cond (ltb seen bytes) (leapBy part bytes (scannedOf (take bytes part) .ending)) (noLeap 0)
+
+-- What is decided, and behind how many bytes.
+abbrev pub leapt : Leapt → Waited
+leapt l = record { bytes = l .bytes; verdict = l .verdict }
+
+-- Many decisions at once: up to the last deciding byte, or up to the last before something that is refused; else what is decided first.
+unfoldable pub stridden : List ℕ → ℕ → Waited
+stridden part seen =
+    let far = leapOf part seen in
+    let near = leapOf (take (far .end) part) seen in
+    cond (decides (far .verdict)) (leapt far) (cond (ltb seen (far .end) && decides (near .verdict)) (leapt near) (waitedOf part seen))

@@ -17,7 +17,7 @@ abbrev μ-loop : tie.MeasureT-loop
 
 -- src/waiting.rt:45:5
 loop-holds : tie.Need-loop-holds Inv-loop μ-loop
-loop-holds c = (c .before .pre, omega arith, last-end (c .before .args .part .now) (c .before .args .from))
+loop-holds c = (c .before .pre, omega arith, last-end stopsByte (c .before .args .part .now) (c .before .args .from))
 
 -- src/waiting.rt:46:25
 sub-is-stop : tie.Need-sub-is-stop Inv-loop μ-loop
@@ -33,7 +33,7 @@ is-stop-requires c κs = search needs
 
 -- src/waiting.rt:47:13
 returns : tie.Need-returns Inv-loop μ-loop
-returns c = last-here (c .before .before .before .before .before .before .args .part .now) (c .before .before .before .before .before .before .args .from) (c .before .before .before .before .loop .i) (c .before .before .before .loop-test .taken) (c .before .before .before .before .loop .inv .1) (c .before .before .before .before .loop .inv .2) (sym (c .before .is-stop .ensures) ∙ c .if1 .taken)
+returns c = last-here stopsByte (c .before .before .before .before .before .before .args .part .now) (c .before .before .before .before .before .before .args .from) (c .before .before .before .before .loop .i) (c .before .before .before .loop-test .taken) (c .before .before .before .before .loop .inv .1) (c .before .before .before .before .loop .inv .2) (sym (c .before .is-stop .ensures) ∙ c .if1 .taken)
 
 -- src/waiting.rt:49:9
 sub-i : tie.Need-sub-i Inv-loop μ-loop
@@ -45,11 +45,11 @@ loop-less c = search needs
 
 -- src/waiting.rt:45:5
 loop-again : tie.Need-loop-again Inv-loop μ-loop
-loop-again c = (omega (arith, c .before .before .before .loop-test .taken), omega (arith, c .before .before .before .before .loop .inv .1), last-on (c .before .before .before .before .before .before .args .part .now) (c .before .before .before .before .before .before .args .from) (c .before .before .before .before .loop .i) (c .before .before .before .loop-test .taken) (c .before .before .before .before .loop .inv .1) (c .before .before .before .before .loop .inv .2) (sym (c .before .is-stop .ensures) ∙ c .if1 .left))
+loop-again c = (omega (arith, c .before .before .before .loop-test .taken), omega (arith, c .before .before .before .before .loop .inv .1), last-on stopsByte (c .before .before .before .before .before .before .args .part .now) (c .before .before .before .before .before .before .args .from) (c .before .before .before .before .loop .i) (c .before .before .before .loop-test .taken) (c .before .before .before .before .loop .inv .1) (c .before .before .before .before .loop .inv .2) (sym (c .before .is-stop .ensures) ∙ c .if1 .left))
 
 -- src/waiting.rt:40:1
 returns-2 : tie.Need-returns-2 Inv-loop μ-loop
-returns-2 c = last-none (c .before .before .before .args .part .now) (c .before .before .before .args .from) (c .before .loop .i) (omega (arith, c .loop-test .left, c .before .loop .inv .0)) (c .before .loop .inv .2)
+returns-2 c = last-none stopsByte (c .before .before .before .args .part .now) (c .before .before .before .args .from) (c .before .loop .i) (omega (arith, c .loop-test .left, c .before .loop .inv .0)) (c .before .loop .inv .2)
 
 pub behind-stops-spec : {M : Type 1} → statement M
 behind-stops-spec =

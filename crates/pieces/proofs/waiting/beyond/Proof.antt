@@ -1,6 +1,7 @@
 use native.Mathlib.Omega.{arith}
 use mathlib.Core.Path.{sym}
 use lib.Seq.{length-take-le}
+use Rattle.settled.specs.Bytes.{stopsByte}
 use Rattle.pieces.proofs.StopLaws.{behind-bounds}
 use Rattle.pieces.proofs.WaitLaws.{beyond-here, beyond-later, beyond-none, beyond-open, beyond-refused, token-fits}
 use borrow.Author.Needs.{needs}
@@ -13,7 +14,7 @@ behind-stops-requires c κs = search needs
 
 -- src/waiting.rt:61:28
 slice-aggregate-next-token : tie.Need-slice-aggregate-next-token
-slice-aggregate-next-token c = sym (length-take-le (c .before .behind-stops .result) (c .before .before .before .args .part .now) (omega (arith, c .before .behind-stops .ensures, behind-bounds (c .before .before .before .args .part .now) (c .before .before .before .args .from) (c .before .before .before .pre .0) .1)))
+slice-aggregate-next-token c = sym (length-take-le (c .before .behind-stops .result) (c .before .before .before .args .part .now) (omega (arith, c .before .behind-stops .ensures, behind-bounds stopsByte (c .before .before .before .args .part .now) (c .before .before .before .args .from) (c .before .before .before .pre .0) .1)))
 
 -- src/waiting.rt:61:9
 next-token-requires : tie.Need-next-token-requires

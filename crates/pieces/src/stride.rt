@@ -1,0 +1,110 @@
+// Many decisions at once: what the last deciding byte says of all that has come is what the bytes before it gave one by one, where none of them refused anything.
+use crate::judge::judge_scanned;
+use crate::scan::Ending;
+use crate::scan::Scanned;
+use crate::scan::scan;
+use crate::verdict::Verdict;
+use crate::waiting::Waited;
+use crate::waiting::is_some;
+use crate::waiting::wait;
+use settled::bytes::is_decider;
+use settled::refused::tells_end;
+ghost use mathlib.Core.Path.{_≡_};
+ghost use Prim.Native.Nat.{_≤_, _<_};
+ghost use lib.ListN.{length};
+ghost use Rattle.comments.specs.Gaps.{gapOf};
+ghost use Rattle.comments.specs.declared.gap.Gap.the-variants.{Clear};
+ghost use Rattle.pieces.specs.inner.Waiting.{behindDeciders, leapOf, noLeap, opensEnd, stridden};
+
+// What is decided behind so many bytes; or, where nothing is, the end of the last entry before what is refused.
+struct Leapt {
+    bytes: usize,
+    verdict: Verdict,
+    end: usize,
+}
+
+// Behind the last deciding byte that stands at a place or behind it; that place where there is none.
+fn behind_deciders(part: &[u8], from: usize) -> usize
+    requires { ⌜ from ≤ length (now part) ⌝ }
+    ensures { λ r. ⌜ r ≡ behindDeciders (now (part .entry)) from ⌝ }
+{
+    let mut i = part.len();
+    while from < i {
+        if is_decider(part[i - 1]) {
+            return i;
+        }
+        i -= 1;
+    }
+    from
+}
+
+// Whether a reading was broken off by the end of its part, or not at all.
+fn opens_end(ending: Ending) -> bool
+    ensures { λ r. ⌜ r ≡ opensEnd ending ⌝ }
+{
+    match ending {
+        Ending::Complete => true,
+        Ending::Broken(refusal) => tells_end(refusal),
+    }
+}
+
+// Nothing is decided.
+fn no_leap(end: usize) -> Leapt
+    ensures { λ r. ⌜ r ≡ noLeap end ⌝ }
+{
+    Leapt {
+        bytes: 0,
+        verdict: Verdict::Nothing,
+        end,
+    }
+}
+
+// What the last deciding byte of a part says, behind the first `seen`.
+fn leap(part: &[u8], seen: usize) -> Leapt
+    requires { ⌜ (seen ≤ length (now part)) × (length (now part) ≤ 65536) ⌝ }
+    ensures { λ r. ⌜ r ≡ leapOf (now (part .entry)) seen ⌝ }
+{
+    let bytes = behind_deciders(part, seen);
+    if bytes <= seen {
+        return no_leap(0);
+    }
+    let all = scan(&part[..bytes]);
+    let ending = all.ending;
+    if !opens_end(ending) {
+        return no_leap(all.end);
+    }
+    let verdict = judge_scanned(&part[..bytes], all);
+    Leapt {
+        bytes,
+        verdict,
+        end: 0,
+    }
+}
+
+// What is decided of a part that begins with a token or with what starts none, by bytes behind the first `seen`: as much as can be told at once.
+pub fn stride(part: &[u8], seen: usize) -> Waited
+    requires { ⌜ (seen < length (now part)) × (length (now part) ≤ 65536) × (gapOf (now part) ≡ Clear 0) ⌝ }
+    ensures { λ r. ⌜ r ≡ stridden (now (part .entry)) seen ⌝ }
+{
+    let far = leap(part, seen);
+    let verdict = far.verdict;
+    if is_some(verdict) {
+        return Waited {
+            bytes: far.bytes,
+            verdict,
+        };
+    }
+    let end = far.end;
+    if end <= seen {
+        return wait(part, seen);
+    }
+    let near = leap(&part[..end], seen);
+    let told = near.verdict;
+    if is_some(told) {
+        return Waited {
+            bytes: near.bytes,
+            verdict: told,
+        };
+    }
+    wait(part, seen)
+}
