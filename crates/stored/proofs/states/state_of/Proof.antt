@@ -1,9 +1,9 @@
 use Prim.Native.Nat.{ℕ}
 use mathlib.Core.List.{List}
-use Rattle.arrivals.proofs.StateLaws.{gap-in, no-gap, no-number, no-reason, state-known}
+use Rattle.stored.proofs.StateLaws.{gap-in, no-gap, no-number, no-reason, state-known}
 use borrow.Author.Needs.{needs}
-use Rattle.arrivals.proofs.states.state_of.Statement.{statement}
-use Rattle.arrivals.proofs.states.state_of.Tie as tie
+use Rattle.stored.proofs.states.state_of.Statement.{statement}
+use Rattle.stored.proofs.states.state_of.Tie as tie
 
 number-requires : tie.Need-number-requires
 number-requires c κs = search needs
