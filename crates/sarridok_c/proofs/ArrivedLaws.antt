@@ -7,19 +7,23 @@ use mathlib.Core.Path.{_≡_, ap, refl, sym, _∙_}
 use lib.Dec.{eqb, leb}
 use lib.ListN.{getD, length}
 use borrow.Author.Tests.{le-leb, lt-leb}
-use Rattle.pieces.specs.Ends.{Rest, endedOf, finishOf}
-use Rattle.pieces.specs.Pieces.{Outcome, arrivedOf, pieceOf}
+use Rattle.pieces.specs.Ends.{Rest, endedOf, finishOf, restLaid}
+use Rattle.pieces.specs.Pieces.{Outcome, arrivedOf, begun, keptIn, laidIn, pieceOf}
 use Rattle.pieces.specs.declared.state.Arrival.{Arrival}
 use Rattle.pieces.specs.declared.state.Arrived.{Arrived}
 use Rattle.pieces.specs.declared.state.Arrived.the-variants as arrived
 use Rattle.pieces.specs.declared.state.Ended.{Ended}
 use Rattle.pieces.specs.declared.state.Ended.the-variants as ended
+use Rattle.rows.specs.Rows.{roomOf}
+use Rattle.stored.proofs.StoreLaws.{stored-short}
 use Rattle.stored.specs.Numbers.{stateOf, storedIn}
 use Rattle.stored.specs.declared.states.Stored.{Stored}
 use Rattle.stored.specs.declared.states.Stored.the-variants as stored
 use Rattle.text.specs.Refusals.{Told, accepted, refused, noRoom, notInOrder}
+use Rattle.text.specs.declared.refusal.Refusal.{Refusal}
 use Rattle.sarridok_c.specs.Arrivals.{beginNumbered, finishBy, finishNumbered, lentState, outcomeCount, outcomeWord, pieceBy, pieceNumbered, restCount, restWord, stateAfter}
 use Rattle.sarridok_c.specs.Packed.{lentAfter, packed, refusalWord}
+use Rattle.sarridok_c.specs.Words.{doneWord}
 use Rattle.sarridok_c.specs.inner.Answered.{arrivedCount, arrivedState, arrivedWord, endedCount, endedWord}
 
 -- ---- the state
@@ -110,3 +114,91 @@ begin-short n h = rw (lt-leb 10 n h)
 
 pub begin-long : (n : ℕ) → 10 ≤ n → beginNumbered n ≡ accepted tt
 begin-long n h = rw (le-leb 10 n h)
+
+-- ---- what the code does, all of it
+
+module _ (state buffer : List ℕ) (n : ℕ) (tape : List ℕ) (count : ℕ) (lent : Stored) (l : lent ≡ lentState state) where
+  abbrev told : Told Outcome
+  told = pieceNumbered state buffer n (roomOf (length tape))
+
+  -- the answer, the state's numbers, the buffer, the tape and the count behind a piece
+  abbrev AfterPiece : (word : ℕ) (state′ buffer′ tape′ : List ℕ) (count′ : ℕ) → Type 0
+  AfterPiece word state′ buffer′ tape′ count′ =
+      (word ≡ packed outcomeWord (pieceNumbered state buffer n (roomOf (length tape))))
+      × ((state′ ≡ stateAfter (pieceNumbered state buffer n (roomOf (length tape))) state)
+      × ((buffer′ ≡ keptIn (pieceNumbered state buffer n (roomOf (length tape))) buffer)
+      × ((tape′ ≡ laidIn (pieceNumbered state buffer n (roomOf (length tape))) tape)
+      × (count′ ≡ lentAfter outcomeCount (pieceNumbered state buffer n (roomOf (length tape))) count))))
+
+  pub piece-done : (a : Arrival) → lent ≡ stored.State a → (answer : Arrived) (buffer′ tape′ : List ℕ)
+      → answer ≡ arrivedOf (pieceOf a buffer n (roomOf (length tape))) → buffer′ ≡ keptIn (pieceOf a buffer n (roomOf (length tape))) buffer
+      → tape′ ≡ laidIn (pieceOf a buffer n (roomOf (length tape))) tape → (word : ℕ) (state′ : List ℕ) (count′ : ℕ)
+      → word ≡ arrivedWord answer → state′ ≡ arrivedState answer state → count′ ≡ arrivedCount answer count → AfterPiece word state′ buffer′ tape′ count′
+  piece-done a f answer buffer′ tape′ p q r word state′ count′ x y z =
+      let e : pieceOf a buffer n (roomOf (length tape)) ≡ told = piece-known state buffer n (roomOf (length tape)) a (sym l ∙ f) in
+      let g : answer ≡ arrivedOf told = p ∙ ap (λ (t : Told Outcome). arrivedOf t) e in (
+        x ∙ ap arrivedWord g ∙ piece-word told,
+        (
+          y ∙ ap (λ (t : Arrived). arrivedState t state) g ∙ piece-state told state,
+          (
+            q ∙ ap (λ (t : Told Outcome). keptIn t buffer) e,
+            (
+              r ∙ ap (λ (t : Told Outcome). laidIn t tape) e,
+              z ∙ ap (λ (t : Arrived). arrivedCount t count) g ∙ piece-count told count,
+            ),
+          ),
+        ),
+      )
+
+  -- numbers that no state has
+  pub piece-none : lent ≡ stored.Unfit → (r : Refusal) → r ≡ notInOrder → (word : ℕ) → word ≡ refusalWord r → AfterPiece word state buffer tape count
+  piece-none f r p word x =
+      let e : refused notInOrder ≡ told = piece-unfit state buffer n (roomOf (length tape)) (sym l ∙ f) in (
+        x ∙ ap refusalWord p ∙ ap (packed outcomeWord) e,
+        (
+          ap (λ (t : Told Outcome). stateAfter t state) e,
+          (
+            ap (λ (t : Told Outcome). keptIn t buffer) e,
+            (
+              ap (λ (t : Told Outcome). laidIn t tape) e,
+              ap (λ (t : Told Outcome). lentAfter outcomeCount t count) e,
+            ),
+          ),
+        ),
+      )
+
+module _ (state buffer tape : List ℕ) (count : ℕ) (lent : Stored) (l : lent ≡ lentState state) where
+  abbrev toldRest : Told Rest
+  toldRest = finishNumbered state buffer (roomOf (length tape))
+
+  -- the answer, the tape and the count behind the end
+  abbrev AfterEnd : (word : ℕ) (tape′ : List ℕ) (count′ : ℕ) → Type 0
+  AfterEnd word tape′ count′ =
+      (word ≡ packed restWord (finishNumbered state buffer (roomOf (length tape))))
+      × ((tape′ ≡ restLaid (finishNumbered state buffer (roomOf (length tape))) tape)
+      × (count′ ≡ lentAfter restCount (finishNumbered state buffer (roomOf (length tape))) count))
+
+  pub end-done : (a : Arrival) → lent ≡ stored.State a → (answer : Ended) (tape′ : List ℕ) → answer ≡ endedOf (finishOf a buffer (roomOf (length tape)))
+      → tape′ ≡ restLaid (finishOf a buffer (roomOf (length tape))) tape → (word count′ : ℕ) → word ≡ endedWord answer → count′ ≡ endedCount answer count
+      → AfterEnd word tape′ count′
+  end-done a f answer tape′ p r word count′ x z =
+      let e : finishOf a buffer (roomOf (length tape)) ≡ toldRest = end-known state buffer 0 (roomOf (length tape)) a (sym l ∙ f) in
+      let g : answer ≡ endedOf toldRest = p ∙ ap (λ (t : Told Rest). endedOf t) e in (
+        x ∙ ap endedWord g ∙ end-word toldRest,
+        (
+          r ∙ ap (λ (t : Told Rest). restLaid t tape) e,
+          z ∙ ap (λ (t : Ended). endedCount t count) g ∙ end-count toldRest count,
+        ),
+      )
+
+  pub end-none : lent ≡ stored.Unfit → (r : Refusal) → r ≡ notInOrder → (word : ℕ) → word ≡ refusalWord r → AfterEnd word tape count
+  end-none f r p word x =
+      let e : refused notInOrder ≡ toldRest = end-unfit state buffer 0 (roomOf (length tape)) (sym l ∙ f) in
+      (x ∙ ap refusalWord p ∙ ap (packed restWord) e, (ap (λ (t : Told Rest). restLaid t tape) e, ap (λ (t : Told Rest). lentAfter restCount t count) e))
+
+module _ (state : List ℕ) where
+  pub begin-done : (a : Arrival) → a ≡ begun → 10 ≤ length state → (state′ : List ℕ) → state′ ≡ storedIn a state → (0 ≡ packed doneWord (beginNumbered (length state))) × (state′ ≡ storedIn begun state)
+  begin-done a b h state′ e = (sym (ap (packed doneWord) (begin-long (length state) h)), e ∙ ap (λ (x : Arrival). storedIn x state) b)
+
+  pub begin-none : length state < 10 → (r : Refusal) → r ≡ noRoom → (word : ℕ) → word ≡ refusalWord r → (word ≡ packed doneWord (beginNumbered (length state))) × (state ≡ storedIn begun state)
+  begin-none h r p word x = (x ∙ ap refusalWord p ∙ sym (ap (packed doneWord) (begin-short (length state) h)), stored-short begun state h)
