@@ -14,12 +14,13 @@
  *
  * The answer of every function is one number:
  *   accepted   below 2^63; which of the functions below takes out what it holds is said at each call
- *   refused    2^63 + (number + 256 * reason) * 2^32 + place; such a call has written nothing. The reason says why an escape is not valid (13), and is else 0
+ *   refused    2^63 + (number + 256 * reason) * 2^32 + place; such a call has written nothing, but for a text that sarridok_piece or sarridok_finish refuses, behind its entries. The
+ *              reason says why an escape is not valid (13), and is else 0
  * Where an accepted answer holds two numbers they are first * 2^32 + second. Nothing is ever cut off, but the number of an item behind the first 2^32 of a list
  * (sarridok_integers): no other place and no count is above 3 * 65,536, no number and no reason above 255, and each is got back by a shift and a mask. That is proved of
- * every function (crates/promises/proofs/Hosts.antt).
+ * every function (crates/promises/proofs/Hosts.antt; of a text that arrives, crates/sarridok_c/proofs/ArrivedWhole.antt).
  *
- * Names begin with what they are: SARRIDOK_KIND_, _EXTENSION_, _WIDTH_, _NEWTYPE_, _TUPLE_, _STRUCT_, _CODE_, _REFUSED_, _REASON_.
+ * Names begin with what they are: SARRIDOK_KIND_, _EXTENSION_, _WIDTH_, _NEWTYPE_, _TUPLE_, _STRUCT_, _CODE_, _ARRIVAL_, _REFUSED_, _REASON_.
  */
 #ifndef SARRIDOK_H
 #define SARRIDOK_H
@@ -36,7 +37,7 @@ _Static_assert(sizeof(size_t) == 8, "sarridok: the archive is for a size_t of 64
 
 /* ---- Version: major * 10000 + minor * 100 + patch */
 
-#define SARRIDOK_VERSION 600
+#define SARRIDOK_VERSION 700
 
 /* The version that the archive was built with: SARRIDOK_VERSION where the header belongs to it. */
 uint32_t sarridok_version(void);
@@ -46,6 +47,8 @@ uint32_t sarridok_version(void);
 #define SARRIDOK_MAX_TEXT 65536 /* bytes; a longer text is refused */
 #define SARRIDOK_MAX_DEPTH 128  /* the highest depth limit of a walk */
 #define SARRIDOK_ENTRY 5        /* numbers of a tape to an entry: kind, start, end, detail, gap */
+#define SARRIDOK_ARRIVAL 10     /* numbers of a state between two pieces of a text that arrives */
+#define SARRIDOK_MAX_KEPT 4096  /* bytes of such a text that are kept between two pieces, at most */
 
 /* How many numbers a tape must have so that no text of so many bytes is refused for want of room: a text has at most as many entries as bytes, and a tape has room for its
  * length divided by SARRIDOK_ENTRY, rounded down. */
@@ -119,6 +122,21 @@ enum sarridok_struct_type {
     SARRIDOK_STRUCT_UNIT = 5
 };
 
+/* ---- The numbers of a state, between two pieces of a text that arrives: what each is */
+
+enum sarridok_arrival {
+    SARRIDOK_ARRIVAL_TAKEN = 0,  /* how many bytes of the text were taken */
+    SARRIDOK_ARRIVAL_PART = 1,   /* how many of those kept, at their end, belong to a character that has not come whole */
+    SARRIDOK_ARRIVAL_GAP = 2,    /* what is open where nothing has begun: 0 nothing, 1 a slash, 2 a line comment, 3 a block comment */
+    SARRIDOK_ARRIVAL_LEVEL = 3,  /* how many others stand around that block comment, else 0 */
+    SARRIDOK_ARRIVAL_LAST = 4,   /* its last byte, if that is a star or a slash that may be half of a mark, else 0 */
+    SARRIDOK_ARRIVAL_NUMBER = 5, /* the refusal that was given: its number, 0 where there is none, */
+    SARRIDOK_ARRIVAL_PLACE = 6,  /* its place */
+    SARRIDOK_ARRIVAL_REASON = 7, /* and its reason */
+    SARRIDOK_ARRIVAL_FORMER = 8, /* where the last entry given ended */
+    SARRIDOK_ARRIVAL_KEPT = 9    /* how many bytes are kept, at the front of the buffer */
+};
+
 /* ---- Skip: the whitespace length of a cursor behind a line comment that the end of the text left unclosed */
 
 #define SARRIDOK_UNCLOSED_LINE UINT64_MAX
@@ -157,7 +175,7 @@ enum sarridok_refusal {
     SARRIDOK_REFUSED_OTHER_KIND = 27,             /* 0 */
     SARRIDOK_REFUSED_UNFIT = 28,                  /* 0 */
     SARRIDOK_REFUSED_HOLDS_ESCAPE = 29,           /* 0 */
-                                                  /* 30 is reserved: no call gives it */
+    SARRIDOK_REFUSED_ENTRY_TOO_LONG = 30,         /* the entry's start */
     SARRIDOK_REFUSED_REPEATED_FIELD = 31          /* the entry's number */
 };
 
@@ -207,7 +225,7 @@ static inline const char *sarridok_refusal_text(uint32_t number) {
     case SARRIDOK_REFUSED_NO_ROOM:
         return "there is no room: the tape, the links or the buffer is too short";
     case SARRIDOK_REFUSED_NOT_IN_ORDER:
-        return "the cut, the lengths or the tape are not in order";
+        return "the cut, the lengths, the tape or the state are not in order";
     case SARRIDOK_REFUSED_DEPTH_LIMIT_PASSED:
         return "more brackets are open than the limit allows";
     case SARRIDOK_REFUSED_NOT_ALLOWED_HERE:
@@ -220,6 +238,8 @@ static inline const char *sarridok_refusal_text(uint32_t number) {
         return "a place, entry number, cursor, limit, width or mode is unfit";
     case SARRIDOK_REFUSED_HOLDS_ESCAPE:
         return "the contents hold an escape or a line continuation";
+    case SARRIDOK_REFUSED_ENTRY_TOO_LONG:
+        return "an entry is undecided after 4,096 bytes";
     case SARRIDOK_REFUSED_REPEATED_FIELD:
         return "a field of this name stands in the same brackets already";
     default:
@@ -385,6 +405,37 @@ uint64_t sarridok_struct_kind(const uint8_t *text, size_t text_len, size_t place
  * Refused: 1, 2, 28, then 4 to 6. */
 uint64_t sarridok_skip(const uint8_t *text, size_t text_len, size_t cursor, size_t pre_ws_cursor, size_t last_ws_len, uint64_t *new_pre_ws_cursor,
                        uint64_t *new_last_ws_len);
+
+/* ---- A text that arrives in pieces
+ *
+ * Between two pieces there are SARRIDOK_ARRIVAL numbers, the state, and at most SARRIDOK_MAX_KEPT bytes at the front of a buffer: state[SARRIDOK_ARRIVAL_KEPT] of them. The host puts
+ * the next piece right behind these. It may store both, over a loss of power too, and go on with them in another buffer.
+ *
+ * However a text is cut, the entries and the last answer are those of one sarridok_read with room enough, but for 1 and 2, which are told when met, and 30; at which byte anything is
+ * given depends on the text alone (docs/ARRIVAL.md has the rule). Places are those of the whole text. A piece gives at most as many entries as bytes were kept and come with it. */
+
+/* The state before a text's first byte; nothing is kept.
+ * Accepted: 0. The first SARRIDOK_ARRIVAL numbers are written; those behind them are as they were.
+ * Refused: 22 for fewer numbers. */
+uint64_t sarridok_begin(uint32_t *state, size_t state_len);
+
+/* The next n bytes of a text, which stand in the buffer behind those that are kept; n may be 0.
+ * Accepted: 0. *count entries, which what has come decides, stand at the front of the tape; the rest of it is as it was. The state is that behind the piece, and what is kept now
+ * stands at the front of the buffer; what stands behind the ten numbers and behind the bytes kept is as it was.
+ * Refused with 22 or 23: nothing of the piece was taken and nothing is written, not *count either. 23 first, for a state that is not in order or a buffer shorter than what is kept and n
+ * together; 22 where the entries do not fit: the piece, or a shorter one, may then be given again.
+ * Refused with any other number: the text is refused, with 1, 2, 30 or a refusal of reading. *count entries that come before it stand at the front of the tape, and all else is written
+ * as for an accepted piece. The state holds the refusal: every later piece, and the end, get it again and give no entry.
+ * A state that these calls made is never out of order. One that they did not make may be: fewer than ten numbers, a gap above 3, a level or a last byte with a gap other than 3, a last
+ * byte, number or reason above 255 (none is cut short), and numbers that no text leads to, as far as they tell that by themselves. */
+uint64_t sarridok_piece(uint32_t *state, size_t state_len, uint8_t *buffer, size_t buffer_len, size_t n, uint32_t *tape, size_t tape_len, uint64_t *count);
+
+/* The end of the text, with what is kept at the front of the buffer. State and buffer are read and stay as they are.
+ * Accepted: 0, and so is the text. *count entries, its last, stand at the front of the tape; the rest of it is as it was.
+ * Refused with 22 or 23, as for a piece: nothing is written, and behind 22 the end may be asked again.
+ * Refused with any other number: the text is refused, with the state's own refusal, 2 for a character that is cut off, or a refusal of reading. *count entries that come before it stand
+ * at the front of the tape. */
+uint64_t sarridok_finish(const uint32_t *state, size_t state_len, const uint8_t *buffer, size_t buffer_len, uint32_t *tape, size_t tape_len, uint64_t *count);
 
 #ifdef __cplusplus
 }

@@ -524,15 +524,217 @@ static void test_reasons(void) {
     HOLDS(strcmp(sarridok_reason_text(SARRIDOK_REASON_NOT_BYTE_ESCAPED), "not a byte-escaped character") == 0);
 }
 
-/* 0, 3, 30 and the numbers behind the last have no sentence of their own. */
+/* 0, 3 and the numbers behind the last have no sentence of their own. */
 static void test_refusals(void) {
     const char *none = sarridok_refusal_text(0);
     HOLDS(strcmp(none, "no refusal of the table") == 0);
     for (uint32_t number = 1; number < 40; number++) {
-        int known = number != 3 && number != 30 && number <= SARRIDOK_REFUSED_REPEATED_FIELD;
+        int known = number != 3 && number <= SARRIDOK_REFUSED_REPEATED_FIELD;
         HOLDS((strcmp(sarridok_refusal_text(number), none) != 0) == known);
     }
     HOLDS(strcmp(sarridok_refusal_text(SARRIDOK_REFUSED_EXPECTED_STRING_END), "the string is not closed") == 0);
+}
+
+/* ---- A text that arrives */
+
+/* A host: the state with two numbers behind it, the buffer, and the entries that were given, one piece's behind the other's. */
+static struct {
+    uint32_t state[SARRIDOK_ARRIVAL + 2];
+    uint8_t buffer[SARRIDOK_MAX_KEPT + 64];
+    uint32_t entries[SARRIDOK_TAPE_FOR(256)];
+    size_t given;
+} host;
+
+static const size_t room_len = sizeof host.entries / sizeof *host.entries;
+
+static size_t kept(void) { return host.state[SARRIDOK_ARRIVAL_KEPT]; }
+
+static void begin(void) {
+    memset(&host, 0x55, sizeof host);
+    host.given = 0;
+    HOLDS(sarridok_begin(host.state, SARRIDOK_ARRIVAL) == 0);
+}
+
+/* The next piece: its answer; what it gives stands behind what was given before. */
+static uint64_t piece(const char *of, size_t n) {
+    uint64_t count = 0;
+    memcpy(host.buffer + kept(), of, n);
+    uint32_t *tape_of = host.entries + SARRIDOK_ENTRY * host.given;
+    uint64_t answer = sarridok_piece(host.state, SARRIDOK_ARRIVAL, host.buffer, sizeof host.buffer, n, tape_of, room_len - SARRIDOK_ENTRY * host.given, &count);
+    host.given += (size_t)count;
+    return answer;
+}
+
+static uint64_t finish(void) {
+    uint64_t count = 0;
+    uint32_t *tape_of = host.entries + SARRIDOK_ENTRY * host.given;
+    uint64_t answer = sarridok_finish(host.state, SARRIDOK_ARRIVAL, host.buffer, kept(), tape_of, room_len - SARRIDOK_ENTRY * host.given, &count);
+    host.given += (size_t)count;
+    return answer;
+}
+
+/* As over a loss of power: only the ten numbers and the bytes that are kept are brought over. */
+static void stored(void) {
+    uint32_t numbers[SARRIDOK_ARRIVAL];
+    uint8_t bytes_kept[SARRIDOK_MAX_KEPT];
+    size_t n = kept();
+    memcpy(numbers, host.state, sizeof numbers);
+    memcpy(bytes_kept, host.buffer, n);
+    memset(host.state, 0xAA, sizeof host.state);
+    memset(host.buffer, 0xAA, sizeof host.buffer);
+    memcpy(host.state, numbers, sizeof numbers);
+    memcpy(host.buffer, bytes_kept, n);
+}
+
+/* A text in pieces of so many bytes: the answer of the first that is refused, or of the end. */
+static uint64_t arrives(const char *of, size_t len, size_t step) {
+    begin();
+    for (size_t at = 0; at < len; at += step) {
+        uint64_t answer = piece(of + at, len - at < step ? len - at : step);
+        HOLDS(kept() <= SARRIDOK_MAX_KEPT);
+        if (answer != 0) return answer;
+        stored();
+    }
+    return finish();
+}
+
+#define ARRIVING "#![enable(implicit_some)]\n/* the /* locks */ */ [Lock(id: -7, name: \"Fo\\nxton\", \xC3\xA9: r#\"a\"#), // end\n 0x1F, 'x', 1.5]"
+
+/* Texts that are refused: how many entries come before, and what is told behind them. */
+static const struct {
+    const char *text;
+    size_t before;
+    uint32_t number, reason, place;
+} broken[] = {
+    {"[1, /x]", 3, SARRIDOK_REFUSED_UNEXPECTED_CHAR, 0, 6},
+    {"(a: \"\\q\")", 3, SARRIDOK_REFUSED_INVALID_ESCAPE, SARRIDOK_REASON_UNKNOWN_LETTER, 7},
+    {"a \xFF b", 1, SARRIDOK_REFUSED_NOT_UTF8, 0, 2},
+    {"[1, \"Foxton", 3, SARRIDOK_REFUSED_EXPECTED_STRING_END, 0, 5}, /* by the end */
+    {"[1] /* ", 3, SARRIDOK_REFUSED_UNCLOSED_BLOCK_COMMENT, 0, 7},
+    {"a \xC3", 1, SARRIDOK_REFUSED_NOT_UTF8, 0, 2},
+};
+
+/* However it is cut, a text gives what one reading does. */
+static void test_arrives(void) {
+    static const size_t steps[] = {1, 2, 3, 7, 64, sizeof ARRIVING - 1};
+    static uint32_t fresh[SARRIDOK_TAPE_FOR(sizeof ARRIVING)];
+    size_t count = sarridok_count(sarridok_read(bytes(ARRIVING), sizeof ARRIVING - 1, fresh, sizeof fresh / sizeof *fresh));
+    HOLDS(count == 23);
+    for (size_t i = 0; i < sizeof steps / sizeof *steps; i++) {
+        HOLDS(arrives(ARRIVING, sizeof ARRIVING - 1, steps[i]) == 0);
+        HOLDS(host.given == count);
+        HOLDS(memcmp(host.entries, fresh, SARRIDOK_ENTRY * count * sizeof *fresh) == 0);
+        for (size_t k = 0; k < sizeof broken / sizeof *broken; k++) {
+            HOLDS(refused_for(arrives(broken[k].text, strlen(broken[k].text), steps[i]), broken[k].number, broken[k].reason, broken[k].place));
+            HOLDS(host.given == broken[k].before);
+        }
+    }
+}
+
+/* A refusal behind entries is in the state: every later piece and the end get it, and give nothing. */
+static void test_refused_piece(void) {
+    begin();
+    HOLDS(piece("[7, ", 4) == 0 && host.given == 3 && kept() == 0);
+    HOLDS(refused(piece("8, *9", 5), SARRIDOK_REFUSED_UNEXPECTED_CHAR, 7));
+    HOLDS(host.given == 5 && kept() == 0);
+    struct sarridok_entry last = sarridok_entry(host.entries, 4);
+    HOLDS(last.kind == SARRIDOK_KIND_COMMA && last.start == 5 && last.end == 6 && last.gap == 0);
+    HOLDS(host.state[SARRIDOK_ARRIVAL_NUMBER] == SARRIDOK_REFUSED_UNEXPECTED_CHAR && host.state[SARRIDOK_ARRIVAL_PLACE] == 7);
+    HOLDS(host.state[SARRIDOK_ARRIVAL_TAKEN] == 8 && host.state[SARRIDOK_ARRIVAL_FORMER] == 6);
+    stored();
+    HOLDS(refused(piece(" 9]", 3), SARRIDOK_REFUSED_UNEXPECTED_CHAR, 7) && refused(piece("", 0), SARRIDOK_REFUSED_UNEXPECTED_CHAR, 7));
+    HOLDS(refused(finish(), SARRIDOK_REFUSED_UNEXPECTED_CHAR, 7));
+    HOLDS(host.given == 5);
+}
+
+/* 22 takes and writes nothing: the piece and the end may be asked again. */
+static void test_no_room(void) {
+    begin();
+    HOLDS(piece("loc", 3) == 0 && host.given == 0 && kept() == 3);
+    uint32_t before[SARRIDOK_ARRIVAL + 2], short_tape[SARRIDOK_ENTRY];
+    uint64_t count = 77;
+    memcpy(before, host.state, sizeof before);
+    memcpy(host.buffer + 3, "k (7", 4);
+    HOLDS(refused(sarridok_piece(host.state, SARRIDOK_ARRIVAL, host.buffer, 7, 4, NULL, 0, &count), SARRIDOK_REFUSED_NO_ROOM, 0));
+    memset(short_tape, 0x55, sizeof short_tape);
+    HOLDS(refused(sarridok_piece(host.state, SARRIDOK_ARRIVAL, host.buffer, 7, 4, short_tape, SARRIDOK_ENTRY, &count), SARRIDOK_REFUSED_NO_ROOM, 0));
+    HOLDS(count == 77 && short_tape[0] == 0x55555555 && memcmp(host.buffer, "lock (7", 7) == 0);
+    HOLDS(memcmp(host.state, before, sizeof before) == 0);
+    HOLDS(piece("k (7", 4) == 0 && host.given == 2 && kept() == 1);
+    memcpy(before, host.state, sizeof before);
+    HOLDS(refused(sarridok_finish(host.state, SARRIDOK_ARRIVAL, host.buffer, 1, NULL, 0, &count), SARRIDOK_REFUSED_NO_ROOM, 0));
+    HOLDS(count == 77 && memcmp(host.state, before, sizeof before) == 0);
+    HOLDS(finish() == 0 && host.given == 3);
+}
+
+/* A state that no call made: 23, and nothing is written. */
+static void out_of_order(size_t len, size_t at, uint32_t number, size_t also, uint32_t other) {
+    uint32_t before[SARRIDOK_ARRIVAL + 2], tape_of[SARRIDOK_ENTRY] = {7, 7, 7, 7, 7};
+    uint64_t count = 77;
+    begin();
+    host.state[at] = number;
+    host.state[also] = other;
+    memcpy(host.buffer, "[", 1);
+    memcpy(before, host.state, sizeof before);
+    HOLDS(refused(sarridok_piece(host.state, len, host.buffer, 1, 1, tape_of, SARRIDOK_ENTRY, &count), SARRIDOK_REFUSED_NOT_IN_ORDER, 0));
+    HOLDS(refused(sarridok_finish(host.state, len, host.buffer, 1, tape_of, SARRIDOK_ENTRY, &count), SARRIDOK_REFUSED_NOT_IN_ORDER, 0));
+    HOLDS(count == 77 && host.buffer[0] == '[' && tape_of[0] == 7 && tape_of[4] == 7);
+    HOLDS(memcmp(host.state, before, sizeof before) == 0);
+}
+
+static void test_out_of_order(void) {
+    enum { NUMBER = SARRIDOK_ARRIVAL_NUMBER, GAP = SARRIDOK_ARRIVAL_GAP, LEVEL = SARRIDOK_ARRIVAL_LEVEL, LAST = SARRIDOK_ARRIVAL_LAST };
+    out_of_order(SARRIDOK_ARRIVAL, GAP, 4, GAP, 4);
+    out_of_order(SARRIDOK_ARRIVAL, GAP, UINT32_MAX, GAP, UINT32_MAX);
+    out_of_order(SARRIDOK_ARRIVAL, LEVEL, 1, LEVEL, 1);
+    out_of_order(SARRIDOK_ARRIVAL, LEVEL, 1, GAP, 2);
+    out_of_order(SARRIDOK_ARRIVAL, LAST, '*', GAP, 1);
+    out_of_order(SARRIDOK_ARRIVAL, LAST, 256, GAP, 3); /* cut short it would be a state */
+    out_of_order(SARRIDOK_ARRIVAL, NUMBER, 256, NUMBER, 256);
+    out_of_order(SARRIDOK_ARRIVAL, SARRIDOK_ARRIVAL_REASON, 256, SARRIDOK_ARRIVAL_REASON, 256);
+    out_of_order(SARRIDOK_ARRIVAL, SARRIDOK_ARRIVAL_TAKEN, SARRIDOK_MAX_TEXT + 1, SARRIDOK_ARRIVAL_TAKEN, SARRIDOK_MAX_TEXT + 1);
+    out_of_order(SARRIDOK_ARRIVAL, SARRIDOK_ARRIVAL_KEPT, 1, SARRIDOK_ARRIVAL_KEPT, 1); /* kept, and not taken */
+    out_of_order(SARRIDOK_ARRIVAL - 1, GAP, 0, GAP, 0);                               /* nine numbers */
+    out_of_order(0, GAP, 0, GAP, 0);
+    /* A buffer that does not hold what the call says. */
+    uint64_t count = 77;
+    begin();
+    HOLDS(refused(sarridok_piece(host.state, SARRIDOK_ARRIVAL, host.buffer, 3, 4, NULL, 0, &count), SARRIDOK_REFUSED_NOT_IN_ORDER, 0) && count == 77);
+    HOLDS(piece("ab", 2) == 0 && kept() == 2);
+    HOLDS(refused(sarridok_finish(host.state, SARRIDOK_ARRIVAL, host.buffer, 1, host.entries, room_len, &count), SARRIDOK_REFUSED_NOT_IN_ORDER, 0) && count == 77);
+}
+
+/* The beginning, and calls on nothing. What stands behind the ten numbers stays. */
+static void test_begin(void) {
+    uint64_t count = 77;
+    begin();
+    for (size_t i = 0; i < SARRIDOK_ARRIVAL; i++) HOLDS(host.state[i] == 0);
+    HOLDS(host.state[SARRIDOK_ARRIVAL] == 0x55555555);
+    HOLDS(refused(sarridok_begin(NULL, 0), SARRIDOK_REFUSED_NO_ROOM, 0));
+    uint32_t nine[SARRIDOK_ARRIVAL - 1] = {7};
+    HOLDS(refused(sarridok_begin(nine, SARRIDOK_ARRIVAL - 1), SARRIDOK_REFUSED_NO_ROOM, 0) && nine[0] == 7);
+    HOLDS(refused(sarridok_piece(NULL, 0, NULL, 0, 0, NULL, 0, &count), SARRIDOK_REFUSED_NOT_IN_ORDER, 0));
+    HOLDS(refused(sarridok_finish(NULL, 0, NULL, 0, NULL, 0, &count), SARRIDOK_REFUSED_NOT_IN_ORDER, 0) && count == 77);
+    HOLDS(sarridok_piece(host.state, SARRIDOK_ARRIVAL, NULL, 0, 0, NULL, 0, &count) == 0 && count == 0);
+    count = 77;
+    HOLDS(sarridok_finish(host.state, SARRIDOK_ARRIVAL, NULL, 0, NULL, 0, &count) == 0 && count == 0);
+    HOLDS(sarridok_begin(host.state, SARRIDOK_ARRIVAL + 2) == 0 && host.state[SARRIDOK_ARRIVAL + 1] == 0x55555555);
+    HOLDS(piece(TEXT, sizeof TEXT - 1) == 0 && host.given == COUNT && host.state[SARRIDOK_ARRIVAL] == 0x55555555);
+}
+
+/* 30, where an entry is undecided when 4,096 bytes of it have come and another follows: told at its start, and the state keeps nothing. */
+static void test_long_entry(void) {
+    static char name[SARRIDOK_MAX_KEPT + 1];
+    memset(name, 'a', sizeof name);
+    begin();
+    HOLDS(piece("[7, ", 4) == 0 && host.given == 3);
+    HOLDS(piece(name, SARRIDOK_MAX_KEPT) == 0 && kept() == SARRIDOK_MAX_KEPT);
+    stored();
+    HOLDS(refused(piece(" ", 1), SARRIDOK_REFUSED_ENTRY_TOO_LONG, 4) && host.given == 3 && kept() == 0);
+    begin();
+    HOLDS(refused(piece(name, SARRIDOK_MAX_KEPT + 1), SARRIDOK_REFUSED_ENTRY_TOO_LONG, 0) && host.given == 0);
+    begin();
+    HOLDS(piece(name, SARRIDOK_MAX_KEPT) == 0 && finish() == 0 && host.given == 1);
 }
 
 int main(void) {
@@ -558,5 +760,11 @@ int main(void) {
     test_integers();
     test_integers_front();
     test_unlisted();
+    test_begin();
+    test_arrives();
+    test_refused_piece();
+    test_no_room();
+    test_out_of_order();
+    test_long_entry();
     return wrong;
 }

@@ -15,6 +15,7 @@ use Rattle.lines.proofs.Laws.{over-front}
 use Rattle.pieces.specs.Ends.{finishOf}
 use Rattle.pieces.specs.declared.state.Arrival.{Arrival}
 use Rattle.show.specs.Answers.{badText}
+use Rattle.stored.specs.Numbers.{stateOf}
 use Rattle.text.proofs.Choices.{cond-cases}
 use Rattle.text.proofs.Lists.{tail-part}
 use Rattle.words.specs.Hex.{hexIn, pairs}
@@ -30,7 +31,7 @@ use Rattle.words.specs.declared.number.Decimal.{Decimal}
 use Rattle.words.specs.declared.number.Decimal.the-variants as number
 use Rattle.words.proofs.SaidLaws.{hex-said, tape-said}
 use Rattle.arrivals.specs.Arrives.{endText}
-use Rattle.arrivals.specs.States.{stateOf}
+use Rattle.arrivals.specs.States.{spokenBy}
 use Rattle.arrivals.specs.Any.{isEnd, lastBy, lastOf, spokenOf, pieceLine, callBy, callText, unfitText, roomFor, stateLine, anyLine}
 use Rattle.arrivals.specs.declared.arrive_any.Last.{Last}
 use Rattle.arrivals.specs.declared.arrive_any.Last.the-variants as last
@@ -71,7 +72,7 @@ module _ (word text : List ℕ) (k : ℕ) where
 
 module _ (word : List ℕ) (kept : ℕ) (tape : List ℕ) where
   abbrev nine : Bool → Spoken
-  nine b = cond b (stateOf (numbersOf word) kept) spoken.Bad
+  nine b = cond b (spokenBy (stateOf (numbersOf word) kept)) spoken.Bad
 
   spoken-by : (k : Count) (b : Bool) → numbersIn word (length tape) ≡ k → eqb (length (numbersOf word)) 9 ≡ b
       → spokenOf word kept (length tape) ≡ byList k spoken.Bad (nine b)
@@ -90,9 +91,9 @@ module _ (word : List ℕ) (kept : ℕ) (tape : List ℕ) where
     not-nine h =
         sym (spoken-by (count.Stored n) false e (ap (λ (x : List ℕ). eqb (length x) 9) (sym same) ∙ ne-eqb (length s) 9 h))
 
-    pub nine-said : length s ≡ 9 → (r : Spoken) → r ≡ stateOf s kept → r ≡ spokenOf word kept (length tape)
+    pub nine-said : length s ≡ 9 → (r : Spoken) → r ≡ spokenBy (stateOf s kept) → r ≡ spokenOf word kept (length tape)
     nine-said h r p =
-        p ∙ ap (λ (x : List ℕ). stateOf x kept) same
+        p ∙ ap (λ (x : List ℕ). spokenBy (stateOf x kept)) same
         ∙ sym (spoken-by (count.Stored n) true e (ap (λ (x : List ℕ). eqb (length x) 9) (sym same) ∙ eq-eqb (length s) 9 h))
 
 -- ---- what is held

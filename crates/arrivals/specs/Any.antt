@@ -9,6 +9,7 @@ use Rattle.pieces.specs.Pieces.{Outcome, keptIn, pieceOf}
 use Rattle.pieces.specs.declared.state.Arrival.{Arrival}
 use Rattle.rows.specs.Rows.{roomOf}
 use Rattle.show.specs.Answers.{badText, refusedText}
+use Rattle.stored.specs.Numbers.{stateOf}
 use Rattle.text.specs.Refusals.{Told, accepted, refused, notInOrder}
 use Rattle.words.specs.Hex.{hexIn, pairs}
 use Rattle.words.specs.Number.{decimalOf}
@@ -17,7 +18,7 @@ use Rattle.words.specs.Split.{firstWord, behindWord}
 use Rattle.words.specs.declared.hex.Hex.{Hex}
 use Rattle.words.specs.declared.hex.Hex.the-variants as hex
 use Rattle.arrivals.specs.Arrives.{pieceText, endText}
-use Rattle.arrivals.specs.States.{stateOf, standsText}
+use Rattle.arrivals.specs.States.{spokenBy, standsText}
 use Rattle.arrivals.specs.declared.arrive_any.Last.{Last}
 use Rattle.arrivals.specs.declared.arrive_any.Last.the-variants as last
 use Rattle.arrivals.specs.declared.states.Spoken.{Spoken}
@@ -39,7 +40,7 @@ lastOf word room = lastBy (hexIn word room) word
 
 -- The state: nine numbers, with so many bytes kept.
 unfoldable pub spokenOf : List ℕ → ℕ → ℕ → Spoken
-spokenOf word kept room = byNumbers word room spoken.Bad (λ s. cond (eqb (length s) 9) (stateOf s kept) spoken.Bad)
+spokenOf word kept room = byNumbers word room spoken.Bad (λ s. cond (eqb (length s) 9) (spokenBy (stateOf s kept)) spoken.Bad)
 
 -- ---- the call
 

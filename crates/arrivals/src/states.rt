@@ -1,94 +1,31 @@
 // A state as nine numbers, `taken,part,gap,level,last,number,place,reason,former`, and the bytes that are kept.
 ghost use mathlib.Core.Path.{_≡_};
-ghost use lib.ListN.{getD};
 ghost use Rattle.lines.specs.Out.{put};
-ghost use Rattle.arrivals.specs.States.{gapOf, stateOf, itemText, threeText, openText, stateText, bytesText, standsText};
+ghost use Rattle.stored.specs.Numbers.{stateOf};
+ghost use Rattle.arrivals.specs.States.{spokenBy, itemText, threeText, openText, stateText, bytesText, standsText};
 ghost use Rattle.arrivals.specs.inner.Says.{leavesText};
 use gaps::Open;
 use lines::out;
 use pieces::state::Arrival;
 use pieces::state::Arrived;
-use text::Refusal;
+use stored::Stored;
 
-// What is open, by three numbers; or they say nothing.
-enum Gap {
-    Stands(Open),
-    Unfit,
-}
-
-// The state that numbers say; or numbers that no state has; or the word is no state.
+// The state that a word says; or numbers that no state has; or the word is no state.
 pub enum Spoken {
     State(Arrival),
     Unfit,
     Bad,
 }
 
-// The number at a place, 0 past the end.
-fn number(s: &[u32], i: usize) -> u32
-    ensures { λ r. ⌜ r ≡ getD (now (s .entry)) i 0 ⌝ }
-{
-    if i < s.len() {
-        return s[i];
-    }
-    0
-}
-
-fn gap_of(gap: u32, level: u32, last: u32) -> Gap
-    ensures { λ r. ⌜ r ≡ gapOf gap level last ⌝ }
-{
-    if gap == 3 {
-        if 255 < last {
-            return Gap::Unfit;
-        }
-        return Gap::Stands(Open::Block(level, last as u8));
-    }
-    if level != 0 {
-        return Gap::Unfit;
-    }
-    if last != 0 {
-        return Gap::Unfit;
-    }
-    if gap == 0 {
-        return Gap::Stands(Open::Clear);
-    }
-    if gap == 1 {
-        return Gap::Stands(Open::Slash);
-    }
-    if gap == 2 {
-        return Gap::Stands(Open::Line);
-    }
-    Gap::Unfit
-}
-
 // The state that nine numbers say, with so many bytes kept.
 pub fn state_of(s: &[u32], kept: usize) -> Spoken
-    ensures { λ r. ⌜ r ≡ stateOf (now (s .entry)) kept ⌝ }
+    ensures { λ r. ⌜ r ≡ spokenBy (stateOf (now (s .entry)) kept) ⌝ }
 {
-    let gap = gap_of(number(s, 2), number(s, 3), number(s, 4));
-    let Gap::Stands(open) = gap else {
-        return Spoken::Unfit;
-    };
-    let refused = number(s, 5);
-    if 255 < refused {
-        return Spoken::Unfit;
+    let said = stored::state_of(s, kept);
+    match said {
+        Stored::State(a) => Spoken::State(a),
+        Stored::Unfit => Spoken::Unfit,
     }
-    let reason = number(s, 7);
-    if 255 < reason {
-        return Spoken::Unfit;
-    }
-    let refusal = Refusal {
-        number: refused as u8,
-        reason: reason as u8,
-        place: number(s, 6) as usize,
-    };
-    Spoken::State(Arrival {
-        taken: number(s, 0) as usize,
-        kept,
-        part: number(s, 1) as usize,
-        former: number(s, 8) as usize,
-        gap: open,
-        refusal,
-    })
 }
 
 // A number behind a comma.

@@ -12,7 +12,7 @@ unfoldable pub lineAt : ℕ → List ℕ → List ℕ
 lineAt zero s = take (findOf 10 s) s
 lineAt (suc n) s = lineAt n (drop (findOf 10 s + 1) s)
 
--- A line for each number from 0 to 31, empty for 0, 3 and 30, which no refusal has; those that no text can bring about have theirs too.
+-- A line for each number from 0 to 31, empty for 0 and 3, which no refusal has; those that no text can bring about have theirs too.
 unfoldable pub sentences : List ℕ
 sentences =
     ascii "\n" ++
@@ -38,14 +38,14 @@ sentences =
     ascii "the end of the attribute is expected\n" ++
     ascii "the extension is not known\n" ++
     ascii "there is no room: the tape, the links or the buffer is too short\n" ++
-    ascii "the cut, the lengths or the tape are not in order\n" ++
+    ascii "the cut, the lengths, the tape or the state are not in order\n" ++
     ascii "more brackets are open than the limit allows\n" ++
     ascii "this cannot stand here\n" ++
     ascii "the text ends before its value does\n" ++
     ascii "the entry or the suffix is of another kind\n" ++
     ascii "a place, entry number, cursor, limit, width or mode is unfit\n" ++
     ascii "the contents hold an escape or a line continuation\n" ++
-    ascii "\n" ++
+    ascii "an entry is undecided after 4,096 bytes\n" ++
     ascii "a field of this name stands in the same brackets already\n"
 
 -- The sentence of a number: its line, and the last one for a number above 30.

@@ -1,5 +1,5 @@
 // Each refusal number of the paper as a sentence, and each reason of an invalid escape in words. One text with a line for each: a match of as many arms
-// takes far longer to prove. 0, 3 and 30 are given by no call, so their lines are empty.
+// takes far longer to prove. 0 and 3 are given by no call, so their lines are empty.
 use lines::out;
 use lines::past;
 use lines::until;
@@ -52,14 +52,14 @@ pub fn say(o: &mut [u8], at: usize, number: u8) -> usize
             the end of the attribute is expected\n\
             the extension is not known\n\
             there is no room: the tape, the links or the buffer is too short\n\
-            the cut, the lengths or the tape are not in order\n\
+            the cut, the lengths, the tape or the state are not in order\n\
             more brackets are open than the limit allows\n\
             this cannot stand here\n\
             the text ends before its value does\n\
             the entry or the suffix is of another kind\n\
             a place, entry number, cursor, limit, width or mode is unfit\n\
             the contents hold an escape or a line continuation\n\
-            \n\
+            an entry is undecided after 4,096 bytes\n\
             a field of this name stands in the same brackets already\n";
     out::bytes(o, at, line(all, known(number)))
 }

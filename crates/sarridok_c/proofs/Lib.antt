@@ -1,5 +1,6 @@
 pub mod PackLaws
 pub mod NumberedLaws
+pub mod ArrivedLaws
 pub mod Unpacking
 pub mod CallPlaces
 pub mod WalkPlaces

@@ -7,5 +7,5 @@ ghost use Rattle.sarridok_c.specs.Version.{version};
 pub extern "C" fn sarridok_version() -> u32
     ensures { λ r. ⌜ r ≡ version ⌝ }
 {
-    600
+    700
 }

@@ -1,8 +1,8 @@
 use mathlib.Core.Path.{sym}
 use lib.ListN.{List·getD-eq-default}
 use borrow.Author.Needs.{needs}
-use Rattle.arrivals.proofs.states.number.Statement.{statement}
-use Rattle.arrivals.proofs.states.number.Tie as tie
+use Rattle.stored.proofs.states.number.Statement.{statement}
+use Rattle.stored.proofs.states.number.Tie as tie
 
 mul-result : tie.Need-mul-result
 mul-result c = search needs

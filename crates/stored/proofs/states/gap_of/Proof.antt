@@ -1,8 +1,8 @@
 use borrow.Author.Tests.{eq-eqb, ne-eqb, lt-ltb, le-ltb}
-use Rattle.arrivals.specs.States.{gapOf}
+use Rattle.stored.specs.Numbers.{gapOf}
 use borrow.Author.Needs.{needs}
-use Rattle.arrivals.proofs.states.gap_of.Statement.{statement}
-use Rattle.arrivals.proofs.states.gap_of.Tie as tie
+use Rattle.stored.proofs.states.gap_of.Statement.{statement}
+use Rattle.stored.proofs.states.gap_of.Tie as tie
 
 returns : tie.Need-returns
 unfolding gapOf

@@ -1,0 +1,4 @@
+pub mod StateLaws
+pub mod StoreLaws
+pub mod Bounds
+pub mod RoundTrip
