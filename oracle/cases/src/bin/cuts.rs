@@ -11,16 +11,16 @@ fn usage() -> ! {
 }
 
 fn main() -> io::Result<()> {
-    let words: Option<Vec<usize>> = std::env::args().skip(1).map(|word| word.parse().ok()).collect();
+    let words: Option<Vec<u64>> = std::env::args().skip(1).map(|word| word.parse().ok()).collect();
     let (count, pieces, from) = match words.as_deref() {
-        Some([pieces]) => return writeln!(io::stdout(), "{}", cuts::all(*pieces as u32).count()),
+        Some([pieces]) => return writeln!(io::stdout(), "{}", cuts::all(*pieces as u32, 0).count()),
         Some([count, pieces]) => (*count, *pieces, 0),
         Some([count, pieces, from]) => (*count, *pieces, *from),
         _ => usage(),
     };
     let mut out = BufWriter::with_capacity(1 << 20, io::stdout().lock());
     let mut case = Vec::new();
-    for cut in cuts::all(pieces as u32).skip(from).take(count) {
+    for cut in cuts::all(pieces as u32, from).take(count as usize) {
         case.clear();
         line::pieces(&mut case, &cut);
         case.push(b'\n');
