@@ -27,6 +27,8 @@ pub fn answer(
         b'w' => tapes::walk_text::answer(&line[2..], text, tape, links, o, at),
         b'I' => lists::list_any::answer(&line[2..], text, tape, links, numbers, spare, o, at),
         b'n' => lists::list_text::answer(&line[2..], text, tape, links, numbers, spare, o, at),
+        b'Q' => arrivals::arrive_any::answer(&line[2..], text, tape, o, at),
+        b'q' => arrivals::arrive_text::answer(&line[2..], text, tape, links, o, at),
         b'C' => cases::any_c::answer(&line[2..], text, tape, spare, o, at),
         b'c' => cases::c::answer(&line[2..], text, spare, o, at),
         b'i' => cases::i::answer(&line[2..], text, o, at),

@@ -105,11 +105,20 @@ impl Alphabet {
     /// Text `number` of an endless walk: every second step goes through the tiny texts in order,
     /// the others go by strides through all.
     pub fn text(&self, number: u64) -> Vec<u8> {
-        let base = self.pieces.len() as u64;
-        let pieces = match number % 2 {
-            0 => spell(base, number / 2 % texts(base, TINY)),
-            _ => spell(base, strided(number / 2, texts(base, self.longest))),
-        };
+        match number % 2 {
+            0 => self.spelt(number / 2 % self.texts(TINY)),
+            _ => self.spelt(strided(number / 2, self.texts(self.longest))),
+        }
+    }
+
+    /// The number of texts of at most so many pieces.
+    pub fn texts(&self, longest: u32) -> u64 {
+        texts(self.pieces.len() as u64, longest)
+    }
+
+    /// Text `number` of all: those of few pieces first.
+    pub fn spelt(&self, number: u64) -> Vec<u8> {
+        let pieces = spell(self.pieces.len() as u64, number);
         pieces.iter().flat_map(|&piece| self.pieces[piece].bytes()).collect()
     }
 }
@@ -147,7 +156,7 @@ mod tests {
     #[test]
     fn strides_visit_every_text() {
         for alphabet in [&SKIP, &INTEGER, &NUMBERS, &CONTENTS, &STRUCT, &READ, &WALK, &EDITED, &ARRIVING] {
-            assert_ne!(texts(alphabet.pieces.len() as u64, alphabet.longest) % STRIDE, 0);
+            assert_ne!(alphabet.texts(alphabet.longest) % STRIDE, 0);
         }
         let all = texts(EDGES.len() as u64, LONGEST_EDGES);
         let seen: std::collections::HashSet<Vec<u8>> = (0..all).map(nearly_utf8).collect();

@@ -2,6 +2,7 @@
 pub mod alphabet;
 pub mod arrivals;
 pub mod chosen;
+pub mod cuts;
 pub mod damage;
 pub mod documents;
 pub mod edits;
