@@ -33,7 +33,7 @@ const REFUSED: &[&str] = &[
     "#![ foo ] 7",
     "#![enable(implicit_some",
     "[7, €, 8]",
-    "[99999999999999999999]",
+    "[256u8]",
 ];
 
 /// Bytes of which some are no UTF-8.
