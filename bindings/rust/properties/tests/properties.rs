@@ -252,7 +252,7 @@ fn texts_that_arrive() {
         }
         assert_eq!(told_in_all(bytes), at_once);
     }
-    holds(3000, property as fn(Text, Cuts, Cuts));
+    holds(10000, property as fn(Text, Cuts, Cuts));
     let met = MET.load(Ordering::Relaxed);
     for number in [0, 2, 4, 5, 6, 7, 9, 13, 14, 17] {
         assert!(met >> number & 1 == 1, "never met: {number}");
@@ -269,7 +269,7 @@ fn long_texts_that_arrive() {
         let lengths: Vec<usize> = cuts.0.iter().map(|length| length * 311).collect();
         assert_eq!(told_in_all(told_each(cut(&long.0, &lengths))), at_once);
     }
-    holds(1500, property as fn(Long, Cuts));
+    holds(400, property as fn(Long, Cuts));
     let met = MET.load(Ordering::Relaxed);
     for number in [0, 1, 2, 30] {
         assert!(met >> number & 1 == 1, "never met: {number}");
@@ -293,7 +293,7 @@ fn any_state_of_an_arrival() {
         let refusal = any_state(numbers, &buffer, n.of(rest.len()), room.of(4 * ENTRY).min(200 * ENTRY));
         MET.fetch_or(1 << refusal.map_or(0, |refusal| refusal.number()), Ordering::Relaxed);
     }
-    holds(8000, property as fn(Text, Near, (Damage, Damage), Near, Near));
+    holds(10000, property as fn(Text, Near, (Damage, Damage), Near, Near));
     let met = MET.load(Ordering::Relaxed);
     for number in [0, 2, 5, 22, 23] {
         assert!(met >> number & 1 == 1, "never met: {number}");
@@ -316,7 +316,7 @@ fn arrivals_are_resumed() {
             assert!(resumed.taken() <= lent.state.taken());
         }
     }
-    holds(2000, property as fn(Text, Cuts));
+    holds(6000, property as fn(Text, Cuts));
 }
 
 /// An integer written by Rust is read in a width exactly where it fits the type of that width, else refused at its end.
