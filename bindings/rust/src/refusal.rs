@@ -110,14 +110,14 @@ refusals! {
     20 ExpectedAttributeEnd "the end of the attribute is expected",
     21 NoSuchExtension "the extension is not known",
     22 NoRoom "there is no room: the tape, the links or the buffer is too short",
-    23 NotInOrder "the cut, the lengths or the tape are not in order",
+    23 NotInOrder "the cut, the lengths, the tape or the state are not in order",
     24 DepthLimitPassed "more brackets are open than the limit allows",
     25 NotAllowedHere "this cannot stand here",
     26 TapeEndsEarly "the text ends before its value does",
     27 OtherKind "the entry or the suffix is of another kind",
     28 Unfit "a place, entry number, cursor, limit, width or mode is unfit",
     29 HoldsEscape "the contents hold an escape or a line continuation",
-    30 EntryTooLong "an entry is undecided behind 4,096 bytes, and another follows",
+    30 EntryTooLong "an entry is undecided after 4,096 bytes",
     31 RepeatedField "a field of this name stands in the same brackets already",
 }
 
