@@ -8,7 +8,7 @@ use std::io::Write;
 
 fn main() {
     let words: Vec<String> = std::env::args().skip(1).collect();
-    let mut all = texts::KINDS.iter().chain([&texts::SHORT, &texts::NODES]).chain(texts::RECORDS).chain(texts::WORST);
+    let mut all = texts::KINDS.iter().chain([&texts::SHORT, &texts::NODES]).chain(texts::RECORDS).chain(texts::WORST).chain(texts::ARRIVING);
     match &words[..] {
         [] => all.for_each(|kind| println!("{}", kind.name)),
         [name, size] => {

@@ -1,12 +1,13 @@
 //! One call, to be counted from outside.
+use crate::arrivals::{arrive, PIECES};
 use crate::calls::walk;
 use crate::edits::Edit;
 use crate::lists::Listed;
 use crate::sides::Sides;
-use crate::texts::{Kind, KINDS, NODES, RECORDS, SHORT, WORST};
+use crate::texts::{Kind, ARRIVING, KINDS, NODES, RECORDS, SHORT, WORST};
 
 fn all() -> impl Iterator<Item = &'static Kind> {
-    KINDS.iter().chain([&SHORT, &NODES]).chain(RECORDS).chain(WORST)
+    KINDS.iter().chain([&SHORT, &NODES]).chain(RECORDS).chain(WORST).chain(ARRIVING)
 }
 
 pub fn kinds() {
@@ -21,6 +22,12 @@ pub fn worst() {
     }
 }
 
+pub fn arriving() {
+    for kind in KINDS[..1].iter().chain(ARRIVING) {
+        println!("{}", kind.name);
+    }
+}
+
 /// What is counted happens in here.
 #[no_mangle]
 #[inline(never)]
@@ -29,7 +36,7 @@ pub extern "Rust" fn versus_measured(call: &mut dyn FnMut()) {
 }
 
 /// Prints the bytes of the text. CALL: a read by `ours`, `crate` or `lean`; a `walk`; a `repair` in the middle;
-/// `integers`, all of the text.
+/// `integers`, all of the text; `pieces` and a length, the text that arrives so.
 pub fn one(call: &str, name: &str, size: &str) {
     let kind = all().find(|k| k.name == name).expect("no such kind");
     let sides = Sides::of(kind.text(size.parse().expect("no number of bytes")));
@@ -42,7 +49,10 @@ pub fn one(call: &str, name: &str, size: &str) {
         "repair" => edit.there_only(),
         "integers" => listed.one_call(),
         "crate integers" => listed.crate_call(),
-        _ => panic!("no such call"),
+        _ => match call.strip_prefix("pieces").map(str::parse) {
+            Some(Ok(length)) => arrive(&sides, length),
+            _ => panic!("no such call; the pieces of the tables are {PIECES:?}"),
+        },
     };
     versus_measured(&mut call);
     println!("{}", sides.text.len());

@@ -1,12 +1,13 @@
 //! The third table: the cost of a byte at four sizes, for every call and for the worst cases. Where it stands, the cost is linear.
 //! And the cost of a field in walks of one record, whose names are compared: it grows with the logarithm of how many there are.
+use crate::arrivals;
 use crate::calls::{decoded, part, us, walk, Typed};
 use crate::clock::{medians, Call};
 use crate::edits::Edit;
 use crate::lists::{Listed, MANY};
 use crate::ours;
 use crate::sides::Sides;
-use crate::texts::{fields, Kind, KINDS, NAMES, WORST};
+use crate::texts::{fields, Kind, ARRIVING, KINDS, NAMES, WORST};
 
 /// The crate's `StructType::NewtypeTuple`.
 const NEWTYPE_TUPLE: u64 = 2;
@@ -23,6 +24,7 @@ pub fn tables() {
     records();
     lists();
     long_lists();
+    arriving();
     println!("\n## Worst cases of reading: nanoseconds a byte\n");
     println!("| text | 1 KiB | 4 KiB | 16 KiB | 64 KiB | crate, 64 KiB | ratio |\n|---|--:|--:|--:|--:|--:|--:|");
     WORST.iter().for_each(worst);
@@ -117,6 +119,18 @@ fn long_lists() {
         let [time] = medians([listed.one_call()]);
         println!("| {count} | {} | {:.1} |", us(time), time / 1000.0 / count as f64);
     }
+}
+
+/// The first of the texts is what the goal speaks of.
+pub fn arriving() {
+    println!("\n## Texts that arrive, in pieces of so many bytes and their end: nanoseconds a byte\n");
+    println!("The host's copy of each piece behind what is kept is part of it. The last columns are those of 64 KiB: microseconds, and how many readings that is.\n");
+    println!("| text | call | bytes | 1 KiB | 4 KiB | 16 KiB | 64 KiB | us | / read |\n|---|---|--:|--:|--:|--:|--:|--:|--:|");
+    let ratio = arrivals::rows(named("canal network"), SIZES);
+    for kind in ARRIVING {
+        arrivals::rows(kind, SIZES);
+    }
+    println!("\nPieces of 512 bytes of the canal network take {ratio:.2} of a reading (goal: at most 2).");
 }
 
 fn named(name: &str) -> &'static Kind {

@@ -1,5 +1,5 @@
 //! What the product's calls cost beside the crate's, in one process. `versus` prints the tables; `versus count CALL KIND SIZE` makes
-//! one call inside the function `versus_measured`, for a program that counts instructions; `versus kinds` and `versus worst` name the kinds.
+//! one call inside the function `versus_measured`, for a program that counts instructions; `versus kinds`, `versus worst` and `versus arriving` name the kinds.
 #[path = "../../../oracle/driver/src/contents.rs"]
 #[allow(dead_code)]
 mod contents;
@@ -21,6 +21,7 @@ mod run;
 #[path = "../../../oracle/driver/src/text.rs"]
 mod text;
 
+mod arrivals;
 mod calls;
 mod clock;
 mod count;
@@ -45,11 +46,15 @@ fn main() {
         ["read"] => reading::table(),
         ["calls"] => calls::tables(),
         ["growth"] => growth::tables(),
+        ["arrivals"] => growth::arriving(),
         ["kinds"] => count::kinds(),
         ["worst"] => count::worst(),
+        ["arriving"] => count::arriving(),
         ["count", call, kind, size] => count::one(call, kind, size),
         _ => {
-            eprintln!("usage: versus [read | calls | growth | kinds | worst | count CALL KIND SIZE]");
+            eprintln!(
+                "usage: versus [read | calls | growth | arrivals | kinds | worst | arriving | count CALL KIND SIZE]"
+            );
             std::process::exit(2);
         }
     }

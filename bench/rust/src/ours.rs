@@ -98,6 +98,31 @@ pub fn struct_kind(text: &[u8], place: usize, newtype: u32, tuple: u32) -> u64 {
     unsafe { raw::sarridok_struct_kind(text.as_ptr(), text.len(), place, newtype, tuple) }
 }
 
+/// Numbers of a state, and which of them says how many bytes are kept at the buffer's front.
+pub const ARRIVAL: usize = 10;
+pub const KEPT: usize = 9;
+
+/// The state before a text's first byte.
+pub fn begin(state: &mut [u32; ARRIVAL]) -> u64 {
+    unsafe { raw::sarridok_begin(state.as_mut_ptr(), ARRIVAL) }
+}
+
+/// Whether it is refused, and the number of entries before that.
+pub fn piece(state: &mut [u32; ARRIVAL], buffer: &mut [u8], n: usize, tape: &mut [u32]) -> (u64, u64) {
+    let (mut count, buffer_len, tape_len) = (0, buffer.len(), tape.len());
+    let (state, buffer, tape) = (state.as_mut_ptr(), buffer.as_mut_ptr(), tape.as_mut_ptr());
+    let answer = unsafe { raw::sarridok_piece(state, ARRIVAL, buffer, buffer_len, n, tape, tape_len, &mut count) };
+    (answer, count)
+}
+
+/// The same of the end.
+pub fn finish(state: &[u32; ARRIVAL], buffer: &[u8], tape: &mut [u32]) -> (u64, u64) {
+    let (mut count, buffer_len, tape_len) = (0, buffer.len(), tape.len());
+    let (state, buffer, tape) = (state.as_ptr(), buffer.as_ptr(), tape.as_mut_ptr());
+    let answer = unsafe { raw::sarridok_finish(state, ARRIVAL, buffer, buffer_len, tape, tape_len, &mut count) };
+    (answer, count)
+}
+
 pub fn skip(text: &[u8]) -> u64 {
     let [mut pre, mut last] = [0; 2];
     unsafe { raw::sarridok_skip(text.as_ptr(), text.len(), 0, 0, 0, &mut pre, &mut last) }

@@ -92,6 +92,16 @@ pub const RECORDS: &[Kind] = &[
 /// Nodes of the canal network's shape, of little but their own and other nodes' numbers.
 pub const NODES: Kind = kind("nodes", |r, size| nodes(r, size));
 
+/// Texts of which much is undecided for long while they arrive: strings and names nearly as long as may be held.
+pub const ARRIVING: &[Kind] = &[
+    kind("long strings with escapes", |r, size| {
+        list(size, || long_string(size, || r.of(&ESCAPED).to_string() + &words(r)))
+    }),
+    kind("long strings of spaces", |r, size| list(size, || long_string(size, || r.run("ab     ", 8)))),
+    kind("long strings of letters", |r, size| list(size, || long_string(size, || r.run(SMALL, 8)))),
+    kind("long names", |r, size| list(size, || format!("N{}", r.run(SMALL, long(size))))),
+];
+
 /// How the fields of one record are named, by their number and of how many: in no order, counted up, and counted up between ends that they
 /// have in common, as long as the largest text has room for.
 pub const NAMES: [(&str, fn(usize, usize) -> String); 3] = [
@@ -167,6 +177,31 @@ fn list(size: usize, mut item: impl FnMut() -> String) -> String {
         text += &next;
         text.push(',');
     }
+}
+
+/// Bytes of a long entry: at most 4,000, and no more than a short text has room for.
+fn long(size: usize) -> u64 {
+    4000.min(size as u64 - 8)
+}
+
+/// A string of parts, as many as make it long.
+fn long_string(size: usize, mut part: impl FnMut() -> String) -> String {
+    let mut body = String::new();
+    loop {
+        let next = part();
+        if body.len() + next.len() > long(size) as usize {
+            return format!("\"{body}\"");
+        }
+        body += &next;
+    }
+}
+
+const ESCAPED: [&str; 6] = ["\\n", "\\\"", "\\\\", "\\x41", "\\u{e9}", "\\t"];
+
+/// A few words, with what stands between them.
+fn words(r: &mut Random) -> String {
+    let length = r.between(4, 30);
+    r.run(PROSE, length)
 }
 
 /// Of so many fields, between two brackets.

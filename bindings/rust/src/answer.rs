@@ -23,11 +23,16 @@ pub fn taken_apart(answer: u64) -> Result<Pair, Refused> {
         return Ok(Pair { high, low });
     }
     let [number, reason, ..] = high.to_le_bytes();
-    Err(Refused {
+    Err(refused_of(number, reason, low))
+}
+
+/// A refusal of its three numbers.
+pub fn refused_of(number: u8, reason: u8, place: u32) -> Refused {
+    Refused {
         refusal: Refusal::try_from(number).unwrap_or(Refusal::Unknown(number)),
-        place: low as usize,
+        place: place as usize,
         reason: EscapeReason::try_from(reason).ok(),
-    })
+    }
 }
 
 #[cfg(test)]

@@ -5,10 +5,10 @@ use crate::raw;
 use crate::{NewtypeMode, ParserCursor, Refused, Repaired, StructType, TupleMode, Value, Width};
 use core::ops::Range;
 
-/// The version of the archive that was linked: major * 10,000 + minor * 100 + patch, so 600 is 0.6.0.
+/// The version of the archive that was linked: major * 10,000 + minor * 100 + patch, so 700 is 0.7.0.
 ///
 /// ```
-/// assert_eq!(sarridok::version(), 600);
+/// assert_eq!(sarridok::version(), 700);
 /// ```
 pub fn version() -> u32 {
     // Safety: it takes and writes nothing.

@@ -60,4 +60,24 @@ extern "C" {
         new_pre_ws_cursor: *mut u64,
         new_last_ws_len: *mut u64,
     ) -> u64;
+    pub fn sarridok_begin(state: *mut u32, state_len: usize) -> u64;
+    pub fn sarridok_piece(
+        state: *mut u32,
+        state_len: usize,
+        buffer: *mut u8,
+        buffer_len: usize,
+        n: usize,
+        tape: *mut u32,
+        tape_len: usize,
+        count: *mut u64,
+    ) -> u64;
+    pub fn sarridok_finish(
+        state: *const u32,
+        state_len: usize,
+        buffer: *const u8,
+        buffer_len: usize,
+        tape: *mut u32,
+        tape_len: usize,
+        count: *mut u64,
+    ) -> u64;
 }

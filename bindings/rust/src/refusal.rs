@@ -28,7 +28,7 @@ macro_rules! refusals {
             /// Every refusal of the table, in the order of their numbers.
             pub const ALL: &'static [Refusal] = &[$(Refusal::$name,)*];
 
-            /// Its number. No refusal has 0, and 3 and 30 are reserved.
+            /// Its number. No refusal has 0, and 3 is reserved.
             pub const fn number(self) -> u8 {
                 match self {
                     $(Refusal::$name => $number,)*
@@ -151,7 +151,7 @@ impl fmt::Display for EscapeReason {
     }
 }
 
-/// What a call was refused with. It has written nothing.
+/// What a call was refused with. It has written nothing, but where a text that arrives is refused behind entries: see [`Given`](crate::Given).
 ///
 /// ```
 /// use sarridok::{EscapeReason, Refusal, Refused};

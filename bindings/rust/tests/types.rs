@@ -15,7 +15,8 @@ fn the_archive_is_of_this_version() {
 fn refusals_have_their_numbers() {
     let numbers: Vec<u8> = Refusal::ALL.iter().map(|refusal| refusal.number()).collect();
     assert!(numbers.windows(2).all(|pair| pair[0] < pair[1]), "{numbers:?}");
-    assert!(numbers[0] == 1 && !numbers.contains(&3) && !numbers.contains(&30));
+    assert!(numbers[0] == 1 && !numbers.contains(&3));
+    assert_eq!(Refusal::try_from(30), Ok(Refusal::EntryTooLong));
     assert_eq!(Refusal::try_from(31), Ok(Refusal::RepeatedField));
     for number in 0..=u8::MAX {
         match Refusal::try_from(number) {

@@ -1,9 +1,12 @@
 //! What holds of every text, tape and number.
 
+#[path = "../../tests/checks/arrivals.rs"]
+mod arrivals;
 #[path = "../../tests/checks/mod.rs"]
 mod checks;
 mod given;
 
+use arrivals::*;
 use checks::*;
 use given::*;
 use quickcheck::{QuickCheck, TestResult, Testable};
@@ -223,6 +226,97 @@ fn reasons_of_escapes() {
     for reason in EscapeReason::ALL {
         assert!(met >> reason.number() & 1 == 1, "never met: {reason}");
     }
+}
+
+/// However a text is cut, the same is given at the same byte, and in all what one reading gives.
+#[test]
+fn texts_that_arrive() {
+    static MET: AtomicU64 = AtomicU64::new(0);
+    fn property(text: Text, cuts: Cuts, more: Cuts) {
+        let at_once = told_at_once(&text.0);
+        MET.fetch_or(1 << at_once.1.map_or(0, |refused| refused.number()), Ordering::Relaxed);
+        let bytes = told_each(text.0.chunks(1));
+        for cuts in [cuts, more] {
+            let pieces = cut(&text.0, &cuts.0);
+            let told = told_each(pieces.iter().copied());
+            let mut from = 0;
+            for (piece, told) in pieces.iter().zip(&told) {
+                let of_bytes = &bytes[from..from + piece.len()];
+                assert!(told.0.iter().eq(of_bytes.iter().flat_map(|(entries, _)| entries)));
+                from += piece.len();
+                let before = from.checked_sub(1).and_then(|last| bytes[last].1);
+                assert_eq!(told.1, before);
+            }
+            assert_eq!(told.last(), bytes.last());
+            assert_eq!(told_in_all(told), at_once);
+        }
+        assert_eq!(told_in_all(bytes), at_once);
+    }
+    holds(10000, property as fn(Text, Cuts, Cuts));
+    let met = MET.load(Ordering::Relaxed);
+    for number in [0, 2, 4, 5, 6, 7, 9, 13, 14, 17] {
+        assert!(met >> number & 1 == 1, "never met: {number}");
+    }
+}
+
+/// The same of texts with an entry, a comment or a blank of some 4,096 bytes in them, and of some 65,536 bytes.
+#[test]
+fn long_texts_that_arrive() {
+    static MET: AtomicU64 = AtomicU64::new(0);
+    fn property(long: Long, cuts: Cuts) {
+        let at_once = told_at_once(&long.0);
+        MET.fetch_or(1 << at_once.1.map_or(0, |refused| refused.number()), Ordering::Relaxed);
+        let lengths: Vec<usize> = cuts.0.iter().map(|length| length * 311).collect();
+        assert_eq!(told_in_all(told_each(cut(&long.0, &lengths))), at_once);
+    }
+    holds(400, property as fn(Long, Cuts));
+    let met = MET.load(Ordering::Relaxed);
+    for number in [0, 1, 2, 30] {
+        assert!(met >> number & 1 == 1, "never met: {number}");
+    }
+}
+
+/// A state that a text left, stored, and handed back with damage, or not: refused as 23 exactly where its numbers are out of order.
+#[test]
+fn any_state_of_an_arrival() {
+    static MET: AtomicU64 = AtomicU64::new(0);
+    type Damage = Option<(usize, Near)>;
+    fn property(text: Text, at: Near, damages: (Damage, Damage), n: Near, room: Near) {
+        let (front, rest) = text.0.split_at(at.of(text.0.len()).min(text.0.len()));
+        let mut lent = Lent::new();
+        let _ = lent.piece(front);
+        let mut numbers: [u32; ARRIVAL] = lent.state.into();
+        for (at, number) in [damages.0, damages.1].into_iter().flatten() {
+            numbers[at % ARRIVAL] = number.of(at % 70) as u32;
+        }
+        let buffer = [&lent.kept, rest].concat();
+        let refusal = any_state(numbers, &buffer, n.of(rest.len()), room.of(4 * ENTRY).min(200 * ENTRY));
+        MET.fetch_or(1 << refusal.map_or(0, |refusal| refusal.number()), Ordering::Relaxed);
+    }
+    holds(10000, property as fn(Text, Near, (Damage, Damage), Near, Near));
+    let met = MET.load(Ordering::Relaxed);
+    for number in [0, 2, 5, 22, 23] {
+        assert!(met >> number & 1 == 1, "never met: {number}");
+    }
+}
+
+/// Stored behind any piece, a text goes on as if nothing had been; an `Arriving` that is left by it stays as it was.
+#[test]
+fn arrivals_are_resumed() {
+    fn property(text: Text, cuts: Cuts) {
+        let mut lent = Lent::new();
+        for piece in cut(&text.0, &cuts.0) {
+            let resumed = Arriving::resume(lent.state, &lent.kept).expect("it stood so");
+            let mut copy = resumed.clone();
+            let told = lent.piece(piece);
+            let decided = copy.push(piece);
+            assert_eq!((decided.entries().collect(), decided.refused()), told);
+            let finished = copy.finish();
+            assert_eq!((finished.entries().collect(), finished.refused()), lent.finish());
+            assert!(resumed.taken() <= lent.state.taken());
+        }
+    }
+    holds(6000, property as fn(Text, Cuts));
 }
 
 /// An integer written by Rust is read in a width exactly where it fits the type of that width, else refused at its end.

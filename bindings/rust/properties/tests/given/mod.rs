@@ -134,6 +134,62 @@ impl Arbitrary for Text {
     }
 }
 
+/// Lengths of pieces, some of them 0.
+#[derive(Clone, Debug)]
+pub struct Cuts(pub Vec<usize>);
+
+impl Arbitrary for Cuts {
+    fn arbitrary(g: &mut Gen) -> Cuts {
+        let most = if below(g, 4) == 0 { 30 } else { 6 };
+        Cuts((0..=below(g, 5)).map(|_| below(g, most)).collect())
+    }
+
+    fn shrink(&self) -> Box<dyn Iterator<Item = Cuts>> {
+        Box::new(self.0.shrink().map(Cuts))
+    }
+}
+
+/// A text in which something is some 4,096 bytes long, and now and then the whole some 65,536.
+#[derive(Clone, Debug)]
+pub struct Long(pub Vec<u8>);
+
+/// What may be long: what it begins with, goes on with, and may end with.
+const LONG: &[[&str; 3]] = &[
+    ["", "a", " "],
+    ["7", "_1", ","],
+    ["0x", "g", " "],
+    ["\"", "x ", "\""],
+    ["\"", "\\n", "\""],
+    ["\"", "é", "\""],
+    ["b\"", "word, ", "\" "],
+    ["r#\"", "\" ", "\"# "],
+    ["/*", "x*", "*/"],
+    ["//", "é", "\n"],
+    ["", " ", ""],
+    ["a", "\u{85}b", " "],
+    ["#![enable(", "implicit_some, ", "implicit_some)]"],
+    ["[", "[],", "]"],
+];
+
+impl Arbitrary for Long {
+    fn arbitrary(g: &mut Gen) -> Long {
+        let mut text = Vec::new();
+        let most = if below(g, 4) == 0 { 65_536 } else { 4096 };
+        for size in [most, 4096] {
+            let front = Good::arbitrary(g).0;
+            text.extend_from_slice(if below(g, 3) == 0 { front } else { b"[7, " });
+            let [begins, goes_on, ends] = *g.choose(LONG).expect("there are some");
+            let times = (size + below(g, 8) - 4).saturating_sub(begins.len()) / goes_on.len();
+            text.extend_from_slice((begins.to_string() + &goes_on.repeat(times)).as_bytes());
+            if below(g, 8) != 0 {
+                text.extend_from_slice(ends.as_bytes());
+            }
+            text.extend(Piece::arbitrary(g).0);
+        }
+        Long(text)
+    }
+}
+
 /// Where a text is cut, mostly a few bytes of it; which ones its length decides.
 #[derive(Clone, Debug)]
 pub struct Cut {
