@@ -99,6 +99,7 @@ module _ (state buffer : List ℕ) (n room : ℕ) where
   unfolding pieceNumbered
   piece-unfit e = sym (ap (λ (x : Stored). pieceBy x buffer n room) e)
 
+module _ (state buffer : List ℕ) (room : ℕ) where
   pub end-known : (a : Arrival) → lentState state ≡ stored.State a → finishOf a buffer room ≡ finishNumbered state buffer room
   unfolding finishNumbered
   end-known a e = sym (ap (λ (x : Stored). finishBy x buffer room) e)
@@ -182,7 +183,7 @@ module _ (state buffer tape : List ℕ) (count : ℕ) (lent : Stored) (l : lent 
       → tape′ ≡ restLaid (finishOf a buffer (roomOf (length tape))) tape → (word count′ : ℕ) → word ≡ endedWord answer → count′ ≡ endedCount answer count
       → AfterEnd word tape′ count′
   end-done a f answer tape′ p r word count′ x z =
-      let e : finishOf a buffer (roomOf (length tape)) ≡ toldRest = end-known state buffer 0 (roomOf (length tape)) a (sym l ∙ f) in
+      let e : finishOf a buffer (roomOf (length tape)) ≡ toldRest = end-known state buffer (roomOf (length tape)) a (sym l ∙ f) in
       let g : answer ≡ endedOf toldRest = p ∙ ap (λ (t : Told Rest). endedOf t) e in (
         x ∙ ap endedWord g ∙ end-word toldRest,
         (
@@ -193,7 +194,7 @@ module _ (state buffer tape : List ℕ) (count : ℕ) (lent : Stored) (l : lent 
 
   pub end-none : lent ≡ stored.Unfit → (r : Refusal) → r ≡ notInOrder → (word : ℕ) → word ≡ refusalWord r → AfterEnd word tape count
   end-none f r p word x =
-      let e : refused notInOrder ≡ toldRest = end-unfit state buffer 0 (roomOf (length tape)) (sym l ∙ f) in
+      let e : refused notInOrder ≡ toldRest = end-unfit state buffer (roomOf (length tape)) (sym l ∙ f) in
       (x ∙ ap refusalWord p ∙ ap (packed restWord) e, (ap (λ (t : Told Rest). restLaid t tape) e, ap (λ (t : Told Rest). lentAfter restCount t count) e))
 
 module _ (state : List ℕ) where

@@ -6,4 +6,6 @@ pub mod CallPlaces
 pub mod WalkPlaces
 pub mod ReadPlaces
 pub mod ListPlaces
+pub mod ArrivedPlaces
 pub mod NothingCut
+pub mod ArrivedWhole

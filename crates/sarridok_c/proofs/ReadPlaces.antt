@@ -37,7 +37,7 @@ use Rattle.sarridok_c.proofs.Unpacking.{Low, behind-judged}
 -- ---- a reading stops within its text
 
 -- a reading that breaks off does so at m or before it
-abbrev Stops : ℕ → Reading → Type 0
+abbrev pub Stops : ℕ → Reading → Type 0
 Stops m complete = Unit {0}
 Stops m (broken r) = r .place ≤ m
 Stops m (entry e r) = Stops m r
@@ -59,7 +59,7 @@ stops-part (entry x r) at s m h e =
     let i = laws .inside s (f .this) (f .answer) in
     stops-part r (at + reach (f .this)) (drop (reach (f .this)) s) m (omega (arith, length-drop (reach (f .this)) s)) (sym (f .rest-is))
 
-stops : (text : List ℕ) (at : ℕ) → at ≤ length text → Stops (length text) (readFrom ronToken text at)
+pub stops : (text : List ℕ) (at : ℕ) → at ≤ length text → Stops (length text) (readFrom ronToken text at)
 stops text at h = stops-part (readFrom ronToken text at) at (drop at text) (length text) (omega (arith, length-drop at text)) refl
 
 -- ---- read

@@ -41,8 +41,12 @@ abbrev pub behindWord : Refusal → ℕ
 behindWord d = cond (eqb (d .number) 0) 0 (refusalWord d)
 
 -- A piece's refusal, which the state behind it holds,
+abbrev pub outcomeRefusal : Outcome → Refusal
+outcomeRefusal o = o .next .refusal
+
+-- the number of it,
 abbrev pub outcomeWord : Outcome → ℕ
-outcomeWord o = behindWord (o .next .refusal)
+outcomeWord o = behindWord (outcomeRefusal o)
 
 -- and how many entries it gives.
 abbrev pub outcomeCount : Outcome → ℕ
@@ -64,7 +68,7 @@ finishBy stored.Unfit buffer room = refused notInOrder
 unfoldable pub finishNumbered : List ℕ → List ℕ → ℕ → Told Rest
 finishNumbered state buffer room = finishBy (lentState state) buffer room
 
--- Its refusal behind the entries,
+-- The number of its refusal behind the entries,
 abbrev pub restWord : Rest → ℕ
 restWord e = behindWord (e .refusal)
 

@@ -37,6 +37,16 @@ abbrev pub Whole : {A : Type 0} → (A → ℕ) → (A → Halves) → Told A �
 Whole word parts (accepted a) = Unpacks (word a) 0 (parts a .upper) (parts a .lower)
 Whole word parts (refused r) = Refuses (refusalWord r) r
 
+-- What a host gets out of the number that a piece or the end of a text answers: 0 where no refusal stands behind the entries, else the refusal.
+pub record Tells (word : ℕ) (d : Refusal) : Type 0 where
+  pub none : d .number ≡ 0 → word ≡ 0
+  pub some : (d .number ≡ 0 → ⊥) → Refuses word d
+
+-- Such an answer is got back whole: the refusal behind its entries, or the one that stands alone.
+abbrev pub WholeBehind : {A : Type 0} → (A → ℕ) → (A → Refusal) → Told A → Type 0
+WholeBehind word behind (accepted a) = Tells (word a) (behind a)
+WholeBehind word behind (refused r) = Refuses (refusalWord r) r
+
 -- The two numbers of each call: how many entries or bytes,
 abbrev pub countParts : ℕ → Halves
 countParts n = halves 0 n
