@@ -5,7 +5,7 @@ use native.Mathlib.Omega.{arith}
 use mathlib.Core.Bool.{true}
 use mathlib.Core.List.{List, [], _∷_, _++_, map, append-assoc}
 use mathlib.Core.Path.{_≡_, ap, ap₂, refl, sym, subst, _∙_}
-use lib.ListN.{drop, getD, length, set, take, length-drop}
+use lib.ListN.{drop, getD, length, set, take, take-append-drop, length-drop}
 use lib.Seq.{drop-at, drop-cons, getD-append-add, getD-drop, length-take-le, set-at, take-nil, take-suc}
 use borrow.Author.Tests.{le-leb}
 use Rattle.read.proofs.PassLaws.{split-reading}
@@ -27,6 +27,10 @@ use Rattle.pieces.specs.Pieces.{gapped, movedTo}
 -- the first i bytes from a place on at the front, and behind them the buffer as it was
 abbrev pub fronted : ℕ → ℕ → List ℕ → List ℕ
 fronted from i s = take i (drop from s) ++ drop i s
+
+-- what stands there already
+pub nothing-moves : (s : List ℕ) (from n : ℕ) → from ≡ 0 → s ≡ fronted from n s
+nothing-moves s from n e = sym (ap (λ (k : ℕ). fronted k n s) e ∙ take-append-drop n s)
 
 module _ (from i : ℕ) (s : List ℕ) (h : from + i < length s) where
   front-long : length (take i (drop from s)) ≡ i

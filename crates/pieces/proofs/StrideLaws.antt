@@ -35,9 +35,10 @@ use Rattle.settled.specs.Bytes.{closesByte, decidesByte, stopsByte}
 use Rattle.settled.specs.Settled.{ronReader, ronSettles}
 use Rattle.pieces.specs.Bars.{barBy, barOf, bytesGive, mostHeld}
 use Rattle.pieces.specs.inner.Judges.{givesOf, judgedOf, verdictBy, verdictOf}
-use Rattle.pieces.specs.inner.Waiting.{behindDeciders, behindLast, decides, leapBy, leapOf, leapt, noLeap, opensEnd, stridden, waitedOf}
+use Rattle.pieces.specs.inner.Waiting.{behindDeciders, behindLast, beyondOf, decides, leapBy, leapOf, leapt, noLeap, opensEnd, stridden, waitedOf}
 use Rattle.pieces.specs.inner.Scans.{endingOf, scannedOf}
 use Rattle.pieces.specs.declared.verdict.Verdict.{Verdict}
+use Rattle.pieces.specs.declared.verdict.Verdict.the-variants.{Nothing}
 use Rattle.pieces.specs.declared.stride.Leapt.{Leapt}
 use Rattle.pieces.specs.declared.waiting.Waited.{Waited}
 use Rattle.pieces.specs.declared.scan.Ending.{Ending}
@@ -45,6 +46,8 @@ use Rattle.pieces.specs.declared.scan.Ending.the-variants.{Broken, Compl
 use Rattle.pieces.specs.declared.scan.Scanned.{Scanned}
 use Rattle.pieces.proofs.JudgeLaws.{judge-within, up-front}
 use Rattle.pieces.proofs.ScanLaws.{ending-front}
+use Rattle.pieces.proofs.StopLaws.{last-le}
+use Rattle.pieces.proofs.WaitLaws.{beyond-goes, wait-end}
 use Rattle.pieces.proofs.WaitedRuns.{Decided, NotHalted, gives, left-goes, refused-place, short-free, shuts, waited-gives}
 
 -- ---- no bar, and no refusal that tells the end
@@ -351,12 +354,29 @@ front-of p seen l =
       front-is = ap₂ take end-is whole ∙ take-append-seam ((x ++ u) ++ k .byte ∷ []) (k .back);
     }
 
--- where a leap over the front p of a part decides
-module _ (p t : List ℕ) (seen : ℕ) (short : length p ≤ mostHeld) where
-  far-decides : seen < behindDeciders p seen → opensEnd (scannedOf (take (behindDeciders p seen) p) .ending) ≡ true → decides (judgedOf (take (behindDeciders p seen) p)) ≡ true
+-- the last byte of a class is the same from a place before
+last-behind : (class : ℕ → Bool) (u v : List ℕ) → 0 < lastQuiet class v → lastQuiet class (u ++ v) ≡ length u + lastQuiet class v
+unfolding lastQuiet
+last-behind class [] v h = omega arith
+last-behind class (a ∷ u) v h = rw (last-behind class u v h, lt-ltb 0 (length u + lastQuiet class v) (omega arith)) (omega arith)
+
+deciders-same : (p : List ℕ) (seen from : ℕ) → seen ≤ from → from < behindDeciders p from → behindDeciders p seen ≡ behindDeciders p from
+unfolding behindLast
+deciders-same p seen from l h =
+    let inside : from ≤ length p = omega (arith, last-le decidesByte (drop from p), length-drop from p) in
+    let s : List ℕ = drop seen p in
+    let back : drop (from - seen) s ≡ drop from p = drop-on seen (from - seen) from p (omega arith) in
+    let many : length (take (from - seen) s) ≡ from - seen = length-take-le (from - seen) s (omega (arith, length-drop seen p)) in
+    let split : lastQuiet decidesByte s ≡ length (take (from - seen) s) + lastQuiet decidesByte (drop from p) =
+    ap (lastQuiet decidesByte) (sym (take-append-drop (from - seen) s) ∙ ap (λ (t : List ℕ). take (from - seen) s ++ t) back) ∙ last-behind decidesByte (take (from - seen) s) (drop from p) (omega arith) in
+    omega (arith, split, many)
+
+-- where a leap over the front p of a part decides, behind a place from which on anything may be decided
+module _ (p t : List ℕ) (seen from : ℕ) (behind-seen : seen ≤ from) (short : length p ≤ mostHeld) where
+  seen-decides : seen < behindDeciders p seen → opensEnd (scannedOf (take (behindDeciders p seen) p) .ending) ≡ true → decides (judgedOf (take (behindDeciders p seen) p)) ≡ true
       → Decided (take seen (p ++ t)) (drop seen (p ++ t)) (record { bytes = behindDeciders p seen; verdict = judgedOf (take (behindDeciders p seen) p) })
   unfolding scannedOf
-  far-decides l o v =
+  seen-decides l o v =
       let k = front-of p seen l in
       let x : List ℕ = take seen p in
       let u : List ℕ = k .before in
@@ -370,30 +390,39 @@ module _ (p t : List ℕ) (seen : ℕ) (short : length p ≤ mostHeld) where
       (subst (λ (n : ℕ). Decided x (u ++ k .byte ∷ (k .back ++ t)) (record { bytes = n; verdict = judgedOf ((x ++ u) ++ k .byte ∷ []) })) (sym (k .end-is))
       (stride-decides x u (k .back ++ t) (k .byte) few (k .holds) (ap (λ (q : List ℕ). opensEnd (scannedOf q .ending)) (sym (k .front-is)) ∙ o) (ap (λ (q : List ℕ). decides (judgedOf q)) (sym (k .front-is)) ∙ v)))))
 
+  far-decides : from < behindDeciders p from → opensEnd (scannedOf (take (behindDeciders p from) p) .ending) ≡ true → decides (judgedOf (take (behindDeciders p from) p)) ≡ true
+      → Decided (take seen (p ++ t)) (drop seen (p ++ t)) (record { bytes = behindDeciders p from; verdict = judgedOf (take (behindDeciders p from) p) })
+  far-decides l =
+      let same : behindDeciders p seen ≡ behindDeciders p from = deciders-same p seen from behind-seen l in
+      subst
+      (λ (n : ℕ). opensEnd (scannedOf (take n p) .ending) ≡ true → decides (judgedOf (take n p)) ≡ true → Decided (take seen (p ++ t)) (drop seen (p ++ t)) (record { bytes = n; verdict = judgedOf (take n p) })) same
+      (seen-decides (omega (arith, same)))
+
   -- a leap that decides
-  leap-decides : decides (leapOf p seen .verdict) ≡ true → Decided (take seen (p ++ t)) (drop seen (p ++ t)) (leapt (leapOf p seen))
+  leap-decides : decides (leapOf p from .verdict) ≡ true → Decided (take seen (p ++ t)) (drop seen (p ++ t)) (leapt (leapOf p from))
   unfolding leapOf
   leap-decides =
-      let bytes : ℕ = behindDeciders p seen in
+      let bytes : ℕ = behindDeciders p from in
       let ending : Ending = scannedOf (take bytes p) .ending in
-      cond-cases (λ (l : Leapt). decides (l .verdict) ≡ true → Decided (take seen (p ++ t)) (drop seen (p ++ t)) (leapt l)) (ltb seen bytes) (leapBy p bytes ending) (noLeap 0)
+      cond-cases (λ (l : Leapt). decides (l .verdict) ≡ true → Decided (take seen (p ++ t)) (drop seen (p ++ t)) (leapt l)) (ltb from bytes) (leapBy p bytes ending) (noLeap 0)
       (λ a. cond-cases (λ (l : Leapt). decides (l .verdict) ≡ true → Decided (take seen (p ++ t)) (drop seen (p ++ t)) (leapt l)) (opensEnd ending)
       (record { bytes = bytes; verdict = judgedOf (take bytes p); end = 0 }) (noLeap (scannedOf (take bytes p) .end))
-      (λ o v. far-decides (ltb-true seen bytes a) o v) (λ o v. absurd (true≢false (sym v))))
+      (λ o v. far-decides (ltb-true from bytes a) o v) (λ o v. absurd (true≢false (sym v))))
       (λ a v. absurd (true≢false (sym v)))
 
 -- what a stride comes to, over a part that may be held
 pub stridden-gives : (part : List ℕ) (seen : ℕ) → seen ≤ length part → length part ≤ mostHeld → Decided (take seen part) (drop seen part) (stridden part seen)
 unfolding stridden waitedOf
 stridden-gives part seen le short =
-    let far : Leapt = leapOf part seen in
-    let near : Leapt = leapOf (take (far .end) part) seen in
+    let from : ℕ = beyondOf part seen in
+    let far : Leapt = leapOf part from in
+    let near : Leapt = leapOf (take (far .end) part) from in
     let D : Waited → Type 0 = Decided (take seen part) (drop seen part) in
-    let on : (p t : List ℕ) → p ++ t ≡ part → decides (leapOf p seen .verdict) ≡ true → D (leapt (leapOf p seen)) =
-    λ p t e v. subst (λ (s : List ℕ). Decided (take seen s) (drop seen s) (leapt (leapOf p seen))) e (leap-decides p t seen (omega (arith, ap length e, length-append p t)) v) in
+    let on : (p t : List ℕ) → p ++ t ≡ part → decides (leapOf p from .verdict) ≡ true → D (leapt (leapOf p from)) =
+    λ p t e v. subst (λ (s : List ℕ). Decided (take seen s) (drop seen s) (leapt (leapOf p from))) e (leap-decides p t seen from (beyond-goes part seen le .0) (omega (arith, ap length e, length-append p t)) v) in
     cond-cases D (decides (far .verdict)) (leapt far) _ (λ v. on part [] (append-nil part) v)
-    (λ n. cond-cases D (ltb seen (far .end) && decides (near .verdict)) (leapt near) (waitedOf part seen)
-    (λ v. on (take (far .end) part) (drop (far .end) part) (take-append-drop (far .end) part) (and-true (ltb seen (far .end)) (decides (near .verdict)) v .1))
+    (λ n. cond-cases D (ltb from (far .end) && decides (near .verdict)) (leapt near) (waitedOf part seen)
+    (λ v. on (take (far .end) part) (drop (far .end) part) (take-append-drop (far .end) part) (and-true (ltb from (far .end)) (decides (near .verdict)) v .1))
     (λ v. waited-gives (drop seen part) (take seen part) (short-free (take seen part) (drop seen part) (omega (arith, ap length (take-append-drop seen part))))))
 
 -- ---- what the code answers
@@ -445,32 +474,48 @@ leap-end part seen =
     (λ o. omega arith) (λ o. omega (arith, judge-within (take bytes part) (scannedOf (take bytes part)) refl, length-take bytes part)))
     (λ a. omega arith)
 
-module _ (part : List ℕ) (seen : ℕ) (far : Leapt) (is : far ≡ leapOf part seen) where
-  abbrev rest : Waited
-  rest = cond (ltb seen (far .end) && decides (leapOf (take (far .end) part) seen .verdict)) (leapt (leapOf (take (far .end) part) seen)) (waitedOf part seen)
+-- at the end nothing is left
+pub wait-none : (part : List ℕ) (from : ℕ) (w : Waited) → w ≡ record { bytes = length part; verdict = Nothing } → from ≤ length part → length part ≤ from → w ≡ waitedOf part from
+wait-none part from w e l m = let z : length part ≡ from = omega arith in e ∙ sym (wait-end part) ∙ ap (waitedOf part) z
 
-  stride-is : stridden part seen ≡ cond (decides (far .verdict)) (leapt far) rest
-  unfolding stridden
-  stride-is = ap (λ (f : Leapt). cond (decides (f .verdict)) (leapt f) (cond (ltb seen (f .end) && decides (leapOf (take (f .end) part) seen .verdict)) (leapt (leapOf (take (f .end) part) seen)) (waitedOf part seen))) (sym is)
+module _ (part : List ℕ) (seen : ℕ) (le : seen ≤ length part) (from : ℕ) (from-is : from ≡ beyondOf part seen) where
+  pub from-inside : from ≤ length part
+  from-inside = omega (arith, from-is, beyond-goes part seen le .1)
 
-  pub stride-far : decides (far .verdict) ≡ true → record { bytes = far .bytes; verdict = far .verdict } ≡ stridden part seen
-  stride-far v = sym (stride-is ∙ ap (λ (t : Bool). cond t (leapt far) rest) v)
+  -- what is decided from there on is what is decided
+  waits-same : waitedOf part from ≡ waitedOf part seen
+  waits-same = ap (waitedOf part) from-is ∙ sym (beyond-goes part seen le .2)
 
-  pub far-end : far .end ≤ length part
-  far-end = subst (λ (l : Leapt). l .end ≤ length part) (sym is) (leap-end part seen)
+  module _ (far : Leapt) (is : far ≡ leapOf part from) where
+    abbrev rest : Waited
+    rest = cond (ltb from (far .end) && decides (leapOf (take (far .end) part) from .verdict)) (leapt (leapOf (take (far .end) part) from)) (waitedOf part seen)
 
-  module _ (none : decides (far .verdict) ≡ false) where
-    rest-is : stridden part seen ≡ rest
-    rest-is = stride-is ∙ ap (λ (t : Bool). cond t (leapt far) rest) none
+    stride-is : stridden part seen ≡ cond (decides (far .verdict)) (leapt far) rest
+    unfolding stridden
+    stride-is =
+        ap (λ (n : ℕ). cond (decides (leapOf part n .verdict)) (leapt (leapOf part n)) (cond (ltb n (leapOf part n .end) && decides (leapOf (take (leapOf part n .end) part) n .verdict)) (leapt (leapOf (take (leapOf part n .end) part) n)) (waitedOf part seen))) (sym from-is)
+        ∙ ap (λ (f : Leapt). cond (decides (f .verdict)) (leapt f) (cond (ltb from (f .end) && decides (leapOf (take (f .end) part) from .verdict)) (leapt (leapOf (take (f .end) part) from)) (waitedOf part seen))) (sym is)
 
-    pub stride-waits : (w : Waited) → w ≡ waitedOf part seen → far .end ≤ seen → w ≡ stridden part seen
-    stride-waits w e l = e ∙ sym (rest-is ∙ rw (le-ltb seen (far .end) l))
+    pub stride-far : decides (far .verdict) ≡ true → record { bytes = far .bytes; verdict = far .verdict } ≡ stridden part seen
+    stride-far v = sym (stride-is ∙ ap (λ (t : Bool). cond t (leapt far) rest) v)
 
-    module _ (near : Leapt) (near-is : near ≡ leapOf (take (far .end) part) seen) (l : seen < far .end) where
-      pub stride-near : decides (near .verdict) ≡ true → record { bytes = near .bytes; verdict = near .verdict } ≡ stridden part seen
-      stride-near v =
-          ap leapt near-is ∙ sym (rest-is ∙ ap₂ (λ (x y : Bool). cond (x && y) (leapt (leapOf (take (far .end) part) seen)) (waitedOf part seen)) (lt-ltb seen (far .end) l) (ap (λ (f : Leapt). decides (f .verdict)) (sym near-is) ∙ v))
+    pub far-end : far .end ≤ length part
+    far-end = subst (λ (l : Leapt). l .end ≤ length part) (sym is) (leap-end part from)
 
-      pub stride-last : (w : Waited) → w ≡ waitedOf part seen → decides (near .verdict) ≡ false → w ≡ stridden part seen
-      stride-last w e v =
-          e ∙ sym (rest-is ∙ ap₂ (λ (x y : Bool). cond (x && y) (leapt (leapOf (take (far .end) part) seen)) (waitedOf part seen)) (lt-ltb seen (far .end) l) (ap (λ (f : Leapt). decides (f .verdict)) (sym near-is) ∙ v))
+    module _ (none : decides (far .verdict) ≡ false) where
+      rest-is : stridden part seen ≡ rest
+      rest-is = stride-is ∙ ap (λ (t : Bool). cond t (leapt far) rest) none
+
+      pub stride-waits : (w : Waited) → w ≡ waitedOf part from → far .end ≤ from → w ≡ stridden part seen
+      stride-waits w e l = e ∙ waits-same ∙ sym (rest-is ∙ rw (le-ltb from (far .end) l))
+
+      module _ (near : Leapt) (near-is : near ≡ leapOf (take (far .end) part) from) (l : from < far .end) where
+        by-near : (t : Bool) → decides (near .verdict) ≡ t → rest ≡ cond t (leapt (leapOf (take (far .end) part) from)) (waitedOf part seen)
+        by-near t v =
+            ap₂ (λ (x y : Bool). cond (x && y) (leapt (leapOf (take (far .end) part) from)) (waitedOf part seen)) (lt-ltb from (far .end) l) (ap (λ (f : Leapt). decides (f .verdict)) (sym near-is) ∙ v)
+
+        pub stride-near : decides (near .verdict) ≡ true → record { bytes = near .bytes; verdict = near .verdict } ≡ stridden part seen
+        stride-near v = ap leapt near-is ∙ sym (rest-is ∙ by-near true v)
+
+        pub stride-last : (w : Waited) → w ≡ waitedOf part from → decides (near .verdict) ≡ false → w ≡ stridden part seen
+        stride-last w e v = e ∙ waits-same ∙ sym (rest-is ∙ by-near false v)

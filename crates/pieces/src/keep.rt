@@ -5,7 +5,7 @@ ghost use Prim.Native.Nat.{_+_, _≤_};
 ghost use lib.ListN.{length, drop, take};
 
 // The n bytes from a place on to the front; behind them the buffer stays as it was.
-pub fn keep(buffer: &mut [u8], from: usize, n: usize)
+fn shift(buffer: &mut [u8], from: usize, n: usize)
     requires { ⌜ from + n ≤ length (now buffer) ⌝ }
     ensures { λ r. ⌜ now (buffer .exit) ≡ take n (drop from (now (buffer .entry))) ++ drop n (now (buffer .entry)) ⌝ }
 {
@@ -14,4 +14,15 @@ pub fn keep(buffer: &mut [u8], from: usize, n: usize)
         buffer[i] = buffer[from + i];
         i += 1;
     }
+}
+
+// The same; what stands at the front already is not copied.
+pub fn keep(buffer: &mut [u8], from: usize, n: usize)
+    requires { ⌜ from + n ≤ length (now buffer) ⌝ }
+    ensures { λ r. ⌜ now (buffer .exit) ≡ take n (drop from (now (buffer .entry))) ++ drop n (now (buffer .entry)) ⌝ }
+{
+    if from == 0 {
+        return;
+    }
+    shift(buffer, from, n);
 }

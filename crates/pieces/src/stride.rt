@@ -5,6 +5,7 @@ use crate::scan::Scanned;
 use crate::scan::scan;
 use crate::verdict::Verdict;
 use crate::waiting::Waited;
+use crate::waiting::beyond;
 use crate::waiting::is_some;
 use crate::waiting::wait;
 use settled::bytes::is_decider;
@@ -14,7 +15,8 @@ ghost use Prim.Native.Nat.{_≤_, _<_};
 ghost use lib.ListN.{length};
 ghost use Rattle.comments.specs.Gaps.{gapOf};
 ghost use Rattle.comments.specs.declared.gap.Gap.the-variants.{Clear};
-ghost use Rattle.pieces.specs.inner.Waiting.{behindDeciders, leapOf, noLeap, opensEnd, stridden};
+ghost use Rattle.pieces.specs.inner.Waiting.{behindDeciders, leapOf, noLeap, opensEnd, stridden, waitedOf};
+ghost use Rattle.pieces.specs.declared.verdict.Verdict.the-variants.{Nothing};
 
 // What is decided behind so many bytes; or, where nothing is, the end of the last entry before what is refused.
 struct Leapt {
@@ -81,12 +83,35 @@ fn leap(part: &[u8], seen: usize) -> Leapt
     }
 }
 
-// What is decided of a part that begins with a token or with what starts none, by bytes behind the first `seen`: as much as can be told at once.
+// Nothing is decided by all of a part.
+fn nothing(part: &[u8]) -> Waited
+    ensures { λ r. ⌜ r ≡ record { bytes = length (now (part .entry)); verdict = Nothing } ⌝ }
+{
+    Waited {
+        bytes: part.len(),
+        verdict: Verdict::Nothing,
+    }
+}
+
+// What is decided first, from a place on; nothing at the end.
+fn wait_from(part: &[u8], from: usize) -> Waited
+    requires { ⌜ (from ≤ length (now part)) × (length (now part) ≤ 65536) × (gapOf (now part) ≡ Clear 0) ⌝ }
+    ensures { λ r. ⌜ r ≡ waitedOf (now (part .entry)) from ⌝ }
+{
+    if part.len() <= from {
+        return nothing(part);
+    }
+    wait(part, from)
+}
+
+// What is decided of a part that begins with a token or with what starts none, by bytes behind the first `seen`: as much as can be told at once. Of a string that is
+// not closed it is read once that there is nothing.
 pub fn stride(part: &[u8], seen: usize) -> Waited
     requires { ⌜ (seen < length (now part)) × (length (now part) ≤ 65536) × (gapOf (now part) ≡ Clear 0) ⌝ }
     ensures { λ r. ⌜ r ≡ stridden (now (part .entry)) seen ⌝ }
 {
-    let far = leap(part, seen);
+    let from = beyond(part, seen);
+    let far = leap(part, from);
     let verdict = far.verdict;
     if is_some(verdict) {
         return Waited {
@@ -95,10 +120,10 @@ pub fn stride(part: &[u8], seen: usize) -> Waited
         };
     }
     let end = far.end;
-    if end <= seen {
-        return wait(part, seen);
+    if end <= from {
+        return wait_from(part, from);
     }
-    let near = leap(&part[..end], seen);
+    let near = leap(&part[..end], from);
     let told = near.verdict;
     if is_some(told) {
         return Waited {
@@ -106,5 +131,5 @@ pub fn stride(part: &[u8], seen: usize) -> Waited
             verdict: told,
         };
     }
-    wait(part, seen)
+    wait_from(part, from)
 }

@@ -53,7 +53,7 @@ fn behind_stops(part: &[u8], from: usize) -> usize
 
 // Where the next byte stands that may decide something: not before the first token's end, nor in a string that is not closed. So a long one is not read anew at
 // each of its spaces.
-fn beyond(part: &[u8], from: usize) -> usize
+pub fn beyond(part: &[u8], from: usize) -> usize
     requires { ⌜ (from ≤ length (now part)) × (length (now part) ≤ 65536) ⌝ }
     ensures { λ r. ⌜ r ≡ beyondOf (now (part .entry)) from ⌝ }
 {

@@ -89,9 +89,11 @@ leapOf part seen =
 abbrev pub leapt : Leapt → Waited
 leapt l = record { bytes = l .bytes; verdict = l .verdict }
 
--- Many decisions at once: up to the last deciding byte, or up to the last before something that is refused; else what is decided first.
+-- Many decisions at once, behind the place from which on anything may be decided: up to the last deciding byte, or up to the last before something that is refused; else
+-- what is decided first.
 unfoldable pub stridden : List ℕ → ℕ → Waited
 stridden part seen =
-    let far = leapOf part seen in
-    let near = leapOf (take (far .end) part) seen in
-    cond (decides (far .verdict)) (leapt far) (cond (ltb seen (far .end) && decides (near .verdict)) (leapt near) (waitedOf part seen))
+    let from = beyondOf part seen in
+    let far = leapOf part from in
+    let near = leapOf (take (far .end) part) from in
+    cond (decides (far .verdict)) (leapt far) (cond (ltb from (far .end) && decides (near .verdict)) (leapt near) (waitedOf part seen))
