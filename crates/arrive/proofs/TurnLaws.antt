@@ -4,7 +4,7 @@ use native.Mathlib.Omega.{arith}
 use mathlib.Core.Bool.{Bool, true, false}
 use mathlib.Core.List.{List}
 use mathlib.Core.Path.{_≡_, sym, ap, subst, _∙_}
-use lib.Dec.{T, eqb}
+use lib.Dec.{T}
 use lib.ListN.{length, take, drop}
 use borrow.Author.Tests.{eqb-false}
 use Rattle.lines.specs.Input.{endedInput, leavesRoom, ReadBehind}
@@ -42,10 +42,7 @@ module _ (s : Arrival) (were held : List ℕ) (i : Input) (a : leavesRoom 0 (s .
   came-behind = omega (arith, came .1)
 
   some : 0 < i .to - s .kept
-  some =
-      let differs : i .to ≡ s .kept - 0 → ⊥ = eqb-false (i .to) (s .kept - 0) (sym (came .3) ∙ f) in
-      either (bool-cases (eqb (i .to) (s .kept - 0))) (λ t. absurd (subst T (sym t ∙ (sym (came .3) ∙ f)) tt))
-      (λ e. omega (arith, came-behind, differs))
+  some = let differs : i .to ≡ s .kept - 0 → ⊥ = eqb-false (i .to) (s .kept - 0) (sym (came .3) ∙ f) in omega (arith, came-behind, differs)
 
   front : take (s .kept) held ≡ take (s .kept) were
   front =
