@@ -5,10 +5,10 @@ use mathlib.Core.Bool.{Bool, true, false, cond, _&&_, true≢false}
 use mathlib.Core.List.{List, [], _++_, _∷_, append-assoc, append-nil}
 use mathlib.Core.Logic.{_⊎_, inl, inr}
 use mathlib.Core.Path.{_≡_, ap, ap₂, refl, subst, sym, _∙_}
-use lib.Dec.{eqb, ltb}
+use lib.Dec.{eqb, leb, ltb}
 use lib.ListN.{drop, getD, length, length-append, length-drop, length-take, take, take-append-drop}
 use lib.Seq.{drop-append-le, length-take-le, take-append-le, take-append-seam}
-use borrow.Author.Tests.{le-ltb, lt-leb, lt-ltb, ltb-true}
+use borrow.Author.Tests.{le-leb, le-ltb, lt-leb, lt-ltb, ltb-true}
 use Rattle.text.proofs.Choices.{and-true, bool-cases, cond-cases, either}
 use Rattle.text.specs.Refusals.{placedBehind}
 use Rattle.text.specs.declared.refusal.Refusal.{Refusal}
@@ -35,7 +35,7 @@ use Rattle.settled.specs.Bytes.{closesByte, decidesByte, stopsByte}
 use Rattle.settled.specs.Settled.{ronReader, ronSettles}
 use Rattle.pieces.specs.Bars.{barBy, barOf, bytesGive, mostHeld}
 use Rattle.pieces.specs.inner.Judges.{givesOf, judgedOf, verdictBy, verdictOf}
-use Rattle.pieces.specs.inner.Waiting.{behindDeciders, behindLast, beyondOf, decides, leapBy, leapOf, leapt, noLeap, opensEnd, stridden, waitedOf}
+use Rattle.pieces.specs.inner.Waiting.{behindDeciders, behindLast, beyondOf, decides, leapBy, leapOf, leapt, noLeap, opensEnd, startOf, stridden, waitedOf}
 use Rattle.pieces.specs.inner.Scans.{endingOf, scannedOf}
 use Rattle.pieces.specs.declared.verdict.Verdict.{Verdict}
 use Rattle.pieces.specs.declared.verdict.Verdict.the-variants.{Nothing}
@@ -47,7 +47,7 @@ use Rattle.pieces.specs.declared.scan.Scanned.{Scanned}
 use Rattle.pieces.proofs.JudgeLaws.{judge-within, up-front}
 use Rattle.pieces.proofs.ScanLaws.{ending-front}
 use Rattle.pieces.proofs.StopLaws.{last-le}
-use Rattle.pieces.proofs.WaitLaws.{beyond-goes, wait-end}
+use Rattle.pieces.proofs.WaitLaws.{Goes, beyond-goes, wait-end}
 use Rattle.pieces.proofs.WaitedRuns.{Decided, NotHalted, gives, left-goes, refused-place, short-free, shuts, waited-gives}
 
 -- ---- no bar, and no refusal that tells the end
@@ -410,16 +410,29 @@ module _ (p t : List ℕ) (seen from : ℕ) (behind-seen : seen ≤ from) (short
       (λ o v. far-decides (ltb-true from bytes a) o v) (λ o v. absurd (true≢false (sym v))))
       (λ a v. absurd (true≢false (sym v)))
 
+-- from there on what is decided first is the same
+start-goes : (part : List ℕ) (seen : ℕ) → seen ≤ length part → Goes part seen (startOf part seen)
+unfolding startOf
+start-goes part seen l = cond-cases (Goes part seen) (leb (length part) 64) seen (beyondOf part seen) (λ t. (omega arith, l, refl)) (λ t. beyond-goes part seen l)
+
+pub start-short : (part : List ℕ) (seen : ℕ) → length part ≤ 64 → seen ≡ startOf part seen
+unfolding startOf
+start-short part seen l = sym (ap (λ (t : Bool). cond t seen (beyondOf part seen)) (le-leb (length part) 64 l))
+
+pub start-long : (part : List ℕ) (seen from : ℕ) → from ≡ beyondOf part seen → 64 < length part → from ≡ startOf part seen
+unfolding startOf
+start-long part seen from e l = e ∙ sym (ap (λ (t : Bool). cond t seen (beyondOf part seen)) (lt-leb (length part) 64 l))
+
 -- what a stride comes to, over a part that may be held
 pub stridden-gives : (part : List ℕ) (seen : ℕ) → seen ≤ length part → length part ≤ mostHeld → Decided (take seen part) (drop seen part) (stridden part seen)
 unfolding stridden waitedOf
 stridden-gives part seen le short =
-    let from : ℕ = beyondOf part seen in
+    let from : ℕ = startOf part seen in
     let far : Leapt = leapOf part from in
     let near : Leapt = leapOf (take (far .end) part) from in
     let D : Waited → Type 0 = Decided (take seen part) (drop seen part) in
     let on : (p t : List ℕ) → p ++ t ≡ part → decides (leapOf p from .verdict) ≡ true → D (leapt (leapOf p from)) =
-    λ p t e v. subst (λ (s : List ℕ). Decided (take seen s) (drop seen s) (leapt (leapOf p from))) e (leap-decides p t seen from (beyond-goes part seen le .0) (omega (arith, ap length e, length-append p t)) v) in
+    λ p t e v. subst (λ (s : List ℕ). Decided (take seen s) (drop seen s) (leapt (leapOf p from))) e (leap-decides p t seen from (start-goes part seen le .0) (omega (arith, ap length e, length-append p t)) v) in
     cond-cases D (decides (far .verdict)) (leapt far) _ (λ v. on part [] (append-nil part) v)
     (λ n. cond-cases D (ltb from (far .end) && decides (near .verdict)) (leapt near) (waitedOf part seen)
     (λ v. on (take (far .end) part) (drop (far .end) part) (take-append-drop (far .end) part) (and-true (ltb from (far .end)) (decides (near .verdict)) v .1))
@@ -478,13 +491,13 @@ leap-end part seen =
 pub wait-none : (part : List ℕ) (from : ℕ) (w : Waited) → w ≡ record { bytes = length part; verdict = Nothing } → from ≤ length part → length part ≤ from → w ≡ waitedOf part from
 wait-none part from w e l m = let z : length part ≡ from = omega arith in e ∙ sym (wait-end part) ∙ ap (waitedOf part) z
 
-module _ (part : List ℕ) (seen : ℕ) (le : seen ≤ length part) (from : ℕ) (from-is : from ≡ beyondOf part seen) where
+module _ (part : List ℕ) (seen : ℕ) (le : seen ≤ length part) (from : ℕ) (from-is : from ≡ startOf part seen) where
   pub from-inside : from ≤ length part
-  from-inside = omega (arith, from-is, beyond-goes part seen le .1)
+  from-inside = omega (arith, from-is, start-goes part seen le .1)
 
   -- what is decided from there on is what is decided
   waits-same : waitedOf part from ≡ waitedOf part seen
-  waits-same = ap (waitedOf part) from-is ∙ sym (beyond-goes part seen le .2)
+  waits-same = ap (waitedOf part) from-is ∙ sym (start-goes part seen le .2)
 
   module _ (far : Leapt) (is : far ≡ leapOf part from) where
     abbrev rest : Waited

@@ -166,6 +166,21 @@ beyond-goes part from l = go (ronToken (take end part)) refl
         (λ e. upto (refuse r) end q (not-ended r (tells-end r (eqb-true (r .number) 17 e))) (bounds .0) (omega arith))
         (λ e. stays)
 
+-- without a stop byte there is no other place
+pub beyond-idle : (part : List ℕ) (from end : ℕ) → end ≡ behindStops part from → from ≤ length part → end ≤ from → from ≡ beyondOf part from
+unfolding beyondOf
+beyond-idle part from end e l m = go (ronToken (take (behindStops part from) part)) refl
+  where
+    bounds : (from ≤ behindStops part from) × (behindStops part from ≤ length part)
+    bounds = behind-bounds stopsByte part from l
+
+    go : (a : Answer) → ronToken (take (behindStops part from) part) ≡ a → from ≡ beyondBy a from (behindStops part from)
+    go (token t) q =
+        let h : reach t ≤ length (take (behindStops part from) part) = ron .laws .inside (take (behindStops part from) part) t q in
+        sym (ap (λ (b : Bool). cond b (reach t - 1) from) (le-ltb (from + 1) (reach t) (omega (arith, length-take-le (behindStops part from) part (bounds .1), e))))
+    go stop q = refl
+    go (refuse d) q = cond-cases (λ (n : ℕ). from ≡ n) (eqb (d .number) 17) (behindStops part from) from (λ b. omega (arith, e, bounds .0)) (λ b. refl)
+
 -- the code's answers
 module _ (part : List ℕ) (from end : ℕ) (r : Following) (e : end ≡ behindStops part from) (q : answerOf r ≡ ronToken (take end part)) where
   by-answer : (f : Following) → r ≡ f → beyondBy (answerOf f) from end ≡ beyondOf part from

@@ -15,7 +15,7 @@ ghost use Prim.Native.Nat.{_≤_, _<_};
 ghost use lib.ListN.{length};
 ghost use Rattle.comments.specs.Gaps.{gapOf};
 ghost use Rattle.comments.specs.declared.gap.Gap.the-variants.{Clear};
-ghost use Rattle.pieces.specs.inner.Waiting.{behindDeciders, leapOf, noLeap, opensEnd, stridden, waitedOf};
+ghost use Rattle.pieces.specs.inner.Waiting.{behindDeciders, leapOf, noLeap, opensEnd, startOf, stridden, waitedOf};
 ghost use Rattle.pieces.specs.declared.verdict.Verdict.the-variants.{Nothing};
 
 // What is decided behind so many bytes; or, where nothing is, the end of the last entry before what is refused.
@@ -83,6 +83,20 @@ fn leap(part: &[u8], seen: usize) -> Leapt
     }
 }
 
+// A part in which it is not worth while to look for the first token's end.
+const SHORT: usize = 64;
+
+// From where on anything may be decided.
+fn start_from(part: &[u8], seen: usize) -> usize
+    requires { ⌜ (seen ≤ length (now part)) × (length (now part) ≤ 65536) ⌝ }
+    ensures { λ r. ⌜ r ≡ startOf (now (part .entry)) seen ⌝ }
+{
+    if part.len() <= SHORT {
+        return seen;
+    }
+    beyond(part, seen)
+}
+
 // Nothing is decided by all of a part.
 fn nothing(part: &[u8]) -> Waited
     ensures { λ r. ⌜ r ≡ record { bytes = length (now (part .entry)); verdict = Nothing } ⌝ }
@@ -110,7 +124,7 @@ pub fn stride(part: &[u8], seen: usize) -> Waited
     requires { ⌜ (seen < length (now part)) × (length (now part) ≤ 65536) × (gapOf (now part) ≡ Clear 0) ⌝ }
     ensures { λ r. ⌜ r ≡ stridden (now (part .entry)) seen ⌝ }
 {
-    let from = beyond(part, seen);
+    let from = start_from(part, seen);
     let far = leap(part, from);
     let verdict = far.verdict;
     if is_some(verdict) {

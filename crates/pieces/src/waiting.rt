@@ -58,6 +58,9 @@ pub fn beyond(part: &[u8], from: usize) -> usize
     ensures { λ r. ⌜ r ≡ beyondOf (now (part .entry)) from ⌝ }
 {
     let end = behind_stops(part, from);
+    if end <= from {
+        return from;
+    }
     let found = next_token(&part[..end]);
     match found {
         Following::Token(g, l) => {

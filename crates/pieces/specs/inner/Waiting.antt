@@ -2,7 +2,7 @@
 use Prim.Native.Nat.{ℕ, _+_, _-_}
 use mathlib.Core.Bool.{Bool, true, false, cond, not, _&&_}
 use mathlib.Core.List.{List, [], _∷_, _++_}
-use lib.Dec.{eqb, ltb}
+use lib.Dec.{eqb, leb, ltb}
 use lib.ListN.{drop, length, take}
 use Rattle.text.specs.Runs.{run}
 use Rattle.reading.specs.Kept.{lastQuiet}
@@ -89,11 +89,15 @@ leapOf part seen =
 abbrev pub leapt : Leapt → Waited
 leapt l = record { bytes = l .bytes; verdict = l .verdict }
 
+-- The place from which on anything may be decided; in a short part it is not looked for.
+unfoldable pub startOf : List ℕ → ℕ → ℕ
+startOf part seen = cond (leb (length part) 64) seen (beyondOf part seen)
+
 -- Many decisions at once, behind the place from which on anything may be decided: up to the last deciding byte, or up to the last before something that is refused; else
 -- what is decided first.
 unfoldable pub stridden : List ℕ → ℕ → Waited
 stridden part seen =
-    let from = beyondOf part seen in
+    let from = startOf part seen in
     let far = leapOf part from in
     let near = leapOf (take (far .end) part) from in
     cond (decides (far .verdict)) (leapt far) (cond (ltb from (far .end) && decides (near .verdict)) (leapt near) (waitedOf part seen))
