@@ -1,7 +1,7 @@
 /* Sarridok: a proved reader of RON text, for C (C11) and C++ (C++11).
  *
  * Link the archive libsarridok_c.a (x86-64 Linux), which bindings/archive proves and builds and bindings/install installs. It asks the C library for memset and
- * nothing else: no heap, no files. It keeps nothing between calls: any number of threads may call it at once. A call uses at most 14 KiB of stack; a
+ * nothing else: no heap, no files. It keeps nothing between calls: any number of threads may call it at once. A call uses at most 15 KiB of stack; a
  * walk, which keeps the entries that name fields there, 66 KiB, however small the tape (bench/stack).
  *
  * What each function answers and writes is proved for all bytes and all numbers, of one definition each (crates/sarridok_c). No input is unfit to be given.
