@@ -27,9 +27,9 @@ use Rattle.settled.proofs.Owed.{ron}
 use Rattle.settled.specs.Bytes.{closesByte, decidesByte, stopsByte}
 use Rattle.settled.specs.Settled.{ronReader, ronSettles}
 use Rattle.pieces.proofs.ScanLaws.{but-last, ending-front}
-use Rattle.pieces.specs.declared.scan.Ending.{Ending}
-use Rattle.pieces.specs.declared.scan.Ending.the-variants.{Complete, Broken}
-use Rattle.pieces.specs.declared.scan.Scanned.{Scanned}
+use Rattle.read.specs.declared.scanned.Ending.{Ending}
+use Rattle.read.specs.declared.scanned.Ending.the-variants.{Complete, Broken}
+use Rattle.read.specs.declared.scanned.Scanned.{Scanned}
 use Rattle.pieces.specs.declared.verdict.Verdict.the-variants.{Nothing, Shuts}
 use Rattle.pieces.specs.inner.Judges.{behindOf, decidedBy, givesOf, judgedOf, verdictBy}
 use Rattle.pieces.specs.inner.Scans.{endingOf, scannedBy, scannedOf}

@@ -36,8 +36,8 @@ use Rattle.pieces.specs.Orders.{inOrder}
 use Rattle.pieces.specs.Pieces.{gapped, movedTo, noRefusal}
 use Rattle.pieces.specs.inner.Lasts.{endedBy, endsWith, lastFrom}
 use Rattle.pieces.specs.inner.Scans.{endingOf as scanEnding, scannedBy, scannedOf}
-use Rattle.pieces.specs.declared.scan.Ending.the-variants.{Complete, Broken}
-use Rattle.pieces.specs.declared.scan.Scanned.{Scanned}
+use Rattle.read.specs.declared.scanned.Ending.the-variants.{Complete, Broken}
+use Rattle.read.specs.declared.scanned.Scanned.{Scanned}
 use Rattle.pieces.specs.declared.state.Arrival.{Arrival}
 use Rattle.pieces.specs.declared.state.Ended.{Ended}
 use Rattle.pieces.specs.declared.state.Ended.the-variants as ended

@@ -41,9 +41,9 @@ use Rattle.pieces.specs.declared.verdict.Verdict.{Verdict}
 use Rattle.pieces.specs.declared.verdict.Verdict.the-variants.{Nothing}
 use Rattle.pieces.specs.declared.stride.Leapt.{Leapt}
 use Rattle.pieces.specs.declared.waiting.Waited.{Waited}
-use Rattle.pieces.specs.declared.scan.Ending.{Ending}
-use Rattle.pieces.specs.declared.scan.Ending.the-variants.{Broken, Complete}
-use Rattle.pieces.specs.declared.scan.Scanned.{Scanned}
+use Rattle.read.specs.declared.scanned.Ending.{Ending}
+use Rattle.read.specs.declared.scanned.Ending.the-variants.{Broken, Complete}
+use Rattle.read.specs.declared.scanned.Scanned.{Scanned}
 use Rattle.pieces.proofs.JudgeLaws.{judge-within, up-front}
 use Rattle.pieces.proofs.ScanLaws.{ending-front}
 use Rattle.pieces.proofs.StopLaws.{last-le}

@@ -1,14 +1,14 @@
 // The call `finish`: the rest of a text that has ended.
 use crate::lay::lay;
 use crate::order::fits;
-use crate::scan::Ending;
-use crate::scan::Scanned;
 use crate::scan::scan;
 use crate::state::Arrival;
 use crate::state::Ended;
 use gaps::Open;
 use gaps::Passed;
 use gaps::pass_gap;
+use read::scanned::Ending;
+use read::scanned::Scanned;
 use rows::row;
 use text::Refusal;
 use text::refusal::placed_behind;

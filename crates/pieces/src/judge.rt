@@ -1,8 +1,8 @@
 // What the last byte of a part decides, where it is one behind which no earlier token looks.
-use crate::scan::Ending;
-use crate::scan::Scanned;
 use crate::scan::scan;
 use crate::verdict::Verdict;
+use read::scanned::Ending;
+use read::scanned::Scanned;
 use settled::bytes::is_closer;
 use settled::bytes::is_decider;
 use settled::refused::settles;

@@ -1,13 +1,13 @@
 // Many decisions at once: what the last deciding byte says of all that has come is what the bytes before it gave one by one, where none of them refused anything.
 use crate::judge::judge_scanned;
-use crate::scan::Ending;
-use crate::scan::Scanned;
 use crate::scan::scan;
 use crate::verdict::Verdict;
 use crate::waiting::Waited;
 use crate::waiting::beyond;
 use crate::waiting::is_some;
 use crate::waiting::wait;
+use read::scanned::Ending;
+use read::scanned::Scanned;
 use settled::bytes::is_decider;
 use settled::refused::tells_end;
 ghost use mathlib.Core.Path.{_≡_};

@@ -6,3 +6,4 @@ pub mod fill;
 pub mod measure;
 pub mod pass;
 pub mod reader;
+pub mod scanned;

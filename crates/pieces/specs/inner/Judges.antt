@@ -9,9 +9,9 @@ use Rattle.reading.specs.Readings.{endOf}
 use Rattle.arriving.specs.Arrivals.{Coming, Given, behind, decided, going, halted, shut}
 use Rattle.settled.specs.Bytes.{decidesByte}
 use Rattle.settled.specs.Settled.{ronReader, ronSettles}
-use Rattle.pieces.specs.declared.scan.Ending.{Ending}
-use Rattle.pieces.specs.declared.scan.Ending.the-variants.{Complete, Broken}
-use Rattle.pieces.specs.declared.scan.Scanned.{Scanned}
+use Rattle.read.specs.declared.scanned.Ending.{Ending}
+use Rattle.read.specs.declared.scanned.Ending.the-variants.{Complete, Broken}
+use Rattle.read.specs.declared.scanned.Scanned.{Scanned}
 use Rattle.pieces.specs.declared.verdict.Verdict.{Verdict}
 use Rattle.pieces.specs.declared.verdict.Verdict.the-variants.{Nothing, Gives, Shuts}
 

@@ -5,15 +5,10 @@ use lib.ListN.{length, take}
 use Rattle.rows.specs.declared.Entry.{Entry}
 use Rattle.reading.specs.Readings.{Reading, complete, broken, entry, endOf, entries, readPart}
 use Rattle.tokens.specs.Ron.{ronToken}
-use Rattle.pieces.specs.declared.scan.Ending.{Ending}
-use Rattle.pieces.specs.declared.scan.Ending.the-variants.{Complete, Broken}
-use Rattle.pieces.specs.declared.scan.Scanned.{Scanned}
-
--- How a reading ends.
-unfoldable pub endingOf : Reading → Ending
-endingOf complete = Complete
-endingOf (broken d) = Broken d
-endingOf (entry e r) = endingOf r
+use Rattle.read.specs.declared.scanned.Ending.{Ending}
+use Rattle.read.specs.declared.scanned.Ending.the-variants.{Complete, Broken}
+use Rattle.read.specs.declared.scanned.Scanned.{Scanned}
+unfoldable pub use Rattle.read.specs.inner.Pass.{endingOf}
 
 -- Entries counted from the front of their part.
 abbrev pub scannedBy : List Entry → Ending → Scanned

@@ -12,8 +12,8 @@ use Rattle.arriving.specs.Arrivals.{taken}
 use Rattle.arriving.specs.Owing.{tellsEnd}
 use Rattle.settled.specs.Bytes.{decidesByte, stopsByte}
 use Rattle.settled.specs.Settled.{ronReader}
-use Rattle.pieces.specs.declared.scan.Ending.{Ending}
-use Rattle.pieces.specs.declared.scan.Ending.the-variants.{Broken, Complete}
+use Rattle.read.specs.declared.scanned.Ending.{Ending}
+use Rattle.read.specs.declared.scanned.Ending.the-variants.{Broken, Complete}
 use Rattle.pieces.specs.inner.Judges.{judgedOf, verdictOf}
 use Rattle.pieces.specs.inner.Scans.{scannedOf}
 use Rattle.pieces.specs.declared.verdict.Verdict.{Verdict}
