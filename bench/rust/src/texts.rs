@@ -100,6 +100,8 @@ pub const ARRIVING: &[Kind] = &[
     kind("long strings of spaces", |r, size| list(size, || long_string(size, || r.run("ab     ", 8)))),
     kind("long strings of letters", |r, size| list(size, || long_string(size, || r.run(SMALL, 8)))),
     kind("long names", |r, size| list(size, || format!("N{}", r.run(SMALL, long(size))))),
+    kind("attributes of blanks", |_, size| list(size, || format!("#![enable({}implicit_some)]", " ".repeat(long(size) as usize - 40)))),
+    kind("raw strings of quotes", |_, size| list(size, || format!("r#\"{}\"#", "\"".repeat(long(size) as usize - 40)))),
 ];
 
 /// How the fields of one record are named, by their number and of how many: in no order, counted up, and counted up between ends that they
