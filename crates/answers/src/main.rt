@@ -1,11 +1,14 @@
 // Cases in, one to a line, and answers out.
+#![tactic(auto)]
+
 mod dispatch;
 
 use lines::{input, out};
+use std::io::Stdin;
 
 // What of the line buffer is read and not yet used, from..to, and whether the input has ended; the place in the output; whether the
 // rest of a line too long is being passed over; whether there is more to do.
-#[derive(Drop)]
+#[derive(Clone, Copy)]
 struct State {
     from: usize,
     to: usize,
@@ -131,9 +134,9 @@ fn too_long(
 }
 
 // What is answered is written before more is waited for.
-fn more(s: State, buf: &mut [u8], o: &[u8]) -> State {
+fn more(stdin: Stdin, s: State, buf: &mut [u8], o: &[u8]) -> State {
     let at = out::flush(o, s.at);
-    let i = input::more(buf, s.from, s.to);
+    let i = input::more(stdin, buf, s.from, s.to);
     State {
         from: i.from,
         to: i.to,
@@ -146,6 +149,7 @@ fn more(s: State, buf: &mut [u8], o: &[u8]) -> State {
 
 // One line, or one reading of the input.
 fn turn(
+    stdin: Stdin,
     s: State,
     buf: &mut [u8],
     text: &mut [u8],
@@ -167,11 +171,12 @@ fn turn(
     if left == buf.len() {
         return too_long(s, text, tape, links, numbers, spare, o);
     }
-    more(s, buf, &o[..])
+    more(stdin, s, buf, &o[..])
 }
 
 // A proved loop has to end, and nothing says that the input does: the turns are counted down from a number that no run uses up.
 fn run(
+    stdin: Stdin,
     buf: &mut [u8],
     text: &mut [u8],
     tape: &mut [u32],
@@ -190,7 +195,7 @@ fn run(
     };
     let mut turns = u64::MAX;
     while 0 < turns {
-        s = turn(s, buf, text, tape, links, numbers, spare, o);
+        s = turn(stdin, s, buf, text, tape, links, numbers, spare, o);
         if !s.on {
             return;
         }
@@ -200,6 +205,7 @@ fn run(
 
 // The arrays are lent as arrays first: then no proof computes their lengths.
 fn lend(
+    stdin: Stdin,
     buf: &mut [u8; 3200001],
     text: &mut [u8; 1600000],
     tape: &mut [u32; 327696],
@@ -208,12 +214,12 @@ fn lend(
     spare: &mut [u8; 65552],
     o: &mut [u8; 65536],
 ) {
-    run(buf, text, tape, links, numbers, spare, o);
+    run(stdin, buf, text, tape, links, numbers, spare, o);
 }
 
 // A line of 3,200,000 bytes with its LF, the bytes that it can say in hex, a tape of 65,536 entries, buffers for what a text or a list can fill
 // and a few numbers and bytes behind, and room for answers.
-fn main() {
+fn main(rt: HostRuntime) {
     let mut buf = [0u8; 3200001];
     let mut text = [0u8; 1600000];
     let mut tape = [0u32; 327696];
@@ -222,6 +228,7 @@ fn main() {
     let mut spare = [0u8; 65552];
     let mut o = [0u8; 65536];
     lend(
+        rt.stdin(),
         &mut buf,
         &mut text,
         &mut tape,

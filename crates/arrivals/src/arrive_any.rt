@@ -20,7 +20,7 @@ use words::number::Decimal;
 use words::{hex, list, number};
 
 // What the last word says: a piece of so many bytes, the end of the text, or the line is no case.
-#[derive(Drop)]
+#[derive(Clone, Copy)]
 enum Last {
     Piece(usize),
     End,

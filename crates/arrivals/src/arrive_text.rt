@@ -18,14 +18,14 @@ use words::list::Count;
 use words::{hex, list};
 
 // The state behind a piece, and the place in the output.
-#[derive(Drop)]
+#[derive(Clone, Copy)]
 struct Next {
     state: Arrival,
     at: usize,
 }
 
 // Between two pieces: the state, how many bytes are kept at the front, where the rest of the text begins, and the place in the output.
-#[derive(Drop)]
+#[derive(Clone, Copy)]
 struct Stand {
     state: Arrival,
     kept: usize,

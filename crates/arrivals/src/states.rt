@@ -11,7 +11,7 @@ use pieces::state::{Arrival, Arrived};
 use stored::Stored;
 
 // The state that a word says; or numbers that no state has; or the word is no state.
-#[derive(Drop)]
+#[derive(Clone, Copy)]
 pub enum Spoken {
     State(Arrival),
     Unfit,

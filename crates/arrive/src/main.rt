@@ -1,4 +1,6 @@
 // A RON text on standard input, as it arrives: each entry is printed as soon as it is decided, and a refusal last.
+#![tactic(auto)]
+
 mod said;
 
 ghost use Rattle.std.specs.Prelude.{false, ◌≡◌, length};
@@ -12,16 +14,17 @@ ghost use Rattle.arrive.specs.inner.Turns.{Turned, behind_piece, end_output, pie
 
 use lines::{input, out};
 use sarridok::{Arrival, Arrived};
+use std::io::Stdin;
 
 // Between two readings of the input: the state, and whether there is more to do.
-#[derive(Drop)]
+#[derive(Clone, Copy)]
 struct Standing {
     state: Arrival,
     on: bool,
 }
 
 // What a piece comes to: the state behind it, whether the text goes on, and where the lines end in the output.
-#[derive(Drop)]
+#[derive(Clone, Copy)]
 struct Next {
     state: Arrival,
     on: bool,
@@ -108,11 +111,11 @@ fn more(s: Arrival, buf: &mut [u8], n: usize, tape: &mut [u32], o: &mut [u8]) ->
 }
 
 // One reading of the input, behind what is kept.
-fn turn(was: Standing, buf: &mut [u8], tape: &mut [u32], o: &mut [u8]) -> Standing
+fn turn(stdin: Stdin, was: Standing, buf: &mut [u8], tape: &mut [u32], o: &mut [u8]) -> Standing
     ensures { Turned was.state buf.old buf.new (room_of (length tape.old)) result }
 {
     let s = was.state;
-    let i = input::more(buf, 0, s.kept);
+    let i = input::more(stdin, buf, 0, s.kept);
     if i.ended {
         return last(s, &buf[..], tape, o);
     }
@@ -120,14 +123,14 @@ fn turn(was: Standing, buf: &mut [u8], tape: &mut [u32], o: &mut [u8]) -> Standi
 }
 
 // A proved loop has to end, and nothing says that the input does: the turns are counted down from a number that no run uses up.
-fn run(buf: &mut [u8], tape: &mut [u32], o: &mut [u8]) {
+fn run(stdin: Stdin, buf: &mut [u8], tape: &mut [u32], o: &mut [u8]) {
     let mut s = Standing {
         state: sarridok::begin(),
         on: true,
     };
     let mut turns = u64::MAX;
     while 0 < turns {
-        s = turn(s, buf, tape, o);
+        s = turn(stdin, s, buf, tape, o);
         if !s.on {
             return;
         }
@@ -136,14 +139,14 @@ fn run(buf: &mut [u8], tape: &mut [u32], o: &mut [u8]) {
 }
 
 // The arrays are lent as arrays first: then no proof computes their lengths.
-fn lend(buf: &mut [u8; 8192], tape: &mut [u32; 40960], o: &mut [u8; 16384]) {
-    run(buf, tape, o);
+fn lend(stdin: Stdin, buf: &mut [u8; 8192], tape: &mut [u32; 40960], o: &mut [u8; 16384]) {
+    run(stdin, buf, tape, o);
 }
 
 // No more than 4,096 bytes are kept, so that as many can come at once; and no more entries are given than there are bytes, so that the tape has room.
-fn main() {
+fn main(rt: HostRuntime) {
     let mut buf = [0u8; 8192];
     let mut tape = [0u32; 40960];
     let mut o = [0u8; 16384];
-    lend(&mut buf, &mut tape, &mut o);
+    lend(rt.stdin(), &mut buf, &mut tape, &mut o);
 }

@@ -5,7 +5,7 @@ ghost use Rattle.attributes.specs.Extensions.{is_word, extension_of, adds_of, ad
 use integers::ident::check_str;
 
 // What `enable` takes.
-#[derive(Drop)]
+#[derive(Clone, Copy)]
 pub enum Extension {
     UnwrapNewtypes,
     ImplicitSome,
@@ -14,7 +14,7 @@ pub enum Extension {
 }
 
 // What a name in the list names.
-#[derive(Drop)]
+#[derive(Clone, Copy)]
 pub enum Named {
     Known(Extension),
     Unknown,

@@ -1,5 +1,7 @@
 // Attributes (document 01, module 7), after the crate's `attribute` and `extension_list`, over the part of the text that begins with the `#`: `enable`
 // with its list, `type` and `schema`; 19, 20 and 21 stand at the `#`.
+#![tactic(auto)]
+
 pub mod close;
 pub mod extensions;
 pub mod list;
@@ -15,7 +17,7 @@ use text::Refusal;
 use words::Keyword;
 
 // The attribute's length, its `]` included, and the sum of its extensions; or a refusal, of which 19, 20 and 21 stand at the `#`.
-#[derive(Drop)]
+#[derive(Clone, Copy)]
 pub enum AttributeAnswer {
     Read(usize, u32),
     Refused(Refusal),

@@ -12,14 +12,14 @@ use text::ahead::is_next_ahead;
 use text::refusal::placed_behind;
 
 // Whether a name goes on at a place (the crate's `check_ident_other_char`).
-#[derive(Drop)]
+#[derive(Clone, Copy)]
 pub enum OtherChar {
     Goes,
     Ends,
 }
 
 // One extension with what stands behind it, and the bytes to where the next begins or the list ends.
-#[derive(Drop)]
+#[derive(Clone, Copy)]
 pub enum Item {
     More(usize, Extension),
     Last(usize, Extension),
@@ -31,7 +31,7 @@ pub enum Item {
 }
 
 // The place behind the list and the sum of its extensions.
-#[derive(Drop)]
+#[derive(Clone, Copy)]
 pub enum Listed {
     Ended(usize, u32),
     Refused(Refusal),

@@ -8,14 +8,14 @@ use text::bytes::peek;
 use text::refusal::placed_behind;
 
 // The place where the next thing begins, or a refusal.
-#[derive(Drop)]
+#[derive(Clone, Copy)]
 pub enum Step {
     On(usize),
     Refused(Refusal),
 }
 
 // How far `consume_all` has come, and whether it has found all so far: it goes on where a sign is missing.
-#[derive(Drop)]
+#[derive(Clone, Copy)]
 pub enum All {
     At(bool, usize),
     Refused(Refusal),

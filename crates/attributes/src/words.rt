@@ -5,7 +5,7 @@ ghost use Rattle.attributes.specs.Words.{keyword_of, keyword_at};
 use integers::ident::{Found, check_ident, nothing};
 
 // The word at a place, with the place behind it.
-#[derive(Drop)]
+#[derive(Clone, Copy)]
 pub enum Keyword {
     Enable(usize),
     // `type` or `schema`.

@@ -10,7 +10,7 @@ use lines::out;
 use sarridok::{ContentsAnswer, DecodedAnswer};
 
 // What a line asks: an entry, the tape's count, and how many bytes the buffer has.
-#[derive(Drop)]
+#[derive(Clone, Copy)]
 pub struct Asked {
     pub entry: usize,
     pub count: usize,

@@ -9,14 +9,14 @@ use words::number::Decimal;
 use words::{hex, number};
 
 // The width and the place; or the line is no case.
-#[derive(Drop)]
+#[derive(Clone, Copy)]
 enum Asked {
     At(Width, usize),
     Bad,
 }
 
 // A width; or the number names none.
-#[derive(Drop)]
+#[derive(Clone, Copy)]
 enum Chosen {
     Of(Width),
     Bad,

@@ -9,7 +9,7 @@ use words::number::Decimal;
 use words::{hex, number};
 
 // The two modes and the place; or the line is no case.
-#[derive(Drop)]
+#[derive(Clone, Copy)]
 enum Asked {
     At(NewtypeMode, TupleMode, usize),
     Bad,

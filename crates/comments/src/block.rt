@@ -3,14 +3,14 @@ ghost use Rattle.std.specs.Prelude.{◌≡◌};
 ghost use Rattle.comments.specs.Blocks.{decision_of, block_end};
 
 // Where a comment ends: behind the closing mark of a block comment, at the LF of a line comment, or nowhere.
-#[derive(Drop)]
+#[derive(Clone, Copy)]
 pub enum CommentEnd {
     Closed(usize),
     Unclosed,
 }
 
 // What the two bytes at hand do to a block comment.
-#[derive(Drop)]
+#[derive(Clone, Copy)]
 pub enum Decision {
     // One more comment is open.
     Open,
@@ -23,7 +23,7 @@ pub enum Decision {
 }
 
 // The two bytes at hand, and the level beside them: how many comments are open.
-#[derive(Drop)]
+#[derive(Clone, Copy)]
 struct AtHand(u8, u8, usize);
 
 // The rule of nesting, one decision: what the bytes a and b do where `level` comments are open.

@@ -5,6 +5,8 @@
 //
 // A block comment ends exactly where its nesting does: proofs/Nesting, against a definition of its own (specs/Blocks). That an edit elsewhere leaves a gap
 // as it was is GapWindow.
+#![tactic(auto)]
+
 mod block;
 mod gap;
 mod line;

@@ -7,14 +7,14 @@ use text::Refusal;
 use text::utf8::{char_len, code_point};
 
 // The character at the cursor and the cursor behind it.
-#[derive(Drop)]
+#[derive(Clone, Copy)]
 pub enum Next {
     Char(u32, ParserCursor),
     Refused(Refusal),
 }
 
 // Whether the character was there, and the cursor, which moves only then.
-#[derive(Drop)]
+#[derive(Clone, Copy)]
 pub struct Consumed {
     pub found: bool,
     pub cursor: ParserCursor,

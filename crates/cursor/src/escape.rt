@@ -8,7 +8,7 @@ use text::Refusal;
 use text::refusal::placed_behind;
 
 // A byte or a scalar value, as in `escapes::EscapeAnswer`, and the cursor behind the escape; or the refusal.
-#[derive(Drop)]
+#[derive(Clone, Copy)]
 pub enum Escaped {
     Ascii(u8, ParserCursor),
     Utf8(u32, ParserCursor),

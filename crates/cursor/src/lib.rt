@@ -2,6 +2,8 @@
 //
 // The place, where the last whitespace began, and how long it was: `skip_ws`, `next_char`, `consume_char`, `expect_char`, `parse_escape`, after the
 // functions of the same names in parse.rs. The call skip stands on it, and so do chars, byte literals and the front of struct kinds.
+#![tactic(auto)]
+
 mod chars;
 mod escape;
 mod skip;
@@ -14,7 +16,7 @@ pub use escape::Escaped;
 pub use skip::Step;
 
 // The place, where the last whitespace began, and how long it was.
-#[derive(Drop)]
+#[derive(Clone, Copy)]
 pub struct ParserCursor {
     pub cursor: usize,
     pub pre_ws_cursor: usize,

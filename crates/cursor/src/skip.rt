@@ -9,7 +9,7 @@ use text::judge::place_fits;
 use text::refusal::placed_behind;
 
 // The moved cursor, or the refusal.
-#[derive(Drop)]
+#[derive(Clone, Copy)]
 pub enum Step {
     Moved(ParserCursor),
     Refused(Refusal),

@@ -1,5 +1,7 @@
 // How deep the entries of a tape are nested, for people (program explain): brackets open at once, at most. proofs/DepthMeans: it is exactly the most open
 // brackets, and within the limit of a walk that accepts (document 01, module 10).
+#![tactic(auto)]
+
 ghost use Rattle.std.specs.Prelude.{◌≡◌, ◌+◌, ◌-◌, ◌^◌, ◌<◌, ◌≤◌, max, length};
 ghost use Rattle.rows.specs.Rows.{room_of, entries_of};
 ghost use Rattle.grammar.specs.Kinds.{kinds_of};

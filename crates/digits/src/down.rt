@@ -7,7 +7,7 @@ use crate::Run;
 use hexes::{HexAnswer, decode_hex};
 
 // What one character of a run does to the number before it.
-#[derive(Drop)]
+#[derive(Clone, Copy)]
 pub enum Down {
     Next(i64),
     Over,

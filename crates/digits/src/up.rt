@@ -6,7 +6,7 @@ use crate::Run;
 use hexes::{HexAnswer, decode_hex};
 
 // What one character of a run does to the magnitude before it.
-#[derive(Drop)]
+#[derive(Clone, Copy)]
 pub enum Turned {
     Next(u64),
     Over,

@@ -7,7 +7,7 @@ ghost use Rattle.edits.specs.Repairs.{both_texts};
 use text::bytes::peek;
 
 // The tape's count, the old length, and the cut's ends.
-#[derive(Drop)]
+#[derive(Clone, Copy)]
 pub struct Cut {
     pub count: usize,
     pub old: usize,

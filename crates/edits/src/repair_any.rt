@@ -13,7 +13,7 @@ use words::number::Decimal;
 use words::{hex, list, number};
 
 // The cut that is asked for; or the line is no case.
-#[derive(Drop)]
+#[derive(Clone, Copy)]
 enum Said {
     Asks(Cut),
     Bad,

@@ -15,7 +15,7 @@ use words::number::Decimal;
 use words::{hex, number};
 
 // The ends of the cut; or the line is no case.
-#[derive(Drop)]
+#[derive(Clone, Copy)]
 enum Said {
     Asks(usize, usize),
     Bad,

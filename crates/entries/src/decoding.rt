@@ -11,7 +11,7 @@ use text::Refusal;
 use text::refusal::placed_behind;
 
 // How many bytes were written, or the refusal.
-#[derive(Drop)]
+#[derive(Clone, Copy)]
 pub enum DecodedAnswer {
     Wrote(usize),
     Refused(Refusal),

@@ -9,7 +9,7 @@ use text::Refusal;
 use text::judge::place_fits;
 
 // A string or, with true, a byte string at a place; or the refusal.
-#[derive(Drop)]
+#[derive(Clone, Copy)]
 pub enum Named {
     At(bool, usize),
     Refused(Refusal),

@@ -9,7 +9,7 @@ use text::Refusal;
 use text::refusal::placed_behind;
 
 // Where the bytes inside begin and end, or the refusal.
-#[derive(Drop)]
+#[derive(Clone, Copy)]
 pub enum ContentsAnswer {
     Part(usize, usize),
     Refused(Refusal),

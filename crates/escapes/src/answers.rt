@@ -6,7 +6,7 @@ ghost use Rattle.text.specs.declared.reason.EscapeReason.TheVariants.{UnicodeInB
 use text::{EscapeReason, Refusal};
 
 // A byte or a scalar value, with the number of bytes that the escape took; or its refusal, with the place counted from behind the `\`.
-#[derive(Drop)]
+#[derive(Clone, Copy)]
 pub enum EscapeAnswer {
     Ascii(u8, usize),
     Utf8(u32, usize),
@@ -14,7 +14,7 @@ pub enum EscapeAnswer {
 }
 
 // In a string, in a char, or in a byte string or byte literal.
-#[derive(Drop)]
+#[derive(Clone, Copy)]
 pub enum Mode {
     Str,
     Char,
@@ -22,7 +22,7 @@ pub enum Mode {
 }
 
 // A letter that stands for one byte, as `n` does, or any other byte behind the `\`.
-#[derive(Drop)]
+#[derive(Clone, Copy)]
 pub enum SimpleAnswer {
     Byte(u8),
     Other,

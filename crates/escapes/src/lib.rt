@@ -4,6 +4,8 @@
 // `parse_escape` takes the mode (char, string, byte string) and answers the value with its length. Proved beyond the contracts: an accepted escape lies
 // within the part and so does the place of a refused one (Bounded), nothing behind it changes the answer (Closed), and its value is one scalar value or
 // one byte (Decoded).
+#![tactic(auto)]
+
 pub mod answers;
 pub mod digits;
 pub mod hex;

@@ -1,4 +1,6 @@
 // A RON text on standard input, explained to people: how many entries it has and how deep they are nested, or why it is refused, and where.
+#![tactic(auto)]
+
 mod answer;
 mod excerpt;
 mod sentence;
@@ -12,7 +14,7 @@ ghost use Rattle.explain.specs.Explained.{walk_text, links_behind, explained};
 
 use answer::{accepted, refused};
 use depth::deepest;
-use libc::STDIN_FILENO;
+use lines::input::STDIN_FILENO;
 use lines::{input, out};
 use opened::begun::read_begun;
 use opened::walks::walk_begun;

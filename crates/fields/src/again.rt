@@ -11,14 +11,14 @@ use crate::names::name_from;
 use rows::row;
 
 // The entry that names a field again, or none.
-#[derive(Drop)]
+#[derive(Clone, Copy)]
 pub enum Again {
     Nowhere,
     At(usize),
 }
 
 // What a look at neighbours tells: the answer, or that the fields were not sorted.
-#[derive(Drop)]
+#[derive(Clone, Copy)]
 pub enum Looked {
     Told(Again),
     Unsorted,

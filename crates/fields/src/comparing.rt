@@ -8,7 +8,7 @@ use crate::names::name_from;
 use rows::row;
 
 // How a name stands to another: before it, the same, or behind it.
-#[derive(Drop)]
+#[derive(Clone, Copy)]
 pub enum Order {
     Before,
     Same,

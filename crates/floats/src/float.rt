@@ -10,14 +10,14 @@ use integers::ident::{Found, check_ident, nothing};
 use text::Refusal;
 
 // A float's length with its suffix, and which suffix: 32, 64, or 0 without one.
-#[derive(Drop)]
+#[derive(Clone, Copy)]
 pub struct FloatSpan {
     pub len: usize,
     pub suffix: u8,
 }
 
 // What a float reads as.
-#[derive(Drop)]
+#[derive(Clone, Copy)]
 pub enum AnyFloat {
     Read(FloatSpan),
     Refused(Refusal),

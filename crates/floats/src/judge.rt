@@ -7,7 +7,7 @@ use crate::state::{State, advance, is_final};
 use text::classes::is_digit;
 
 // A float run has a misplaced underscore, is a float, or is none.
-#[derive(Drop)]
+#[derive(Clone, Copy)]
 pub enum Judged {
     Misplaced(usize),
     Fine,

@@ -2,6 +2,8 @@
 // `f64::from_str`; refusals 11 and 12.
 //
 // specs/Grammar is that grammar as Rust's documentation writes it; proofs/Decides shows that the small machine of `state` accepts exactly its words.
+#![tactic(auto)]
+
 pub mod anew;
 pub mod class;
 pub mod float;

@@ -8,7 +8,7 @@ use text::classes::is_digit;
 
 // Where a float's text stands: before a sign, behind it, in the whole part, behind a point without digits before it,
 // behind a point that may end it, behind the e, behind its sign, in the exponent; or it is no float.
-#[derive(Drop)]
+#[derive(Clone, Copy)]
 pub enum State {
     Start,
     Signed,

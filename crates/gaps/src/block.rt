@@ -8,7 +8,7 @@ use comments::{Decision, decide};
 use text::bytes::peek;
 
 // How far a block comment goes: behind the mark that closes it, or to the piece's end, where this is open.
-#[derive(Drop)]
+#[derive(Clone, Copy)]
 pub enum Rest {
     Closed(usize),
     Still(Open),

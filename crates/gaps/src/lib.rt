@@ -5,6 +5,8 @@
 //
 // Read specs/Opens first. Whatever follows, a text may be replaced by the shortest one that leaves the same open (proofs/Canon), so two pieces come to
 // what one does (proofs/Cuts).
+#![tactic(auto)]
+
 mod block;
 mod pass;
 mod state;

@@ -12,7 +12,7 @@ use comments::{Decision, decide, is_blank};
 use text::utf8::char_len;
 
 // Where the whitespace and comments end that a piece goes on with.
-#[derive(Drop)]
+#[derive(Clone, Copy)]
 pub enum Passed {
     // A token, or what starts none, begins behind so many bytes; fewer than there are.
     Begins(usize),

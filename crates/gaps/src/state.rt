@@ -1,7 +1,7 @@
 // What is open where a text that arrives stands between two pieces.
 
 // What is open behind the bytes that have come.
-#[derive(Drop)]
+#[derive(Clone, Copy)]
 pub enum Open {
     // Nothing.
     Clear,

@@ -11,7 +11,7 @@ use text::classes::blank_width;
 use text::utf8::char_len;
 
 // What a part of a piece begins with.
-#[derive(Drop)]
+#[derive(Clone, Copy)]
 pub enum Step {
     // A whitespace character or a closed comment, of so many bytes.
     On(usize),

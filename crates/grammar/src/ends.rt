@@ -8,7 +8,7 @@ use crate::states::{Frame, Want};
 use text::Refusal;
 
 // The entries are a document, or the refusal.
-#[derive(Drop)]
+#[derive(Clone, Copy)]
 pub enum Verdict {
     Accepted,
     Refused(Refusal),

@@ -5,7 +5,7 @@ ghost use Rattle.grammar.specs.Kinds.{kind_of, side_of};
 use rows::kinds;
 
 // Names and raw names are one kind here, and so are the five scalars.
-#[derive(Drop)]
+#[derive(Clone, Copy)]
 pub enum Kind {
     OpenRound,
     CloseRound,
@@ -21,7 +21,7 @@ pub enum Kind {
 }
 
 // An opening bracket, a closing one, or neither.
-#[derive(Drop)]
+#[derive(Clone, Copy)]
 pub enum Side {
     Opens,
     Closes,

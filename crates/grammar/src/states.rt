@@ -1,7 +1,7 @@
 // Where the walk stands between two entries, and where an entry takes it.
 
 // The innermost open bracket and what stands in it: in { } a key, or the value behind it.
-#[derive(Drop)]
+#[derive(Clone, Copy)]
 pub enum Frame {
     Top,
     Square,
@@ -12,7 +12,7 @@ pub enum Frame {
 }
 
 // What may stand at an entry.
-#[derive(Drop)]
+#[derive(Clone, Copy)]
 pub enum Want {
     // attributes, then a value
     Start,
@@ -35,7 +35,7 @@ pub enum Want {
 }
 
 // What an entry does: stays inside the innermost bracket, opens one, closes it, or is not allowed.
-#[derive(Drop)]
+#[derive(Clone, Copy)]
 pub enum Move {
     Stay(Want, Frame),
     Push(Want, Frame),

@@ -1,6 +1,8 @@
 // The README's example for hosts in Rattle: a text is read and walked, and what came of it is printed.
-use libc::STDOUT_FILENO;
+#![tactic(auto)]
+
 use lines::out;
+use lines::out::STDOUT_FILENO;
 use sarridok::{ReadAnswer, WalkAnswer};
 
 // How many entries the text has, in one value; the byte where it is refused, or the entry at which the walk is.

@@ -1,11 +1,13 @@
 // Hex digits (document 01, modules 3 and 5): the value of one, and which bytes an integer's digits are made of, told by ranges and bits. Escapes and digit
 // runs stand on it.
+#![tactic(auto)]
+
 ghost use Rattle.std.specs.Prelude.{◌≡◌};
 ghost use Rattle.text.specs.Classes.{hex_digit, int_char};
 ghost use Rattle.hexes.specs.Hex.{hex_answer};
 
 // What a byte is as a hex digit: its value, from 0 to 15.
-#[derive(Drop)]
+#[derive(Clone, Copy)]
 pub enum HexAnswer {
     Digit(u8),
     NoDigit,

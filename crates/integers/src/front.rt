@@ -5,21 +5,21 @@ ghost use Rattle.integers.specs.Front.{sign_of, prefix_of, front_of};
 use text::bytes::peek;
 
 // Whether a minus stands there, and the place behind the sign.
-#[derive(Drop)]
+#[derive(Clone, Copy)]
 pub struct Sign {
     pub minus: bool,
     pub end: usize,
 }
 
 // The base that a prefix names, or 10, and the place behind the prefix.
-#[derive(Drop)]
+#[derive(Clone, Copy)]
 pub struct Prefix {
     pub base: u64,
     pub end: usize,
 }
 
 // Both, with the place behind them.
-#[derive(Drop)]
+#[derive(Clone, Copy)]
 pub struct Front {
     pub minus: bool,
     pub base: u64,

@@ -7,7 +7,7 @@ use text::ahead::is_next_ahead;
 
 // The number that a word stands for, and the place behind it. Without a word both are 0: no bytes are passed, which callers add as they add a word's, and the
 // number is a suffix's own 0 for none.
-#[derive(Drop)]
+#[derive(Clone, Copy)]
 pub struct Found {
     pub code: u8,
     pub end: usize,

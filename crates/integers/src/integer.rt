@@ -15,14 +15,14 @@ use text::Refusal;
 use text::refusal::placed_behind;
 
 // A number: its magnitude, and whether it is below 0.
-#[derive(Drop)]
+#[derive(Clone, Copy)]
 pub struct Value {
     pub minus: bool,
     pub magnitude: u64,
 }
 
 // A typed read: the number with the place behind it, a suffix of another width, or a refusal.
-#[derive(Drop)]
+#[derive(Clone, Copy)]
 pub enum Integer {
     Read(Value, usize),
     OtherSuffix,
@@ -30,14 +30,14 @@ pub enum Integer {
 }
 
 // A read of any width: the width and the place behind the number, or a refusal.
-#[derive(Drop)]
+#[derive(Clone, Copy)]
 pub enum AnyInteger {
     Read(Width, usize),
     Refused(Refusal),
 }
 
 // Digits and suffix: magnitude, the suffix's code or 0, and the place behind both; or a refusal.
-#[derive(Drop)]
+#[derive(Clone, Copy)]
 pub enum Numeral {
     Read(u64, u8, usize),
     Refused(Refusal),

@@ -2,6 +2,8 @@
 // widths, or the first width that fits.
 //
 // One law over the width for all eight (proofs/Exactly): what is read is the number written, and each of 7 to 10 is given exactly in its case.
+#![tactic(auto)]
+
 pub mod front;
 pub mod ident;
 pub mod integer;

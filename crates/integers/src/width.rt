@@ -3,7 +3,7 @@ ghost use Rattle.std.specs.Prelude.{◌≡◌, true, false, pos, neg_ℤ};
 ghost use Rattle.integers.specs.Width.{code_of, width_at, limit_at, first_fit, widest};
 
 // An integer's type.
-#[derive(Drop)]
+#[derive(Clone, Copy)]
 pub enum Width {
     I8,
     I16,

@@ -3,10 +3,13 @@ ghost use Rattle.std.specs.Prelude.{◌-◌, ◌≤◌, ◌<◌, true, false, �
 ghost use Rattle.lines.specs.Input.{ended_input, leaves_room, ReadBehind};
 ghost use Rattle.lines.specs.Over.{over};
 
-use libc::STDIN_FILENO;
+use std::io::{Read, Stdin};
+
+// The number that the system has for standard input.
+pub const STDIN_FILENO: i32 = 0;
 
 // The bytes of the buffer that are read and not yet used, from..to, and whether the input has ended.
-#[derive(Drop)]
+#[derive(Clone, Copy)]
 pub struct Input {
     pub from: usize,
     pub to: usize,
@@ -26,21 +29,24 @@ fn shift(buf: &mut [u8], from: usize, to: usize)
     }
 }
 
-// How many bytes one reading gave.
-fn read_part(part: &mut [u8]) -> usize
+// How many bytes one reading gave; none where it failed.
+fn read_part(stdin: Stdin, part: &mut [u8]) -> usize
     ensures { result ≤ length part.old }
 {
-    let got = libc::read(STDIN_FILENO, part);
-    io::count(got, part)
+    let mut from = stdin;
+    match from.read(part) {
+        Ok(n) => n,
+        Err(_) => 0,
+    }
 }
 
 // Reads once, behind the n bytes that are there.
-fn read_behind(buf: &mut [u8], n: usize) -> Input
+fn read_behind(stdin: Stdin, buf: &mut [u8], n: usize) -> Input
     ensures { (n < length buf.old → ReadBehind n buf.old buf.new result)
         × (length buf.old ≤ n → (result ≡ ended_input) × (buf.new ≡ buf.old)) }
 {
     if n < buf.len() {
-        let got = read_part(&mut buf[n..]);
+        let got = read_part(stdin, &mut buf[n..]);
         return Input {
             from: 0,
             to: n + got,
@@ -61,7 +67,7 @@ fn ended() -> Input
 }
 
 // What is not yet used goes to the front, and the input is read once behind it.
-pub fn more(buf: &mut [u8], from: usize, to: usize) -> Input
+pub fn more(stdin: Stdin, buf: &mut [u8], from: usize, to: usize) -> Input
     ensures { (leaves_room from to (length buf.old) ≡ true → ReadBehind (to - from) (drop from buf.old) buf.new result)
         × (leaves_room from to (length buf.old) ≡ false → (result ≡ ended_input) × (buf.new ≡ buf.old)) }
 {
@@ -72,7 +78,7 @@ pub fn more(buf: &mut [u8], from: usize, to: usize) -> Input
         return ended();
     }
     shift(buf, from, to);
-    read_behind(buf, to - from)
+    read_behind(stdin, buf, to - from)
 }
 
 // Reads on to the end of the input, so that whoever writes it is not cut off. The bytes go nowhere: nothing is lent, and nothing is answered.

@@ -1,4 +1,6 @@
 // Lines in and out of a program, over buffers that it lends: parts, searches, standard input to its end, numbers as text. No module of document 01.
+#![tactic(auto)]
+
 pub mod input;
 pub mod out;
 

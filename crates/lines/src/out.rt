@@ -4,7 +4,8 @@ ghost use Rattle.std.specs.Prelude.{◌≡◌};
 ghost use Rattle.lines.specs.Decimal.{decimal as Decimal·decimal, word_of};
 ghost use Rattle.lines.specs.Out.{put_byte, put};
 
-use libc::STDOUT_FILENO;
+// The number that the system has for standard output.
+pub const STDOUT_FILENO: i32 = 1;
 
 // Writes out what stands in the buffer up to a place.
 pub fn flush(out: &[u8], at: usize) -> usize

@@ -8,7 +8,7 @@ use lent::{bytes, magnitudes as numbers};
 use sarridok::IntegersAnswer;
 
 // What a line asks: how long the two buffers are, and how many entries the tape has.
-#[derive(Drop)]
+#[derive(Clone, Copy)]
 pub struct Asked {
     pub magnitudes: usize,
     pub codes: usize,

@@ -2,3 +2,4 @@
 //
 // A repair of the tape that a reading left comes to what a fresh reading of the new text answers, entries, refusals and places alike, and its two counts
 // are document 01's (proofs/Demand3; Whole and Joining on the way; Again for repairs of repairs).
+#![tactic(auto)]

@@ -3,6 +3,8 @@
 //
 // All goes by characters, code point and width. `characters` passes those that are told without the table; at the first other one it builds the table, once for
 // a name, and `table_chars` goes on with it.
+#![tactic(auto)]
+
 use text::Refusal;
 
 pub mod characters;
@@ -12,7 +14,7 @@ pub mod starts;
 pub mod table_chars;
 
 // Which characters a run is made of: where the crate passes a function, a case.
-#[derive(Drop)]
+#[derive(Clone, Copy)]
 pub enum Class {
     First,
     Next,
@@ -20,7 +22,7 @@ pub enum Class {
 }
 
 // What stands where a name may stand, with its length; a raw name's `r#` counts.
-#[derive(Drop)]
+#[derive(Clone, Copy)]
 pub enum Identifier {
     Missing,
     Name(usize),
@@ -28,7 +30,7 @@ pub enum Identifier {
 }
 
 // A token that begins as a name does, with its length, and of a float the suffix: 0, 32 or 64.
-#[derive(Drop)]
+#[derive(Clone, Copy)]
 pub enum Word {
     Plain(usize),
     Raw(usize),

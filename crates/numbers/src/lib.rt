@@ -1,5 +1,7 @@
 // Numbers (document 01, module 6), over the part of the text that begins at the token's place: an integer or a float, and which of the two. Behind a sign
 // the longer of the two runs decides; an integer that cannot be read may still be a float.
+#![tactic(auto)]
+
 ghost use Rattle.std.specs.Prelude.{◌≡◌};
 ghost use Rattle.floats.specs.Float.{float_of};
 ghost use Rattle.numbers.specs.Numbers.{float_ahead, of_float, or_float, number_of};
@@ -13,7 +15,7 @@ use integers::width::Width;
 use text::Refusal;
 
 // A number's case of the token: an integer's width and length, a float's span, or a refusal.
-#[derive(Drop)]
+#[derive(Clone, Copy)]
 pub enum Number {
     Int(Width, usize),
     Float(FloatSpan),

@@ -1,5 +1,5 @@
 // What may be taken of bytes that begin with a character's first byte.
-#[derive(Drop)]
+#[derive(Clone, Copy)]
 pub enum Allowed {
     // All; so many at the end, 0 to 3, belong to a character that has not come whole.
     All(usize),

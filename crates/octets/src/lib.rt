@@ -3,6 +3,8 @@
 //
 // Read specs/Octets first. What is proved beyond the contract: the two answers mean what they say by RFC 3629's grammar alone (proofs/Exactly), and however a
 // text is cut, they are those of the whole (proofs/Cutting).
+#![tactic(auto)]
+
 mod answer;
 mod front;
 

@@ -7,7 +7,7 @@ use crate::reach::reached;
 use text::Refusal;
 
 // What is open, and the byte at which it begins.
-#[derive(Drop)]
+#[derive(Clone, Copy)]
 pub enum Begun {
     Nothing,
     // The opening mark of a block comment that is not closed.

@@ -8,7 +8,7 @@ use grammar::kinds::{Side, kind_of, side_of};
 use rows::{kinds, row};
 
 // The innermost bracket that is open, if one is.
-#[derive(Drop)]
+#[derive(Clone, Copy)]
 pub enum Innermost {
     // No bracket is open.
     Outside,

@@ -14,7 +14,7 @@ use lines::part;
 use rows::{Entry, kinds, row};
 
 // The field of that name, if one stands before.
-#[derive(Drop)]
+#[derive(Clone, Copy)]
 pub enum Former {
     Nowhere,
     // The number of the entry that names it.

@@ -13,7 +13,7 @@ use text::bytes::peek;
 use text::classes::blank_width;
 
 // What the search does with the front of a part.
-#[derive(Drop)]
+#[derive(Clone, Copy)]
 pub enum Front {
     // So many bytes to pass: whitespace, a comment, a string, or one byte of anything else.
     Passes(usize),

@@ -11,7 +11,7 @@ use gaps::{Open, Passed, pass_gap};
 use text::Refusal;
 
 // What bytes come to, and where their first token begins.
-#[derive(Drop)]
+#[derive(Clone, Copy)]
 pub struct Reached {
     pub from: usize,
     pub ran: Ran,

@@ -2,6 +2,8 @@
 //
 // A piece is taken byte by byte: specs/Come says what its bytes give, over the theory of crate arriving and the bytes of crate settled. The code reads what has
 // come at the bytes that may decide something, and no other: a `turn` is one decision, a `run` goes from one to the next, and `lay` writes what was counted.
+#![tactic(auto)]
+
 pub mod come;
 pub mod finish;
 pub mod judge;

@@ -11,7 +11,7 @@ use text::Refusal;
 const MOST_TAKEN: usize = 65536;
 
 // What may be taken of the bytes that are kept and the piece behind them.
-#[derive(Drop)]
+#[derive(Clone, Copy)]
 pub struct Most {
     // Behind the last byte that may be taken, and behind its last whole character.
     pub end: usize,

@@ -7,7 +7,7 @@ use crate::places::later;
 use crate::turn::{Stands, Turned, turn};
 
 // What bytes come to.
-#[derive(Drop)]
+#[derive(Clone, Copy)]
 pub struct Ran {
     // How many entries, and where the last of them ends.
     pub count: usize,

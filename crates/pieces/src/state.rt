@@ -7,7 +7,7 @@ use gaps::Open;
 use text::Refusal;
 
 // A text that arrives, between two pieces.
-#[derive(Drop)]
+#[derive(Clone, Copy)]
 pub struct Arrival {
     // How many bytes of the text were taken.
     pub taken: usize,
@@ -24,7 +24,7 @@ pub struct Arrival {
 }
 
 // What a piece comes to.
-#[derive(Drop)]
+#[derive(Clone, Copy)]
 pub enum Arrived {
     // So many entries, and what stands behind them.
     Given(usize, Arrival),
@@ -35,7 +35,7 @@ pub enum Arrived {
 }
 
 // What the end of the text comes to.
-#[derive(Drop)]
+#[derive(Clone, Copy)]
 pub enum Ended {
     // So many entries: the text is accepted.
     Given(usize),

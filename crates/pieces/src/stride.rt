@@ -14,7 +14,7 @@ use settled::bytes::is_decider;
 use settled::refused::tells_end;
 
 // What is decided behind so many bytes; or, where nothing is, the end of the last entry before what is refused.
-#[derive(Drop)]
+#[derive(Clone, Copy)]
 struct Leapt {
     bytes: usize,
     verdict: Verdict,

@@ -16,7 +16,7 @@ use text::refusal::placed_behind;
 const MOST_HELD: usize = 4096;
 
 // Where a text stands.
-#[derive(Drop)]
+#[derive(Clone, Copy)]
 pub enum Stands {
     // Nothing has begun, and this is open.
     Within(Open),
@@ -28,7 +28,7 @@ pub enum Stands {
 }
 
 // What bytes come to.
-#[derive(Drop)]
+#[derive(Clone, Copy)]
 pub enum Turned {
     // So many entries; where the last of them ends; behind the byte that decided them.
     On(usize, usize, usize),

@@ -2,7 +2,7 @@
 use text::Refusal;
 
 // What a byte decides.
-#[derive(Drop)]
+#[derive(Clone, Copy)]
 pub enum Verdict {
     Nothing,
     // So many entries; where the last of them ends.

@@ -14,7 +14,7 @@ use text::utf8::char_len;
 use tokens::following::{Following, next_token};
 
 // What is decided, and behind how many bytes; all where nothing is.
-#[derive(Drop)]
+#[derive(Clone, Copy)]
 pub struct Waited {
     pub bytes: usize,
     pub verdict: Verdict,

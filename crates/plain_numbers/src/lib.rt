@@ -1,5 +1,7 @@
 // Plain numbers: at most nine decimal digits, or a float of digits, a point and digits, with a quiet byte behind. The read loop takes them without the
 // general token reader (document 01, modules 5 and 6), which stays their definition: proofs/PlainNumbers shows that it reads them as the same entry.
+#![tactic(auto)]
+
 ghost use Rattle.std.specs.Prelude.{◌≡◌, ◌+◌, ◌<◌, ◌^◌, length};
 ghost use Rattle.plain_numbers.specs.inner.PlainNumbers.{plain_number, behind_sign};
 

@@ -11,14 +11,14 @@ use text::bytes::peek;
 const MOST: usize = 19;
 
 // How many digits, and their value.
-#[derive(Drop)]
+#[derive(Clone, Copy)]
 pub struct Digits {
     pub len: usize,
     pub value: u64,
 }
 
 // The value of a short integer and its length; or none stands there.
-#[derive(Drop)]
+#[derive(Clone, Copy)]
 pub enum Short {
     Value(u64, usize),
     Other,

@@ -1,3 +1,5 @@
 // Plain strings: quoted, with nothing escaped. The read loop takes them without the general token reader (document 01, module 9), which stays their
 // definition: proofs/PlainStrings shows that it reads them as the same entry.
+#![tactic(auto)]
+
 pub mod plain;

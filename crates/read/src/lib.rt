@@ -2,6 +2,8 @@
 // entries, so that a refused read writes nothing.
 //
 // Plain forms are taken in the loop, all others by the general token reader; the promise speaks of the general one alone.
+#![tactic(auto)]
+
 pub mod fill;
 pub mod measure;
 pub mod pass;

@@ -10,7 +10,7 @@ use crate::scanned::{Ending, Scanned};
 use text::Refusal;
 
 // What a read answers.
-#[derive(Drop)]
+#[derive(Clone, Copy)]
 pub enum ReadAnswer {
     // The number of entries.
     Accepted(usize),

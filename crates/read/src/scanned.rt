@@ -4,14 +4,14 @@ ghost use Rattle.std.specs.Prelude.{◌≡◌};
 use text::Refusal;
 
 // How a reading ends.
-#[derive(Drop)]
+#[derive(Clone, Copy)]
 pub enum Ending {
     Complete,
     Broken(Refusal),
 }
 
 // What was read.
-#[derive(Drop)]
+#[derive(Clone, Copy)]
 pub struct Scanned {
     // How many entries.
     pub count: usize,

@@ -12,7 +12,7 @@ use text::refusal::placed_behind;
 use tokens::following::{Following, next_token};
 
 // Where the two meet, or what the new text is refused with before.
-#[derive(Drop)]
+#[derive(Clone, Copy)]
 pub enum Scan {
     // How many new entries stand before the join, and the number of the old entry there.
     Found(usize, usize),

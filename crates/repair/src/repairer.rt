@@ -15,7 +15,7 @@ use rows::row;
 use text::Refusal;
 
 // What a repair comes to; refused, it leaves the tape as it was.
-#[derive(Drop)]
+#[derive(Clone, Copy)]
 pub enum RepairAnswer {
     // How many entries the tape holds now, and how many were kept before and behind.
     Repaired(usize, usize, usize),

@@ -10,7 +10,7 @@ use crate::moving::{clear, shift};
 use read::fill::fill;
 
 // What the part is to hold: n entries of the text from a place on, then its own m rows from row f on, moved from b to e.
-#[derive(Drop)]
+#[derive(Clone, Copy)]
 pub struct Rest {
     pub from: usize,
     pub n: usize,

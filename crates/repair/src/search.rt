@@ -9,7 +9,7 @@ use crate::place::wide;
 use rows::row;
 
 // Whether a new entry joins at an old one, and the row where the search stands.
-#[derive(Drop)]
+#[derive(Clone, Copy)]
 pub enum Met {
     At(usize),
     Next(usize),

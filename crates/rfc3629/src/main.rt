@@ -1,6 +1,8 @@
 // RFC 3629's own examples (sections 7 and 10), each decoded to code points and encoded again; a bad sequence is told with its place.
-use libc::STDOUT_FILENO;
+#![tactic(auto)]
+
 use lines::out;
+use lines::out::STDOUT_FILENO;
 use text::utf8;
 use text::utf8::{EncodeAnswer, Utf8Answer};
 

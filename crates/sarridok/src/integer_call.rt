@@ -13,7 +13,7 @@ use text::judge::{Judged, judge, place_fits};
 use text::refusal::placed_behind;
 
 // The number and the place behind it, or a refusal.
-#[derive(Drop)]
+#[derive(Clone, Copy)]
 pub enum IntegerAnswer {
     Value(Value, usize),
     Refused(Refusal),

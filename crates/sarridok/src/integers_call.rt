@@ -8,7 +8,7 @@ use text::Refusal;
 use text::judge::{Judged, judge};
 
 // Both buffers are written, or a refusal.
-#[derive(Drop)]
+#[derive(Clone, Copy)]
 pub enum IntegersAnswer {
     Written,
     Refused(Refusal),

@@ -18,7 +18,7 @@ use text::Refusal;
 use text::judge::{Judged, place_fits};
 
 // What is written for an item, its magnitude and code; or its refusal, at the item's number.
-#[derive(Drop)]
+#[derive(Clone, Copy)]
 pub enum Item {
     Number(u64, u8),
     Refused(Refusal),

@@ -3,6 +3,8 @@
 //
 // None has a `requires`, and each promise is one definition of the whole answer and of every lent number afterwards. proofs/*Determined show that two
 // answers which meet a promise are equal. One page with all promises is proofs/Promises.antt of crate promises; docs/PROMISES.md has them in words.
+#![tactic(auto)]
+
 mod contents_call;
 mod decoded_call;
 mod integer_call;

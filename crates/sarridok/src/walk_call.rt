@@ -12,7 +12,7 @@ use walk::joining::join;
 use walk::judging::judge;
 
 // The links are written, or a refusal.
-#[derive(Drop)]
+#[derive(Clone, Copy)]
 pub enum WalkAnswer {
     Walked,
     Refused(Refusal),

@@ -3,6 +3,8 @@
 //
 // Each promise is the call's own definition, packed (specs/Packed): the top bit for a refusal, its reason, number and place. A refused call writes nothing
 // through any pointer, but for a text that piece or finish refuses behind the entries that it gives (specs/Arrivals).
+#![tactic(auto)]
+
 mod begin_c;
 mod contents_c;
 mod decoded_c;

@@ -3,6 +3,8 @@
 // Long comments and strings (document 01, modules 2 and 4) spend their time in looking for a mark. A block of sixteen is compared at once; what stands in
 // it, and what is left behind the last block, is looked at byte by byte. The answers are those of the plain definition, the longest front without the byte
 // (`run` of crate text).
+#![tactic(auto)]
+
 mod bytewise;
 mod sixteen;
 

@@ -2,6 +2,8 @@
 //
 // Read specs/Settled first; specs/Stood says where the reading of an attribute stands, since 19 to 21 do not tell. `ron` in proofs/Owed says that RON's token
 // reader owes what crate arriving asks of one; a file of proofs/ for each leaf, `WordEnds` to `GapEnds`, says why.
+#![tactic(auto)]
+
 pub mod bytes;
 pub mod nothing;
 pub mod refused;

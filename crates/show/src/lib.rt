@@ -1,4 +1,6 @@
 // Answers as text, at a place of an output buffer; each function answers the next place: what it puts out is a definition (specs/), over `lines::out`.
+#![tactic(auto)]
+
 pub mod contents;
 pub mod hex;
 pub mod integer;

@@ -2,6 +2,8 @@
 // how many bytes are kept. A host may store them with those bytes.
 //
 // Read specs/Numbers first: numbers that no state has are told as such, and a state in order is got back from its numbers as it was (proofs/RoundTrip).
+#![tactic(auto)]
+
 mod states;
 mod storing;
 

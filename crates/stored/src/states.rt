@@ -7,14 +7,14 @@ use pieces::state::Arrival;
 use text::Refusal;
 
 // What is open, by three numbers; or they say nothing.
-#[derive(Drop)]
+#[derive(Clone, Copy)]
 enum Gap {
     Stands(Open),
     Unfit,
 }
 
 // The state that numbers say; or numbers that no state has.
-#[derive(Drop)]
+#[derive(Clone, Copy)]
 pub enum Stored {
     State(Arrival),
     Unfit,

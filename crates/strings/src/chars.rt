@@ -14,14 +14,14 @@ use text::bytes::peek;
 use text::utf8::char_len;
 
 // A char: how many bytes it takes, and its code point.
-#[derive(Drop)]
+#[derive(Clone, Copy)]
 pub enum CharAnswer {
     Read { len: usize, code: u32 },
     Refused(Refusal),
 }
 
 // A byte literal: how many bytes it takes, and the byte.
-#[derive(Drop)]
+#[derive(Clone, Copy)]
 pub enum ByteAnswer {
     Read { len: usize, byte: u8 },
     Refused(Refusal),

@@ -4,6 +4,8 @@
 // `quoted` and `raw` measure, `decode` writes what was measured, piece by piece as specs/Pieces cuts the contents. Proved beyond the contracts: a string
 // lies within the text and is read the same whatever stands behind its closing mark (Bounds, Closes), decoded contents are UTF-8 where the text is
 // (Encodes), and what is decoded has the length that was measured (Wholes).
+#![tactic(auto)]
+
 pub mod chars;
 pub mod decode;
 pub mod literal;

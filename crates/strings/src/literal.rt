@@ -5,7 +5,7 @@ ghost use Rattle.text.specs.Refusals.{expected_string_end};
 use text::Refusal;
 
 // The bytes of the whole token, its contents from `start` to `end`, how many bytes they decode to, and whether any was escaped or a line continued.
-#[derive(Drop)]
+#[derive(Clone, Copy)]
 pub struct Literal {
     pub len: usize,
     pub start: usize,
@@ -15,7 +15,7 @@ pub struct Literal {
 }
 
 // A string that was read, or a refusal.
-#[derive(Drop)]
+#[derive(Clone, Copy)]
 pub enum LiteralAnswer {
     Read(Literal),
     Refused(Refusal),

@@ -10,7 +10,7 @@ use text::bytes::peek;
 use text::refusal::placed_behind;
 
 // What a piece that begins with a backslash decodes to: a line continuation to nothing.
-#[derive(Drop)]
+#[derive(Clone, Copy)]
 pub enum Decoded {
     Nothing,
     Ascii(u8),
@@ -18,7 +18,7 @@ pub enum Decoded {
 }
 
 // Each with its number of bytes.
-#[derive(Drop)]
+#[derive(Clone, Copy)]
 pub enum Piece {
     Quote,
     Plain(usize),

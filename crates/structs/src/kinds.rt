@@ -6,21 +6,21 @@ use text::Refusal;
 use text::refusal::placed_behind;
 
 // Whether a bracket has to stand in front, or was passed already.
-#[derive(Drop)]
+#[derive(Clone, Copy)]
 pub enum NewtypeMode {
     NoParensMeanUnit,
     InsideNewtype,
 }
 
 // Whether tuples of one and of more elements are told apart.
-#[derive(Drop)]
+#[derive(Clone, Copy)]
 pub enum TupleMode {
     ImpreciseTupleOrNewtype,
     DifferentiateNewtype,
 }
 
 // The crate's six types of struct.
-#[derive(Drop)]
+#[derive(Clone, Copy)]
 pub enum StructType {
     AnyTuple,
     EmptyTuple,
@@ -31,7 +31,7 @@ pub enum StructType {
 }
 
 // The type, or why none is told.
-#[derive(Drop)]
+#[derive(Clone, Copy)]
 pub enum StructAnswer {
     Kind(StructType),
     Refused(Refusal),

@@ -1,5 +1,7 @@
 // Struct kinds (document 01, module 8), after the crate's `check_struct_type`, over the part of the text that begins at the place: unit, newtype, tuple or
 // named, and the two modes of the crate's enums.
+#![tactic(auto)]
+
 mod kinds;
 mod passes;
 mod scan;

@@ -9,7 +9,7 @@ use text::Refusal;
 use text::refusal::placed_behind;
 
 // A place that was reached, or the refusal on the way.
-#[derive(Drop)]
+#[derive(Clone, Copy)]
 pub enum Passed {
     To(usize),
     Refused(Refusal),

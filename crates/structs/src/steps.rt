@@ -6,7 +6,7 @@ use crate::passes::{Passed, skip_byte_string, skip_char, skip_string, skip_ws};
 use text::Refusal;
 
 // The byte that a step ends behind, and how many bytes the step takes.
-#[derive(Drop)]
+#[derive(Clone, Copy)]
 pub enum Step {
     Opening(usize),
     Closing(usize),

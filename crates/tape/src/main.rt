@@ -1,10 +1,12 @@
 // A RON text on standard input, to the entries of its tape.
+#![tactic(auto)]
+
 ghost use Rattle.std.specs.Prelude.{◌≡◌};
 ghost use Rattle.lines.specs.Out.{put};
 ghost use Rattle.read.specs.Read.{read_tape, told_read};
 ghost use Rattle.tape.specs.Printed.{said_text, printed_text};
 
-use libc::STDIN_FILENO;
+use lines::input::STDIN_FILENO;
 use lines::{input, out};
 use sarridok::ReadAnswer;
 

@@ -11,7 +11,7 @@ use words::number::Decimal;
 use words::{hex, list, number};
 
 // What is asked; or the line is no case.
-#[derive(Drop)]
+#[derive(Clone, Copy)]
 enum Said {
     Asks(Asked),
     Bad,

@@ -8,7 +8,7 @@ use sarridok::WalkAnswer;
 use words::list;
 
 // A walk that a line asks for: how many entries, how deep, into how many links.
-#[derive(Drop)]
+#[derive(Clone, Copy)]
 pub struct Asked {
     pub count: usize,
     pub limit: usize,

@@ -9,7 +9,7 @@ use crate::utf8;
 use crate::utf8::Utf8Answer;
 
 // A text that may be read, or its refusal.
-#[derive(Drop)]
+#[derive(Clone, Copy)]
 pub enum Judged {
     Fit,
     Refused(Refusal),

@@ -6,6 +6,8 @@
 //
 // Read specs/Utf8 first. What is proved beyond the contracts: a text is accepted exactly when it is a run of encoded scalar values, and a refused one
 // names the first byte of its first bad sequence (proofs/Utf8Agree); whitespace by bytes is whitespace by code point (BlankLaws).
+#![tactic(auto)]
+
 pub mod ahead;
 pub mod ascii;
 pub mod bytes;

@@ -3,7 +3,7 @@ ghost use Rattle.std.specs.Prelude.{◌≡◌};
 ghost use Rattle.text.specs.Refusals.{reason_of};
 
 // Each stands for one text of the crate's `InvalidEscape`.
-#[derive(Drop)]
+#[derive(Clone, Copy)]
 pub enum EscapeReason {
     // "Non-hex digit found"
     DigitNotHex,

@@ -9,7 +9,7 @@ ghost use Rattle.text.specs.Refusals.{not_allowed_here, tape_ends_early, other_k
 use crate::reason::EscapeReason;
 
 // A refused call's number, reason and place; inside a part of the text the place is counted from the part's front. The reason is that of an escape, else 0.
-#[derive(Drop)]
+#[derive(Clone, Copy)]
 pub struct Refusal {
     pub number: u8,
     pub reason: u8,

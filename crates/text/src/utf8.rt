@@ -9,14 +9,14 @@ use crate::bytes::peek;
 use crate::classes::is_within;
 
 // What a whole text is: UTF-8, or not, with the place of the first bad sequence.
-#[derive(Drop)]
+#[derive(Clone, Copy)]
 pub enum Utf8Answer {
     Good,
     BadAt(usize),
 }
 
 // What encoding comes to.
-#[derive(Drop)]
+#[derive(Clone, Copy)]
 pub enum EncodeAnswer {
     Wrote(usize),
     NotScalar,

@@ -11,7 +11,7 @@ use text::Refusal;
 use text::refusal::placed_behind;
 
 // What stands next in a text.
-#[derive(Drop)]
+#[derive(Clone, Copy)]
 pub enum Following {
     // How many bytes stand in front of it, and the lexeme.
     Token(usize, Lexeme),

@@ -9,7 +9,7 @@ use rows::kinds;
 use text::Refusal;
 
 // A token as an entry, without its place.
-#[derive(Drop)]
+#[derive(Clone, Copy)]
 pub struct Lexeme {
     pub len: usize,
     pub kind: u32,
@@ -17,7 +17,7 @@ pub struct Lexeme {
 }
 
 // A token's lexeme, or what refuses it.
-#[derive(Drop)]
+#[derive(Clone, Copy)]
 pub enum LexemeAnswer {
     Read(Lexeme),
     Refused(Refusal),

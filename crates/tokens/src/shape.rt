@@ -5,7 +5,7 @@ ghost use Rattle.tokens.specs.Shapes.{mark_kind, starts_number, behind_b, behind
 use rows::kinds;
 
 // One for each reader of tokens.
-#[derive(Drop)]
+#[derive(Clone, Copy)]
 pub enum Shape {
     // One of the eight marks, by its kind.
     Mark(u32),

@@ -19,7 +19,7 @@ use text::Refusal;
 use text::bytes::peek;
 
 // What a reader found, with its length; a refusal's place is counted from the token's front.
-#[derive(Drop)]
+#[derive(Clone, Copy)]
 pub enum Token {
     // One of the eight marks, by its kind.
     Mark(u32),

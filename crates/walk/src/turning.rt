@@ -11,7 +11,7 @@ use rows::row;
 use text::Refusal;
 
 // The walk goes on, inside the innermost bracket, into a new one or out of it, or it stops.
-#[derive(Drop)]
+#[derive(Clone, Copy)]
 pub enum Turn {
     Stay(Want, Frame),
     Push(Want, Frame),

@@ -5,7 +5,7 @@ ghost use Rattle.words.specs.Digit.{nibble_of};
 ghost use Rattle.words.specs.Hex.{pair_of, pairs as Hex·pairs, pairs_in, hex_in};
 
 // How many bytes were stored; or the word is none of hex, or too long for the buffer.
-#[derive(Drop)]
+#[derive(Clone, Copy)]
 pub enum Hex {
     Bytes(usize),
     Bad,

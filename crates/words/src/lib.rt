@@ -1,4 +1,6 @@
 // The words of a line of the case format: the parts between single spaces; hex, decimal numbers and lists of them.
+#![tactic(auto)]
+
 pub mod hex;
 pub mod list;
 pub mod number;

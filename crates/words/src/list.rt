@@ -7,7 +7,7 @@ use crate::small;
 use crate::small::Small;
 
 // How many numbers were stored; or the word is no list, or too long for the tape.
-#[derive(Drop)]
+#[derive(Clone, Copy)]
 pub enum Count {
     Stored(usize),
     Bad,

@@ -6,7 +6,7 @@ use crate::number;
 use crate::number::Decimal;
 
 // A number below 2^32; or the word is none.
-#[derive(Drop)]
+#[derive(Clone, Copy)]
 pub enum Small {
     Value(u32),
     Bad,

@@ -6,6 +6,8 @@
 //
 // The table is built on the stack wherever `table()` is called. So a reader calls it once for a name, at the first character that `usual` does not tell, and
 // lends it to what looks characters up.
+#![tactic(auto)]
+
 pub mod search;
 pub mod table;
 pub mod usual;
