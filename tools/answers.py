@@ -19,7 +19,7 @@ KEPT = {"args", "requires", "ranges", "well_formed", "well-formed", "lifetimes"}
 
 
 def plain(name):
-    name = name.replace("-", "_").replace("·", "_")
+    name = name.replace("-", "_").replace("·", "_").lower()
     return re.sub(r"^(loop\w*?)_(holds|less|again)(?=_\d+$|$)", lambda m: m[1] + "_" + SAME[m[2]], name)
 
 
@@ -50,7 +50,7 @@ def blocks(text):
         name = m[2] if m else None
         while j < len(lines):
             n = lines[j]
-            if n.startswith(" ") or not n.strip() or n.startswith("unfolding") or (name and re.match(r"%s( |$)" % re.escape(name), n) and not SIGNATURE.match(n)):
+            if n.startswith((" ", ")")) or not n.strip() or n.startswith("unfolding") or (name and re.match(r"%s( |$)" % re.escape(name), n) and not SIGNATURE.match(n)):
                 j += 1
             elif n.startswith("--"):
                 break
@@ -128,6 +128,9 @@ def turned(names, body, left):
         text = text[: m.start()] + ("\n    " if m[0].startswith("\n") else "") + text[m.end() :].lstrip()
     pattern = re.compile(r"(?<![\w.'-])(%s)((?:\.%s)+)" % ("|".join(sorted(heads)), r"[^\s(){}.;,@\"«»\[\]|]+"))
     text = pattern.sub(lambda m: path(names, heads, m[1] + m[2], left), text)
+    # The step of `if !x` says of x itself what the older one said of its negation.
+    text = re.sub(r"\(not-(?:true|false) \S+ (c\.if-not[\w'-]*\.(?:true|false))\)", r"\1", text)
+    text = re.sub(r"not-(?:true|false) (?:_|c\.[\w.'-]+) (c\.if-not[\w'-]*\.(?:true|false))", r"\1", text)
     for h in heads - {"c"}:
         if re.search(r"(?<![\w.'-])%s(?![\w.'-])" % h, text):
             text = re.sub(r"(?<![\w.'-])%s(?![\w.'-])" % h, "c", text)
@@ -172,6 +175,65 @@ def invariant(names, block, kind, left):
     new = f"{kind}-{loop}"
     out = [*note, f"abbrev pub {new} : goal.{new}", *unfold, f"{new} l ={value}"]
     return "\n".join(out)
+
+
+def placed(names, block, left):
+    """A fact over a place of the code, as what an answer says in its own words: (name, whether it is a term alone, its type, its variables, its body, what it unfolds)."""
+    name, body, _ = block
+    head = next((i for i, l in enumerate(body) if i and re.match(re.escape(name) + r"( |$)", l)), None)
+    if head is None:
+        return None
+    kind = " ".join(l.strip() for l in body[:head] if not l.startswith("unfolding")).split(" : ", 1)[1]
+    unfold = [l for l in body[1:head] if l.startswith("unfolding")]
+    value = "\n".join(body[head:])
+    m = re.match(re.escape(name) + r"((?: [^\s=]+)*) =(.*)$", value, re.S)
+    if not m or not m[1].split() or "\n" + name + " " in value:
+        return None
+    of_place = re.match(r"\((\w+) : tie\.[^()]*\) ?(.*)$", kind) or re.match(r"(tie\.[^()→]*) → (.*)$", kind)
+    if not of_place or "tie." in of_place[2]:
+        return None
+    params = m[1].split()
+    head_name, rest = params[0], params[1:]
+    text = re.sub(r"(?<![\w.'-])%s(?=[\s.()]|$)" % re.escape(head_name), "c", m[2]) if head_name != "c" else m[2]
+    text = turned(names, [text], left).strip()
+    kind = re.sub(r"^→ ", "", turned(names, [of_place[2].replace(of_place[1] + ".", "c.") if of_place[1] != "c" and not of_place[1].startswith("tie") else of_place[2]], left))
+    is_term = block[1][0].startswith("abbrev") and not rest
+    return name, is_term, kind, rest, text, unfold
+
+
+def helped(value, unfold, helpers, left):
+    """The answer with what it cites of the facts over a place."""
+    lets = []
+    for name, is_term, kind, rest, text, more in reversed(helpers):
+        use = re.compile(r"(?<![\w.'-])%s c(?![\w.'-])" % re.escape(name))
+        inside = "\n".join([value, *lets])
+        if not use.search(inside):
+            continue
+        unfold = unfold + [m for m in more if m not in unfold]
+        if is_term:
+            simple = re.fullmatch(r"[\w.'-]+", text)
+            put = (lambda m: text) if simple else (lambda m: "(" + text + ")")
+            value = re.sub(r"\((?=%s c\))%s c\)" % (re.escape(name), re.escape(name)), put, value)
+            value = use.sub(put, value)
+            lets = [use.sub(put, l) for l in lets]
+        else:
+            value = use.sub(name, value)
+            lets = [use.sub(name, l) for l in lets]
+            body = (f"λ {' '.join(rest)}. " if rest else "") + text
+            lets.insert(0, f"    let {name} : {kind} = {body} in")
+    for _ in range(2):
+        for name, is_term, kind, rest, text, more in reversed(helpers):
+            if is_term:
+                use = re.compile(r"(?<![\w.'-])%s c(?![\w.'-])" % re.escape(name))
+                put = (lambda m: text) if re.fullmatch(r"[\w.'-]+", text) else (lambda m: "(" + text + ")")
+                value = use.sub(put, value)
+                lets = [use.sub(put, l) for l in lets]
+    if lets:
+        value = "\n" + "\n".join(lets) + "\n    " + value.strip()
+    words = []
+    for u in unfold:
+        words += [w for w in u.split()[1:] if w not in words]
+    return value, ["unfolding " + " ".join(words)] if words else []
 
 
 def convert(folder, proof, names, module):
@@ -224,15 +286,18 @@ def convert(folder, proof, names, module):
                 left.append(f"{name}: its argument is {m[1]}")
             if m[2] and re.search(r"(?<![\w.'-])κs(?![\w'-])", rest):
                 left.append(f"{name}: κs")
-            value = turned(names, [rest], left)
+            value, unfold = helped(turned(names, [rest], left), unfold, helpers, left)
             ans.append("\n".join([*note, f"pub {new} : goal.{new}", *unfold, f"{new} c ={value}"]))
         elif "tie.close" in "\n".join(body):
             continue
-        else:
-            if "tie." in "\n".join(body):
+        elif "tie." in "\n".join(body):
+            it = placed(names, block, left)
+            if it is None:
                 left.append(f"{name}: a fact over a place")
+            else:
+                helpers.append(it)
+        else:
             ans.append("\n".join([*note, *body]))
-            helpers.append(name)
     if left:
         return left
     kept = [u for u in uses if not re.search(r"\.(Statement\.\{statement\}|Tie as tie)$", u)]

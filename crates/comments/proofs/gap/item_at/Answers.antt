@@ -1,0 +1,18 @@
+use Prim.Native.Nat.{ℕ}
+use mathlib.Core.List.{List}
+use mathlib.Core.Path.{◌∙◌, ◌≡◌, sym}
+use lib.ListN.{get_or}
+use borrow.Author.Rules.{rules}
+use Rattle.comments.proofs.GapLaws.{item_blank, item_comment}
+use Rattle.text.specs.Classes.{blank_width}
+use Rattle.comments.proofs.gap.item_at.Goals as goal
+
+pub returns-then-width-gt0 : goal.returns-then-width-gt0
+returns-then-width-gt0 c =
+    let width_is : c.blank_width-width.result ≡ blank_width (get_or (c.args.s.now) 0 0) (get_or (c.args.s.now) 1 0) (get_or (c.args.s.now) 2 0) = cc in
+    sym (item_blank c.args.s.now _ (width_is) c.if-width-gt0.true)
+
+pub returns : goal.returns
+returns c =
+    let width_is : c.blank_width-width.result ≡ blank_width (get_or (c.args.s.now) 0 0) (get_or (c.args.s.now) 1 0) (get_or (c.args.s.now) 2 0) = cc in
+    c.skip_comment.ensures ∙ sym (item_comment c.args.s.now _ (width_is) c.if-width-gt0.false)

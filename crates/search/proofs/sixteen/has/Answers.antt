@@ -1,0 +1,30 @@
+use Prim.Native.Nat.{◌+◌, ◌-◌, ◌≤◌}
+use native.Mathlib.Omega.{arith}
+use mathlib.Core.Logic.{⊎_elim}
+use mathlib.Core.Path.{◌≡◌, ◌∙◌, ap, sym}
+use lib.Dec.{ltb}
+use lib.ListN.{drop, length}
+use borrow.Author.Rules.{rules}
+use borrow.Author.Tests.{eq-eqb, ne_eqb, le-ltb}
+use Rattle.text.specs.Runs.{run}
+use Rattle.search.specs.inner.Others.{other}
+use Rattle.search.proofs.SearchLaws.{found_before, found_now}
+use Rattle.search.proofs.sixteen.has.Goals as goal
+
+pub loop-k-init : goal.loop-k-init
+loop-k-init c = (search rules, sym (le-ltb (run (other c.args.b) (drop c.args.at c.args.s.now)) 0 (omega arith)))
+
+pub loop-k-preserved : goal.loop-k-preserved
+unfolding other
+loop-k-preserved c = (
+  search rules,
+  ⊎_elim
+      (λ w. w.1 ∙ sym (found_now (other c.args.b) c.args.s.now c.args.at c.loop-k.k (search rules) (simp (eq-eqb _ _ w.0.taken))))
+      (λ w. w.1 ∙ c.loop-k.invariant.1 ∙ sym (found_before (other c.args.b) c.args.s.now c.args.at c.loop-k.k (search rules) (simp (ne_eqb _ _ w.0.left))))
+      c.if-s-at.branch,
+)
+
+pub returns : goal.returns
+returns c =
+    let all : c.loop-k.k ≡ 16 = omega arith in
+    c.loop-k.invariant.1 ∙ ap (ltb (run (other c.args.b) (drop c.args.at c.args.s.now))) all
