@@ -15,7 +15,7 @@ TOP = os.path.dirname(HERE)
 WORD = r'[^\s(){}.;,@"«»\[\]|]+'
 SIGNATURE = re.compile(r"^((?:abbrev |pub |unfoldable |opaque )*)(%s)((?: \{[^{}\n]*\})*) : (.*)$" % WORD)
 SAME = {"holds": "init", "less": "smaller", "again": "preserved"}
-KEPT = {"args", "requires", "ranges", "well_formed", "well-formed", "lifetimes"}
+KEPT = {"type_inv", "type-inv", "args", "requires", "ranges", "well_formed", "well-formed", "lifetimes"}
 
 
 def plain(name):
@@ -50,7 +50,7 @@ def blocks(text):
         name = m[2] if m else None
         while j < len(lines):
             n = lines[j]
-            if n.startswith((" ", ")")) or not n.strip() or n.startswith("unfolding") or (name and re.match(r"%s( |$)" % re.escape(name), n) and not SIGNATURE.match(n)):
+            if n.startswith((" ", ")", "}", "]")) or not n.strip() or n.startswith("unfolding") or (name and re.match(r"%s( |$)" % re.escape(name), n) and not SIGNATURE.match(n)):
                 j += 1
             elif n.startswith("--"):
                 break
@@ -101,6 +101,11 @@ def path(names, heads, found, left):
         return "c"
     field, sub = rest[0], rest[1:]
     key = plain(field)
+    known = {*names.fields, *(k for k, _ in names.arms)}
+    for other in (key, re.sub(r"_lem(?=\d*$)", "", key), re.sub("^is_is_?", "is_", key), re.sub(r"(_lem)?\d+$", "", key)):
+        if other in known:
+            key = other
+            break
     for n in range(len(sub), -1, -1):
         arm = names.arms.get((key, tuple(sub[:n])))
         if arm is not None:
@@ -131,6 +136,7 @@ def turned(names, body, left):
     # The step of `if !x` says of x itself what the older one said of its negation.
     text = re.sub(r"\(not-(?:true|false) \S+ (c\.if-not[\w'-]*\.(?:true|false))\)", r"\1", text)
     text = re.sub(r"not-(?:true|false) (?:_|c\.[\w.'-]+) (c\.if-not[\w'-]*\.(?:true|false))", r"\1", text)
+    text = re.sub(r"(?<=[\w'-]) \(c\)", " c", text)
     for h in heads - {"c"}:
         if re.search(r"(?<![\w.'-])%s(?![\w.'-])" % h, text):
             text = re.sub(r"(?<![\w.'-])%s(?![\w.'-])" % h, "c", text)
@@ -196,7 +202,7 @@ def placed(names, block, left):
     head_name, rest = params[0], params[1:]
     text = re.sub(r"(?<![\w.'-])%s(?=[\s.()]|$)" % re.escape(head_name), "c", m[2]) if head_name != "c" else m[2]
     text = turned(names, [text], left).strip()
-    kind = re.sub(r"^→ ", "", turned(names, [of_place[2].replace(of_place[1] + ".", "c.") if of_place[1] != "c" and not of_place[1].startswith("tie") else of_place[2]], left))
+    kind = re.sub(r"^→ ", "", turned(names, [re.sub(r"(?<![\w.'-])%s(?![\w'-])" % re.escape(of_place[1]), "c", of_place[2]) if not of_place[1].startswith("tie") else of_place[2]], left))
     is_term = block[1][0].startswith("abbrev") and not rest
     return name, is_term, kind, rest, text, unfold
 

@@ -32,14 +32,14 @@ overflow_add-taken c =
 
 pub returns-in-Closed : goal.returns-in-Closed
 returns-in-Closed c =
-    let two : 1 < length (text p) = omega arith in
+    let two : 1 < length (c.args.s.now) = omega arith in
     let line_end : c.line_comment-end.result ≡ line_end (drop 2 (c.args.s.now)) = c.line_comment-end.ensures ∙ ap line_end (tail_part (c.args.s.now) 2) in
     let line-item : line_item c.line_comment-end.result ≡ comment_of (c.args.s.now) = ap line_item (line_end) ∙ sym (comment_line (c.args.s.now) (two) c.if-s-ne47.false c.if-b-eq47.true) in
     sym (ap line_item c.in-Closed.is) ∙ line-item
 
 pub returns-in-Unclosed : goal.returns-in-Unclosed
 returns-in-Unclosed c =
-    let two : 1 < length (text p) = omega arith in
+    let two : 1 < length (c.args.s.now) = omega arith in
     let line_end : c.line_comment-end.result ≡ line_end (drop 2 (c.args.s.now)) = c.line_comment-end.ensures ∙ ap line_end (tail_part (c.args.s.now) 2) in
     let line-item : line_item c.line_comment-end.result ≡ comment_of (c.args.s.now) = ap line_item (line_end) ∙ sym (comment_line (c.args.s.now) (two) c.if-s-ne47.false c.if-b-eq47.true) in
     sym (ap line_item c.in-Unclosed.is) ∙ line-item
@@ -51,14 +51,14 @@ overflow_add-taken-in-Closed-end c =
 
 pub returns-in-Closed-end : goal.returns-in-Closed-end
 returns-in-Closed-end c =
-    let two : 1 < length (text p) = omega arith in
+    let two : 1 < length (c.args.s.now) = omega arith in
     let block_end : c.block_comment-end.result ≡ block_end (drop 2 (c.args.s.now)) = c.block_comment-end.ensures ∙ ap block_end (tail_part (c.args.s.now) 2) in
     let block-item : block_item c.block_comment-end.result ≡ comment_of (c.args.s.now) = ap block_item (block_end) ∙ sym (comment_block (c.args.s.now) (two) c.if-s-ne47.false c.if-b-eq42.true) in
     sym (ap block_item c.in-Closed-end.is) ∙ block-item
 
 pub returns-in-Unclosed-end : goal.returns-in-Unclosed-end
 returns-in-Unclosed-end c =
-    let two : 1 < length (text p) = omega arith in
+    let two : 1 < length (c.args.s.now) = omega arith in
     let block_end : c.block_comment-end.result ≡ block_end (drop 2 (c.args.s.now)) = c.block_comment-end.ensures ∙ ap block_end (tail_part (c.args.s.now) 2) in
     let block-item : block_item c.block_comment-end.result ≡ comment_of (c.args.s.now) = ap block_item (block_end) ∙ sym (comment_block (c.args.s.now) (two) c.if-s-ne47.false c.if-b-eq42.true) in
     sym (ap block_item c.in-Unclosed-end.is) ∙ block-item
@@ -68,6 +68,6 @@ overflow_add-taken-2 c = omega (arith, c.char_len-taken.ensures, char_len_le (ta
 
 pub returns : goal.returns
 returns c =
-    let two : 1 < length (text p) = omega arith in
+    let two : 1 < length (c.args.s.now) = omega arith in
     ap (λ (n : ℕ). Unexpected (1 + n)) (c.char_len-taken.ensures ∙ ap char_len (tail_part c.args.s.now 1))
     ∙ sym (comment_unexpected c.args.s.now (two) c.if-s-ne47.false c.if-b-eq47.false c.if-b-eq42.false)

@@ -1,0 +1,73 @@
+use Prim.Native.Nat.{ℕ, ◌+◌, ◌-◌, ◌≤◌}
+use native.Mathlib.Omega.{arith}
+use mathlib.Core.List.{List, []}
+use mathlib.Core.Path.{◌≡◌, refl, ap, ◌∙◌}
+use lib.ListN.{length, take, drop}
+use Rattle.lines.specs.Out.{put}
+use Rattle.pieces.specs.Pieces.{begun}
+use Rattle.rows.specs.Rows.{room_of}
+use Rattle.arrivals.specs.Texts.{sum_of, pieces_of, answers_from}
+use Rattle.arrivals.specs.declared.arrive_text.Stand.{Stand}
+use Rattle.arrivals.proofs.TextLaws.{left_text, left_starts, sum_front, cuts_fit, left_goes, left_ends}
+use borrow.Author.Rules.{rules}
+use Rattle.arrivals.proofs.arrive_text.pieces.Goals as goal
+
+pub loop-i-init : goal.loop-i-init
+loop-i-init c = (
+  refl,
+  refl,
+  refl,
+  refl,
+  search rules,
+  omega (arith, c.requires.0),
+  ap (put (c.args.o.now, c.args.at)) (left_starts c.args.cuts.now c.args.n c.args.text.now (room_of (length c.args.tape.now)) _ c.args.at c.begin.ensures),
+)
+
+pub overflow_cast-cuts : goal.overflow_cast-cuts
+overflow_cast-cuts c = omega (arith, c.shared_slice_known-1.given c.loop-i.i)
+
+pub turn-s-requires : goal.turn-s-requires
+turn-s-requires c = (c.loop-i.invariant.4, omega (arith, c.loop-i.invariant.0, c.loop-i.invariant.1, c.loop-i.invariant.5, c.requires.1, c.loop-i-test.true, sum_front c.args.cuts.now c.loop-i.i (omega (arith, c.loop-i.invariant.0, c.loop-i-test.true))))
+
+pub loop-i-preserved : goal.loop-i-preserved
+loop-i-preserved c =
+    let cuts : List ℕ = c.args.cuts.now in
+    let n : ℕ = c.args.n in
+    let text : List ℕ = c.loop-i.text in
+    let s : Stand = c.loop-i.s in
+    let room : ℕ = room_of (length c.args.tape.now) in
+    let inv = c.loop-i.invariant in (
+      inv.0,
+      c.turn-s.auto.1.1.0 ∙ inv.1,
+      c.turn-s.auto.1.1.1.0 ∙ inv.2,
+      c.turn-s.auto.1.1.1.1.0 ∙ inv.3,
+      c.turn-s.ensures.1.3,
+      cuts_fit cuts c.loop-i.i n s c.turn-s.result text c.turn-s.new.1.1.0 room (c.loop-i.o, s.at) (c.turn-s.new.1.1.1.1.0, c.turn-s.result.at) (c.args.o.now, c.args.at) (omega (arith, inv.0, c.loop-i-test.true)) inv.5 (omega (arith, inv.1, c.requires.1)) _ c.turn-s.ensures.1,
+      left_goes cuts c.loop-i.i n s c.turn-s.result text c.turn-s.new.1.1.0 room (c.loop-i.o, s.at) (c.turn-s.new.1.1.1.1.0, c.turn-s.result.at) _ (omega (arith, inv.0, c.loop-i-test.true)) inv.5 (omega (arith, inv.1, c.requires.1)) _ (ap room_of inv.2) c.turn-s.ensures.1 c.turn-s.ensures.0 inv.6,
+    )
+
+pub overflow_sub-n : goal.overflow_sub-n
+overflow_sub-n c = omega (arith, c.loop-i.invariant.5)
+
+pub turn-rest-requires : goal.turn-rest-requires
+turn-rest-requires c = (c.loop-i.invariant.4, omega (arith, c.loop-i.invariant.1, c.loop-i.invariant.5, c.requires.1))
+
+pub shape_of-text : goal.shape_of-text
+shape_of-text c = c.turn-rest.auto.1.1.0 ∙ c.loop-i.invariant.1
+
+pub shape_of-tape : goal.shape_of-tape
+shape_of-tape c = c.end.auto.1.1.0 ∙ c.turn-rest.auto.1.1.1.0 ∙ c.loop-i.invariant.2
+
+pub shape_of-o : goal.shape_of-o
+shape_of-o c = c.end.auto.1.1.1.0 ∙ c.turn-rest.auto.1.1.1.1.0 ∙ c.loop-i.invariant.3
+
+pub returns : goal.returns
+returns c =
+    let cuts : List ℕ = c.args.cuts.now in
+    let n : ℕ = c.args.n in
+    let text : List ℕ = c.loop-i.text in
+    let s : Stand = c.loop-i.s in
+    let room : ℕ = room_of (length c.args.tape.now) in
+    let inv = c.loop-i.invariant in
+    left_ends cuts c.loop-i.i n s c.turn-rest.result text c.turn-rest.new.1.1.0 room (c.loop-i.o, s.at) (c.turn-rest.new.1.1.1.1.0, c.turn-rest.result.at) _ (omega (arith, inv.0, c.loop-i-test.false)) (omega (arith, inv.5)) (omega (arith, inv.1, c.requires.1)) _ (ap room_of inv.2)
+    c.turn-rest.ensures.1 c.turn-rest.ensures.0 inv.6 _ _ (ap room_of (c.turn-rest.auto.1.1.1.0 ∙ inv.2)) c.end.ensures

@@ -1,0 +1,23 @@
+use Prim.Native.Nat.{ℕ, ◌+◌, ◌-◌, ◌≤◌}
+use native.Mathlib.Omega.{arith}
+use mathlib.Core.List.{List, []}
+use mathlib.Core.Path.{◌≡◌, refl, ap, ◌∙◌}
+use lib.ListN.{length, take, drop}
+use Rattle.lines.specs.Out.{put}
+use Rattle.pieces.specs.Pieces.{begun}
+use Rattle.rows.specs.Rows.{room_of}
+use Rattle.arrivals.specs.Texts.{sum_of, pieces_of, answers_from}
+use Rattle.arrivals.specs.declared.arrive_text.Stand.{Stand}
+use Rattle.arrivals.proofs.TextLaws.{left_text, left_starts, sum_front, cuts_fit, left_goes, left_ends}
+use borrow.Author.Rules.{rules}
+use Rattle.arrivals.proofs.arrive_text.pieces.Given as goal
+
+abbrev pub invariant-loop-i : goal.invariant-loop-i
+invariant-loop-i l =
+    (l.i-end ≡ length l.cuts) × (length l.text ≡ length l.initial.text) × (length l.tape ≡ length l.initial.tape) × (length l.o ≡ length l.initial.o) × (l.s.kept ≤ l.s.from)
+    × (l.s.from + sum_of (drop l.i l.cuts) ≤ l.n)
+    × (put (l.o, l.s.at) (left_text (drop l.i l.cuts) l.n l.s l.text (room_of (length l.initial.tape)))
+    ≡ put (l.initial.o, l.at) (answers_from (pieces_of l.cuts (take l.n l.initial.text)) begun [] (room_of (length l.initial.tape))))
+
+abbrev pub decreases-loop-i : goal.decreases-loop-i
+decreases-loop-i l = l.i-end - l.i

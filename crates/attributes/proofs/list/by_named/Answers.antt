@@ -1,0 +1,7 @@
+use mathlib.Core.Path.{◌∙◌, ap, sym}
+use borrow.Author.Rules.{rules}
+use Rattle.attributes.specs.List.{by_extension_name}
+use Rattle.attributes.proofs.list.by_named.Goals as goal
+
+pub returns-in-Known : goal.returns-in-Known
+returns-in-Known c = c.behind_name.ensures ∙ ap (by_extension_name c.args.t.now c.args.n) (sym c.in-Known.is)

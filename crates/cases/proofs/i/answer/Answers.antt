@@ -1,0 +1,48 @@
+use Prim.Native.Nat.{ℕ}
+use mathlib.Core.List.{List}
+use Rattle.words.proofs.DecidedLaws.{said}
+use Rattle.lines.proofs.LineLaws.{line2}
+use Rattle.cases.proofs.LineLaws.{line_bad, line_good}
+use lib.ListN.{length}
+use Rattle.lines.specs.Over.{over}
+use Rattle.words.specs.Hex.{hex_in, pairs}
+use Rattle.words.specs.Split.{behind_word}
+use Rattle.show.specs.Answers.{bad_text}
+use mathlib.Core.Path.{◌≡◌, refl, sym, ap, ◌∙◌}
+use Rattle.sarridok.specs.Typed.{integer_of}
+use Rattle.show.specs.Integers.{typed_text}
+use Rattle.cases.specs.Integers.{integer_line}
+use Rattle.cases.proofs.IntegerLaws.{integer_bad, integer_at}
+use borrow.Author.Rules.{rules}
+use Rattle.cases.proofs.i.answer.Goals as goal
+
+pub returns-in_default : goal.returns-in_default
+returns-in_default c =
+    let words : List ℕ = c.args.words.now in
+    let text : List ℕ = c.args.text.now in
+    let out : List ℕ × ℕ = (c.args.o.now, c.args.at) in
+    line2 out _ bad_text _ text (integer_line words text) (integer_bad words text (sym c.front-read.ensures ∙ c.in_default.is)) c.bad.ensures refl
+
+pub returns-in_default-last : goal.returns-in_default-last
+returns-in_default-last c =
+    let words : List ℕ = c.args.words.now in
+    let text : List ℕ = c.args.text.now in
+    let out : List ℕ × ℕ = (c.args.o.now, c.args.at) in
+    let last : List ℕ = behind_word (behind_word words) in
+    let is_last : ◌≡◌ {A = List ℕ} _ last = c.behind-2.ensures ∙ ap behind_word c.behind.ensures in
+    line_bad out _ (integer_line words text) _ typed_text (λ s. integer_of s c.in-At.place c.in-At.width) last text
+    (integer_at words text c.in-At.width c.in-At.place (sym c.front-read.ensures ∙ c.in-At.is))
+    (c.bytes-last.ensures.1 ∙ ap (λ (w : List ℕ). over (pairs w) text) is_last)
+    (said (λ (w : List ℕ). hex_in w (length text)) _ last _ _ c.bytes-last.ensures.0 is_last c.in_default-last.is) c.bad-in_default-last.ensures
+
+pub returns : goal.returns
+returns c =
+    let words : List ℕ = c.args.words.now in
+    let text : List ℕ = c.args.text.now in
+    let out : List ℕ × ℕ = (c.args.o.now, c.args.at) in
+    let last : List ℕ = behind_word (behind_word words) in
+    let is_last : ◌≡◌ {A = List ℕ} _ last = c.behind-2.ensures ∙ ap behind_word c.behind.ensures in
+    line_good out _ (integer_line words text) _ typed_text (λ s. integer_of s c.in-At.place c.in-At.width) last text
+    (integer_at words text c.in-At.width c.in-At.place (sym c.front-read.ensures ∙ c.in-At.is))
+    (c.bytes-last.ensures.1 ∙ ap (λ (w : List ℕ). over (pairs w) text) is_last)
+    _ _ _ (said (λ (w : List ℕ). hex_in w (length text)) _ last _ _ c.bytes-last.ensures.0 is_last c.in-Bytes.is) c.part.ensures c.integer-value.ensures c.read.ensures

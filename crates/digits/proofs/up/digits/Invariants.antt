@@ -1,0 +1,15 @@
+use Prim.Native.Nat.{◌-◌, ◌≤◌}
+use native.Mathlib.Omega.{arith}
+use mathlib.Core.Path.{◌∙◌, ◌≡◌, refl, sym}
+use lib.ListN.{drop, length}
+use borrow.Author.Rules.{rules}
+use Rattle.digits.proofs.Laws.{from_end, from_next, from_not, from_over}
+use Rattle.digits.specs.Digits.{digits_from, digits_of}
+use Rattle.text.specs.Runs.{run}
+use Rattle.digits.proofs.up.digits.Given as goal
+
+abbrev pub invariant-loop-i : goal.invariant-loop-i
+invariant-loop-i l = (l.i ≤ length l.run) × (digits_of l.limit l.base l.run ≡ digits_from l.limit l.base l.acc l.i (drop l.i l.run))
+
+abbrev pub decreases-loop-i : goal.decreases-loop-i
+decreases-loop-i l = length l.run - l.i

@@ -1,0 +1,14 @@
+use Prim.Native.Nat.{◌≤◌}
+use native.Mathlib.Omega.{arith}
+use mathlib.Core.Path.{◌∙◌}
+use lib.ListN.{length}
+use borrow.Author.Rules.{rules}
+use Rattle.fields.proofs.EntryLaws.{entries_same, entries_twice, named_left}
+use Rattle.fields.specs.inner.Order.{SameEntries}
+use Rattle.fields.proofs.again.sort.Given as goal
+
+abbrev pub invariant-loop-n : goal.invariant-loop-n
+invariant-loop-n l = (l.n ≤ length l.fields) × SameEntries l.initial.fields l.fields
+
+abbrev pub decreases-loop-n : goal.decreases-loop-n
+decreases-loop-n l = l.n

@@ -1,0 +1,6 @@
+use mathlib.Core.Path.{sym}
+use borrow.Author.Rules.{rules}
+use Rattle.floats.proofs.class.goes_on.Goals as goal
+
+pub returns : goal.returns
+returns c = rw (sym c.peek.ensures, sym c.peek-2.ensures) c.float_goes.ensures

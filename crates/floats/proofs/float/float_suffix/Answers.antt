@@ -1,0 +1,17 @@
+use mathlib.Core.Path.{◌∙◌, sym}
+use borrow.Author.Rules.{rules}
+use Rattle.integers.proofs.Words.{ident_here, ident_none}
+use Rattle.integers.specs.Words.{first_of}
+use Rattle.floats.proofs.float.float_suffix.Goals as goal
+
+pub returns-then-check_ident : goal.returns-then-check_ident
+unfolding first_of
+returns-then-check_ident c = simp (ident_here _ _ (sym c.check_ident.ensures ∙ c.if-check_ident.true))
+
+pub returns-then-check_ident-2 : goal.returns-then-check_ident-2
+unfolding first_of
+returns-then-check_ident-2 c = simp (ident_none _ _ (sym c.check_ident.ensures ∙ c.if-check_ident.false), ident_here _ _ (sym c.check_ident-2.ensures ∙ c.if-check_ident-2.true))
+
+pub returns : goal.returns
+unfolding first_of
+returns c = c.nothing.ensures ∙ simp (ident_none _ _ (sym c.check_ident.ensures ∙ c.if-check_ident.false), ident_none _ _ (sym c.check_ident-2.ensures ∙ c.if-check_ident-2.false))

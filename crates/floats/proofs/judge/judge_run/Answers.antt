@@ -1,0 +1,26 @@
+use Prim.Native.Nat.{◌+◌, ◌-◌, ◌≤◌}
+use native.Mathlib.Omega.{arith}
+use mathlib.Core.Bool.{false}
+use mathlib.Core.Path.{◌∙◌, ◌≡◌, refl, sym}
+use lib.ListN.{drop, length}
+use borrow.Author.Rules.{rules}
+use Rattle.floats.proofs.Laws.{judged_fine, judged_misplaced, judged_unfit, strip_end, strip_more, well_end, well_more, well_out}
+use Rattle.floats.specs.Grammar.{accepts}
+use Rattle.floats.specs.Judged.{stripped, well_to}
+use Rattle.floats.specs.declared.state.State.TheVariants.{Start}
+use Rattle.floats.proofs.judge.judge_run.Goals as goal
+
+pub loop-i-init : goal.loop-i-init
+loop-i-init c = (omega arith, omega arith, refl)
+
+pub returns-then-is_misplaced : goal.returns-then-is_misplaced
+returns-then-is_misplaced c = let e = well_out c.args.part.now c.loop-i.i c.loop-i.may c.loop-i-test.true (sym c.is_misplaced.ensures ∙ c.if-is_misplaced.true) in judged_misplaced c.args.part.now c.loop-i.i c.loop-i-test.true (omega (arith, c.loop-i.invariant.1))
+
+pub loop-i-preserved : goal.loop-i-preserved
+loop-i-preserved c = let e = well_more c.args.part.now c.loop-i.i c.loop-i.may c.loop-i-test.true (sym c.is_misplaced.ensures ∙ c.if-is_misplaced.false) in (omega (arith, c.loop-i-test.true), rw c.may_follow-may.ensures (omega (arith, c.loop-i.invariant.1)), rw c.advance-st.ensures (sym (strip_more c.args.part.now c.loop-i.i c.loop-i.st c.loop-i-test.true) ∙ c.loop-i.invariant.2))
+
+pub returns-then-is_final : goal.returns-then-is_final
+returns-then-is_final c = let e = well_end c.args.part.now c.loop-i.i c.loop-i.may c.loop-i-test.false in judged_fine c.args.part.now (omega (arith, c.loop-i.invariant.1, c.loop-i-test.false)) (sym c.loop-i.invariant.2 ∙ strip_end c.args.part.now c.loop-i.i c.loop-i.st c.loop-i-test.false ∙ sym c.is_final.ensures ∙ c.if-is_final.true)
+
+pub returns : goal.returns
+returns c = let e = well_end c.args.part.now c.loop-i.i c.loop-i.may c.loop-i-test.false in judged_unfit c.args.part.now (omega (arith, c.loop-i.invariant.1, c.loop-i-test.false)) (sym c.loop-i.invariant.2 ∙ strip_end c.args.part.now c.loop-i.i c.loop-i.st c.loop-i-test.false ∙ sym c.is_final.ensures ∙ c.if-is_final.false)

@@ -1,0 +1,72 @@
+use Prim.Native.Nat.{◌+◌, ◌-◌, ◌<◌, ℕ}
+use native.Mathlib.Omega.{arith}
+use mathlib.Core.List.{List}
+use mathlib.Core.Path.{◌∙◌, ◌≡◌, ap, subst, sym}
+use lib.ListN.{drop, length, length-drop, length-take, take}
+use borrow.Author.Rules.{rules}
+use Rattle.comments.proofs.BlockLaws.{Bounded}
+use Rattle.comments.proofs.GapLaws.{comment_ended, comment_line, comment_none, comment_other, comment_unexpected}
+use Rattle.comments.proofs.LineLaws.{line_end_le}
+use Rattle.comments.specs.Gaps.{comment_of, line_item}
+use Rattle.comments.specs.Lines.{line_end}
+use Rattle.comments.specs.declared.block.CommentEnd.{CommentEnd}
+use Rattle.text.proofs.Lists.{tail_part}
+use Rattle.text.proofs.Utf8Agree.{char_len_le}
+use Rattle.text.specs.Utf8.{char_len}
+use Rattle.gaps.proofs.StepLaws.{block_step, step_rest}
+use Rattle.gaps.specs.inner.Steps.{step_by}
+use Rattle.gaps.specs.declared.step.Step.TheVariants as step
+use Rattle.gaps.proofs.step.comment_step.Goals as goal
+
+pub returns-then-s-eq0 : goal.returns-then-s-eq0
+returns-then-s-eq0 c = ap (step_by _) (sym (comment_none _ c.if-s-eq0.true))
+
+pub returns-then-s-ne47 : goal.returns-then-s-ne47
+returns-then-s-ne47 c = ap (step_by _) (sym (comment_other _ (search rules) c.if-s-ne47.true))
+
+pub returns-then-s-eq1 : goal.returns-then-s-eq1
+returns-then-s-eq1 c = ap (step_by _) (sym (comment_ended _ c.if-s-eq1.true c.if-s-ne47.false))
+
+pub overflow_add-taken : goal.overflow_add-taken
+overflow_add-taken c =
+    let line_end : c.line_comment-end.result ≡ line_end (drop 2 (c.args.s.now)) = c.line_comment-end.ensures ∙ ap line_end (tail_part (c.args.s.now) 2) in
+    omega (arith, subst (Bounded 0 _) (sym (line_end) ∙ c.in-Closed.is) (line_end_le _), length-drop 2 c.args.s.now)
+
+pub returns-in-Closed : goal.returns-in-Closed
+returns-in-Closed c =
+    let two : 1 < length (c.args.s.now) = omega arith in
+    let line_end : c.line_comment-end.result ≡ line_end (drop 2 (c.args.s.now)) = c.line_comment-end.ensures ∙ ap line_end (tail_part (c.args.s.now) 2) in
+    let line_step : (e : CommentEnd) → c.line_comment-end.result ≡ e → step_by (c.args.s.now) (line_item e) ≡ step_by (c.args.s.now) (comment_of (c.args.s.now)) = λ e g. ap (λ (x : CommentEnd). step_by (c.args.s.now) (line_item x)) (sym g ∙ line_end)
+    ∙ ap (step_by (c.args.s.now)) (sym (comment_line (c.args.s.now) (two) c.if-s-ne47.false c.if-b-eq47.true)) in
+    line_step _ c.in-Closed.is
+
+pub returns-in-Unclosed : goal.returns-in-Unclosed
+returns-in-Unclosed c =
+    let two : 1 < length (c.args.s.now) = omega arith in
+    let line_end : c.line_comment-end.result ≡ line_end (drop 2 (c.args.s.now)) = c.line_comment-end.ensures ∙ ap line_end (tail_part (c.args.s.now) 2) in
+    let line_step : (e : CommentEnd) → c.line_comment-end.result ≡ e → step_by (c.args.s.now) (line_item e) ≡ step_by (c.args.s.now) (comment_of (c.args.s.now)) = λ e g. ap (λ (x : CommentEnd). step_by (c.args.s.now) (line_item x)) (sym g ∙ line_end)
+    ∙ ap (step_by (c.args.s.now)) (sym (comment_line (c.args.s.now) (two) c.if-s-ne47.false c.if-b-eq47.true)) in
+    line_step _ c.in-Unclosed.is
+
+pub returns-in-Closed-rest : goal.returns-in-Closed-rest
+returns-in-Closed-rest c =
+    let two : 1 < length (c.args.s.now) = omega arith in
+    let rest_step : step_rest c.block_rest-rest.result ≡ step_by (c.args.s.now) (comment_of (c.args.s.now)) = ap step_rest c.block_rest-rest.ensures ∙ sym (block_step (c.args.s.now) (two) c.if-s-ne47.false c.if-b-eq42.true) in
+    sym (ap step_rest c.in-Closed-rest.is) ∙ rest_step
+
+pub returns-in-Still : goal.returns-in-Still
+returns-in-Still c =
+    let two : 1 < length (c.args.s.now) = omega arith in
+    let rest_step : step_rest c.block_rest-rest.result ≡ step_by (c.args.s.now) (comment_of (c.args.s.now)) = ap step_rest c.block_rest-rest.ensures ∙ sym (block_step (c.args.s.now) (two) c.if-s-ne47.false c.if-b-eq42.true) in
+    sym (ap step_rest c.in-Still.is) ∙ rest_step
+
+pub overflow_add-taken-2 : goal.overflow_add-taken-2
+overflow_add-taken-2 c =
+    let s = c.args.s.now in
+    omega (arith, c.char_len-taken.ensures, char_len_le (take (length s - 1) (drop 1 s)), length-take (length s - 1) (drop 1 s), length-drop 1 s)
+
+pub returns : goal.returns
+returns c =
+    let two : 1 < length (c.args.s.now) = omega arith in
+    ap (λ (n : ℕ). step.Odd (1 + n)) (c.char_len-taken.ensures ∙ ap char_len (tail_part c.args.s.now 1))
+    ∙ ap (step_by c.args.s.now) (sym (comment_unexpected c.args.s.now (two) c.if-s-ne47.false c.if-b-eq47.false c.if-b-eq42.false))

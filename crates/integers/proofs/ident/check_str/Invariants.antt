@@ -1,0 +1,14 @@
+use Prim.Native.Nat.{◌-◌, ◌≤◌}
+use native.Mathlib.Omega.{arith}
+use mathlib.Core.Path.{◌∙◌, ◌≡◌, refl, sym}
+use lib.ListN.{drop, length}
+use borrow.Author.Rules.{rules}
+use Rattle.text.proofs.WordLaws.{starts_differ, starts_end, starts_more, starts_out}
+use Rattle.text.specs.Words.{starts_with}
+use Rattle.integers.proofs.ident.check_str.Given as goal
+
+abbrev pub invariant-loop-i : goal.invariant-loop-i
+invariant-loop-i l = (l.i ≤ length l.word) × (starts_with l.word l.t ≡ starts_with (drop l.i l.word) (drop l.i l.t))
+
+abbrev pub decreases-loop-i : goal.decreases-loop-i
+decreases-loop-i l = length l.word - l.i

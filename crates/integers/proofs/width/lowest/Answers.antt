@@ -1,0 +1,22 @@
+use Rattle.integers.proofs.WidthRows.{none_below}
+use Rattle.integers.specs.Width.{limit_at, width_at}
+use Rattle.integers.proofs.width.lowest.Goals as goal
+
+pub returns-then-code-eq1 : goal.returns-then-code-eq1
+unfolding limit_at width_at
+returns-then-code-eq1 c = rw c.if-code-eq1.true
+
+pub returns-then-code-eq2 : goal.returns-then-code-eq2
+unfolding limit_at width_at
+returns-then-code-eq2 c = rw c.if-code-eq2.true
+
+pub returns-then-code-eq3 : goal.returns-then-code-eq3
+unfolding limit_at width_at
+returns-then-code-eq3 c = rw c.if-code-eq3.true
+
+pub returns-then-code-eq4 : goal.returns-then-code-eq4
+unfolding limit_at width_at
+returns-then-code-eq4 c = rw c.if-code-eq4.true
+
+pub returns : goal.returns
+returns c = rw (none_below _ c.if-code-eq1.false c.if-code-eq2.false c.if-code-eq3.false c.if-code-eq4.false)

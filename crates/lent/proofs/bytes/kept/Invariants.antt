@@ -1,0 +1,14 @@
+use Prim.Native.Nat.{◌-◌}
+use native.Mathlib.Omega.{arith}
+use mathlib.Core.Path.{◌≡◌, refl}
+use lib.ListN.{length, drop}
+use borrow.Author.Rules.{rules}
+use Rattle.lent.specs.Marks.{byte_mark_at, kept_from}
+use Rattle.lent.proofs.MarkLaws.{kept_off, kept_on, kept_ends}
+use Rattle.lent.proofs.bytes.kept.Given as goal
+
+abbrev pub invariant-loop-i : goal.invariant-loop-i
+invariant-loop-i l = kept_from byte_mark_at (drop l.i l.s) l.i ≡ kept_from byte_mark_at (drop l.from l.s) l.from
+
+abbrev pub decreases-loop-i : goal.decreases-loop-i
+decreases-loop-i l = length l.s - l.i

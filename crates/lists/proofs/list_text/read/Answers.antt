@@ -1,0 +1,32 @@
+use Prim.Native.Nat.{ℕ}
+use mathlib.Core.List.{List}
+use mathlib.Core.Path.{refl, sym, ap, ◌∙◌}
+use Rattle.read.specs.Read.{told_read}
+use Rattle.read.specs.declared.measure.ReadAnswer.{ReadAnswer}
+use Rattle.text.specs.Refusals.{refused}
+use Rattle.lists.proofs.LineLaws.{read_listed, accepted_listed}
+use borrow.Author.Rules.{rules}
+use Rattle.lists.proofs.list_text.read.Goals as goal
+
+pub returns-in-Accepted : goal.returns-in-Accepted
+returns-in-Accepted c =
+    let text : List ℕ = c.args.text.now in
+    let tape : List ℕ = c.args.tape.now in
+    let links : List ℕ = c.args.links.now in
+    let numbers : List ℕ = c.args.numbers.now in
+    let spare : List ℕ = c.args.spare.now in
+    let out : List ℕ × ℕ = (c.args.o.now, c.args.at) in
+    accepted_listed text tape links numbers spare _ c.read-r.ensures.1 out _
+    c.in-Accepted.n (sym (ap (λ (a : ReadAnswer). told_read a) c.in-Accepted.is) ∙ c.read-r.ensures.0)
+    _ _ _ c.gather-k.ensures.0 c.gather-k.ensures.1 c.first-items.ensures _ c.asked-q.ensures _ _ c.answer.ensures
+
+pub returns-in-Refused : goal.returns-in-Refused
+returns-in-Refused c =
+    let text : List ℕ = c.args.text.now in
+    let tape : List ℕ = c.args.tape.now in
+    let links : List ℕ = c.args.links.now in
+    let numbers : List ℕ = c.args.numbers.now in
+    let spare : List ℕ = c.args.spare.now in
+    let out : List ℕ × ℕ = (c.args.o.now, c.args.at) in
+    read_listed text tape links numbers spare _ c.read-r.ensures.1 out _ (links, numbers, spare)
+    (refused c.in-Refused.f) (sym (ap (λ (a : ReadAnswer). told_read a) c.in-Refused.is) ∙ c.read-r.ensures.0) c.refused.ensures refl

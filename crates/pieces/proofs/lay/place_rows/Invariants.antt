@@ -1,0 +1,17 @@
+use Rattle.pieces.proofs.LayLaws.{Left, place_ends, place_goes, place_starts, row_behind, row_end, row_start}
+use Rattle.pieces.specs.Pieces.{gapped, moved_to}
+use Rattle.rows.specs.Rows.{entries_of, laid}
+use lib.ListN.{length}
+use mathlib.Core.Path.{◌≡◌, refl, ◌∙◌}
+use mathlib.Core.List.{map}
+use native.Mathlib.Omega.{arith}
+use Prim.Native.Nat.{◌-◌, ◌≤◌}
+use borrow.Author.Rules.{rules}
+use Rattle.pieces.proofs.lay.place_rows.Given as goal
+
+abbrev pub invariant-loop-i : goal.invariant-loop-i
+invariant-loop-i l =
+    (l.i ≤ l.n) × (length l.tape ≡ length l.initial.tape) × Left l.n l.base l.limit (laid (gapped l.former (map (moved_to l.base) (entries_of l.n l.initial.tape))) l.initial.tape) l.i l.tape l.behind
+
+abbrev pub decreases-loop-i : goal.decreases-loop-i
+decreases-loop-i l = l.n - l.i

@@ -1,0 +1,7 @@
+use mathlib.Core.Path.{◌∙◌}
+use Rattle.pieces.proofs.ScanLaws.{scanned_pass}
+use borrow.Author.Rules.{rules}
+use Rattle.pieces.proofs.scan.scan.Goals as goal
+
+pub returns : goal.returns
+returns c = c.scan.ensures ∙ scanned_pass c.args.part.now

@@ -1,0 +1,5 @@
+use borrow.Author.Rules.{rules}
+use Rattle.pieces.proofs.state.begin.Goals as goal
+
+pub returns : goal.returns
+returns c = cc

@@ -1,0 +1,15 @@
+use Prim.Native.Nat.{◌≤◌}
+use native.Mathlib.Omega.{arith}
+use mathlib.Core.Path.{◌∙◌, ◌≡◌, sym}
+use lib.ListN.{drop, length}
+use Rattle.reading.specs.Kept.{last_quiet}
+use Rattle.settled.specs.Bytes.{decides_byte}
+use Rattle.pieces.proofs.StopLaws.{last_end, last_here, last_none, last_on}
+use borrow.Author.Rules.{rules}
+use Rattle.pieces.proofs.stride.behind_deciders.Given as goal
+
+abbrev pub invariant-loop-i : goal.invariant-loop-i
+invariant-loop-i l = (l.from ≤ l.i) × (l.i ≤ length l.part) × (last_quiet decides_byte (drop l.i l.part) ≡ 0)
+
+abbrev pub decreases-loop-i : goal.decreases-loop-i
+decreases-loop-i l = l.i

@@ -1,0 +1,14 @@
+use Prim.Native.Nat.{◌-◌, ◌≤◌}
+use native.Mathlib.Omega.{arith}
+use mathlib.Core.Path.{◌≡◌, refl}
+use lib.ListN.{drop, drop_of_length-le, length}
+use borrow.Author.Rules.{rules}
+use Rattle.digits.specs.Value.{value_from, value_of}
+use Rattle.plain_numbers.proofs.Values.{digit_least, turned, turned_fits}
+use Rattle.plain_numbers.proofs.width.value.Given as goal
+
+abbrev pub invariant-loop-i : goal.invariant-loop-i
+invariant-loop-i l = (l.i ≤ length l.s) × (value_from 10 l.acc (drop l.i l.s) ≡ value_of 10 l.s)
+
+abbrev pub decreases-loop-i : goal.decreases-loop-i
+decreases-loop-i l = length l.s - l.i

@@ -1,0 +1,23 @@
+use Prim.Native.Nat.{◌+◌, ◌-◌, ◌≤◌}
+use native.Mathlib.Omega.{arith}
+use mathlib.Core.Path.{◌∙◌, ◌≡◌, ap, refl, sym}
+use lib.ListN.{length}
+use borrow.Author.Rules.{rules}
+use Rattle.read.proofs.ReadSteps.{refuse_within, step_refuse, step_stop, step_token, step_within}
+use Rattle.reading.proofs.Steps.{from_end}
+use Rattle.reading.specs.Owed.{quiet_byte}
+use Rattle.reading.specs.Readings.{read_from}
+use Rattle.repair.proofs.Searching.{Standing, met_next, scan_at, scan_broken, scan_end, scan_on, stands}
+use Rattle.repair.specs.Repair.{scan_of}
+use Rattle.repair.specs.declared.join.Scan.TheVariants.{Found, Refused}
+use Rattle.rows.proofs.RowLaws.{length_entries}
+use Rattle.rows.specs.Rows.{entries_of}
+use Rattle.tokens.proofs.RonLaws.{laws}
+use Rattle.tokens.specs.Ron.{ron_token}
+use Rattle.repair.proofs.join.find_join.Given as goal
+
+abbrev pub invariant-loop-at : goal.invariant-loop-at
+invariant-loop-at l = (l.at ≤ length l.text) × (l.n ≤ l.at) × Standing (entries_of l.count l.tape) l.b l.e l.at l.i × (scan_of (entries_of l.count l.tape) l.b l.e l.n (read_from ron_token l.text l.at) ≡ scan_of (entries_of l.count l.tape) l.b l.e 0 (read_from ron_token l.text l.from))
+
+abbrev pub decreases-loop-at : goal.decreases-loop-at
+decreases-loop-at l = length l.text - l.at

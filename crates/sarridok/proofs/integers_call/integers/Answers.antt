@@ -1,0 +1,30 @@
+use native.Mathlib.Omega.{arith}
+use mathlib.Core.Path.{◌∙◌, ap, sym}
+use lib.ListN.{length}
+use Rattle.sarridok.proofs.IntegersLaws.{all_refused, all_written, by_codes, by-count, by-item, by_judged, by_magnitudes, by-room}
+use borrow.Author.Rules.{rules}
+use Rattle.sarridok.proofs.integers_call.integers.Goals as goal
+
+pub returns-in-Refused : goal.returns-in-Refused
+returns-in-Refused c = all_refused c.args.text.now c.args.tape.now c.args.count c.args.items.now c.args.magnitudes.now c.args.codes.now _ (by_judged c.args.text.now c.args.tape.now c.args.count c.args.items.now (length c.args.magnitudes.now) (length c.args.codes.now) _ (sym c.judge-judged.ensures ∙ c.in-Refused.is))
+
+pub returns-then-room-count : goal.returns-then-room-count
+returns-then-room-count c = rw c.not_in_order.ensures (all_refused c.args.text.now c.args.tape.now c.args.count c.args.items.now c.args.magnitudes.now c.args.codes.now _ (by-count c.args.text.now c.args.tape.now c.args.count c.args.items.now (length c.args.magnitudes.now) (length c.args.codes.now) (sym c.judge-judged.ensures ∙ c.in_default.is) (omega (arith, c.room.ensures, c.if-room-count.true))))
+
+pub judge_items-read-requires : goal.judge_items-read-requires
+judge_items-read-requires c = ((sym c.judge-judged.ensures ∙ c.in_default.is), (omega (arith, c.room.ensures, c.if-room-count.false)))
+
+pub returns-in-Refused-read : goal.returns-in-Refused-read
+returns-in-Refused-read c = all_refused c.args.text.now c.args.tape.now c.args.count c.args.items.now c.args.magnitudes.now c.args.codes.now _ (by-item c.args.text.now c.args.tape.now c.args.count c.args.items.now (length c.args.magnitudes.now) (length c.args.codes.now) (sym c.judge-judged.ensures ∙ c.in_default.is) (omega (arith, c.room.ensures, c.if-room-count.false)) _ (sym c.judge_items-read.ensures ∙ c.in-Refused-read.is))
+
+pub returns-then-magnitudes-items : goal.returns-then-magnitudes-items
+returns-then-magnitudes-items c = rw c.no_room.ensures (all_refused c.args.text.now c.args.tape.now c.args.count c.args.items.now c.args.magnitudes.now c.args.codes.now _ (by_magnitudes c.args.text.now c.args.tape.now c.args.count c.args.items.now (length c.args.magnitudes.now) (length c.args.codes.now) (sym c.judge-judged.ensures ∙ c.in_default.is) (omega (arith, c.room.ensures, c.if-room-count.false)) (sym c.judge_items-read.ensures ∙ c.in_default-read.is) c.if-magnitudes-items.true))
+
+pub returns-then-codes-items : goal.returns-then-codes-items
+returns-then-codes-items c = rw c.no_room-then-codes-items.ensures (all_refused c.args.text.now c.args.tape.now c.args.count c.args.items.now c.args.magnitudes.now c.args.codes.now _ (by_codes c.args.text.now c.args.tape.now c.args.count c.args.items.now (length c.args.magnitudes.now) (length c.args.codes.now) (sym c.judge-judged.ensures ∙ c.in_default.is) (omega (arith, c.room.ensures, c.if-room-count.false)) (sym c.judge_items-read.ensures ∙ c.in_default-read.is) c.if-codes-items.true))
+
+pub write_items-requires : goal.write_items-requires
+write_items-requires c = ((sym c.judge-judged.ensures ∙ c.in_default.is), (omega (arith, c.room.ensures, c.if-room-count.false)), (sym c.judge_items-read.ensures ∙ c.in_default-read.is), c.if-magnitudes-items.false, c.if-codes-items.false)
+
+pub returns : goal.returns
+returns c = all_written c.args.text.now c.args.tape.now c.args.count c.args.items.now c.args.magnitudes.now c.args.codes.now _ _ _ (sym c.judge_items-read.ensures ∙ c.in_default-read.is) (by-room c.args.text.now c.args.tape.now c.args.count c.args.items.now (length c.args.magnitudes.now) (length c.args.codes.now) (sym c.judge-judged.ensures ∙ c.in_default.is) (omega (arith, c.room.ensures, c.if-room-count.false)) (sym c.judge_items-read.ensures ∙ c.in_default-read.is) c.if-magnitudes-items.false c.if-codes-items.false) c.write_items.ensures.0 c.write_items.ensures.1

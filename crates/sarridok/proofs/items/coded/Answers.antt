@@ -1,0 +1,13 @@
+use mathlib.Core.Path.{◌∙◌, ap}
+use Rattle.text.specs.Refusals.Told.{accepted, refused}
+use borrow.Author.Rules.{rules}
+use Rattle.sarridok.proofs.items.coded.Goals as goal
+
+pub returns-in-Read : goal.returns-in-Read
+returns-in-Read c = rw (c.in-Read.is, c.code_for-code.ensures)
+
+pub returns-in-OtherSuffix : goal.returns-in-OtherSuffix
+returns-in-OtherSuffix c = rw (c.in-OtherSuffix.is, c.at_item.ensures, c.other_kind.ensures)
+
+pub returns-in-Refused : goal.returns-in-Refused
+returns-in-Refused c = rw (c.in-Refused.is, c.at_item-in-Refused.ensures)

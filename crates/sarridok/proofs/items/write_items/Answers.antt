@@ -1,0 +1,28 @@
+use Prim.Native.Nat.{◌-◌, ◌≤◌}
+use mathlib.Core.Path.{◌≡◌, ◌∙◌, ap, refl, sym}
+use mathlib.Core.List.{◌++◌, map}
+use lib.ListN.{drop, length, take}
+use Rattle.sarridok.specs.Integers.{Coded, items_from}
+use Rattle.sarridok.specs.inner.Items.{told_item}
+use Rattle.sarridok.proofs.ItemLaws.{all_stored, never_refused, turn, values_of}
+use borrow.Author.Rules.{rules}
+use Rattle.sarridok.proofs.items.write_items.Goals as goal
+
+pub loop-k-init : goal.loop-k-init
+loop-k-init c = (search rules, refl, refl, refl, refl)
+
+pub returns-in_default : goal.returns-in_default
+returns-in_default c = absurd (never_refused c.args.text.now c.args.tape.now c.args.count c.args.items.now c.requires.2 c.loop-k.k _ c.loop-k-test.true (ap told_item (sym c.in_default.is) ∙ c.item_at-read.ensures))
+
+pub loop-k-preserved : goal.loop-k-preserved
+loop-k-preserved c =
+    let reads = ap told_item (sym c.in-Number.is) ∙ c.item_at-read.ensures in (
+      search rules,
+      search rules,
+      search rules,
+      turn c.args.text.now c.args.tape.now c.args.count c.args.items.now c.requires.2 (λ (v : Coded). v.magnitude) c.loop-k.k c.args.magnitudes.now _ _ c.loop-k-test.true c.requires.3 reads c.loop-k.invariant.3,
+      turn c.args.text.now c.args.tape.now c.args.count c.args.items.now c.requires.2 (λ (v : Coded). v.code) c.loop-k.k c.args.codes.now _ _ c.loop-k-test.true c.requires.4 reads c.loop-k.invariant.4,
+    )
+
+pub returns : goal.returns
+returns c = (all_stored c.args.text.now c.args.tape.now c.args.count c.args.items.now c.requires.2 (λ (v : Coded). v.magnitude) c.loop-k.k c.args.magnitudes.now _ c.loop-k.invariant.0 c.loop-k-test.false c.loop-k.invariant.3, all_stored c.args.text.now c.args.tape.now c.args.count c.args.items.now c.requires.2 (λ (v : Coded). v.code) c.loop-k.k c.args.codes.now _ c.loop-k.invariant.0 c.loop-k-test.false c.loop-k.invariant.4)

@@ -1,0 +1,28 @@
+use Prim.Native.Nat.{ℕ}
+use mathlib.Core.List.{List, ◌++◌}
+use mathlib.Core.Path.{sym, ap, ◌∙◌}
+use borrow.Author.Rules.{rules}
+use Rattle.entries.specs.Contents.{told_contents}
+use Rattle.entries.specs.declared.view.ContentsAnswer.{ContentsAnswer}
+use Rattle.lines.proofs.OutLaws.{then}
+use Rattle.lines.specs.Ascii.{ascii}
+use Rattle.lines.specs.Decimal.{word_of}
+use Rattle.lines.specs.Out.{put}
+use Rattle.show.specs.Answers.{answer_text}
+use Rattle.show.specs.Contents.{span_text}
+use Rattle.show.proofs.contents.view.Goals as goal
+
+pub returns-in-Part : goal.returns-in-Part
+unfolding span_text
+returns-in-Part c =
+    let out : List ℕ × ℕ = (c.args.o.now, c.args.at) in
+    let start : ℕ = c.in-Part.start in
+    let end : ℕ = c.in-Part.end in
+    then out _ _ (ascii "ok part") (word_of start ++ word_of end) c.bytes-a.ensures
+    (then _ _ _ (word_of start) (word_of end) c.word-b.ensures c.word.ensures)
+    ∙ ap (λ (a : ContentsAnswer). put out (answer_text span_text (told_contents a))) (sym c.in-Part.is)
+
+pub returns-in-Refused : goal.returns-in-Refused
+returns-in-Refused c =
+    let out : List ℕ × ℕ = (c.args.o.now, c.args.at) in
+    c.refused.ensures ∙ ap (λ (a : ContentsAnswer). put out (answer_text span_text (told_contents a))) (sym c.in-Refused.is)

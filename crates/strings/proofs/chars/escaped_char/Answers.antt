@@ -1,0 +1,28 @@
+use borrow.Author.Rules.{rules}
+use lib.ListN.{drop}
+use mathlib.Core.Path.{◌∙◌, ◌≡◌, ap, sym}
+use Rattle.cursor.specs.declared.escape.Escaped.TheVariants.{Ascii, Utf8, Refused}
+use Rattle.cursor.specs.declared.escape.Escaped.{Escaped}
+use Rattle.escapes.specs.Escapes.{escape_of}
+use Rattle.escapes.specs.declared.answers.Mode.TheVariants.{Char}
+use Rattle.strings.proofs.CursorLaws.{char-escaped, char_escaped}
+use Rattle.strings.specs.Chars.{by_char_escape}
+use Rattle.strings.proofs.chars.escaped_char.Goals as goal
+
+pub returns-in-Ascii : goal.returns-in-Ascii
+returns-in-Ascii c =
+    let read : (x : Escaped) → c.parse_escape-escaped.result ≡ x → char_escaped c.args.s.now x ≡ by_char_escape c.args.s.now (escape_of Char (drop 2 c.args.s.now)) = λ x e. ap (char_escaped c.args.s.now) (sym e ∙ c.parse_escape-escaped.ensures)
+    ∙ char-escaped c.args.s.now c.args.cursor c.requires in
+    c.char_ends.ensures ∙ read (Ascii _ _) c.in-Ascii.is
+
+pub returns-in-Utf8 : goal.returns-in-Utf8
+returns-in-Utf8 c =
+    let read : (x : Escaped) → c.parse_escape-escaped.result ≡ x → char_escaped c.args.s.now x ≡ by_char_escape c.args.s.now (escape_of Char (drop 2 c.args.s.now)) = λ x e. ap (char_escaped c.args.s.now) (sym e ∙ c.parse_escape-escaped.ensures)
+    ∙ char-escaped c.args.s.now c.args.cursor c.requires in
+    c.char_ends-in-Utf8.ensures ∙ read (Utf8 _ _) c.in-Utf8.is
+
+pub returns-in-Refused : goal.returns-in-Refused
+returns-in-Refused c =
+    let read : (x : Escaped) → c.parse_escape-escaped.result ≡ x → char_escaped c.args.s.now x ≡ by_char_escape c.args.s.now (escape_of Char (drop 2 c.args.s.now)) = λ x e. ap (char_escaped c.args.s.now) (sym e ∙ c.parse_escape-escaped.ensures)
+    ∙ char-escaped c.args.s.now c.args.cursor c.requires in
+    read (Refused _) c.in-Refused.is

@@ -1,0 +1,24 @@
+use native.Mathlib.Omega.{arith}
+use mathlib.Core.Path.{◌∙◌, ap}
+use lib.ListN.{get_or-eq_default, get_or}
+use borrow.Author.Rules.{rules}
+use borrow.Author.Tests.{eq-eqb, ne_eqb}
+use Rattle.strings.specs.Strings.{string_of}
+use Rattle.strings.specs.declared.literal.LiteralAnswer.TheVariants.{Refused}
+use Rattle.strings.proofs.string.Goals as goal
+
+pub returns-then-s-eq0 : goal.returns-then-s-eq0
+unfolding string_of
+returns-then-s-eq0 c = ap Refused c.expected_string.ensures ∙ simp (get_or-eq_default c.args.s.now 0 {n = 0} (omega arith))
+
+pub returns-then-s-eq34 : goal.returns-then-s-eq34
+unfolding string_of
+returns-then-s-eq34 c = c.quoted.ensures ∙ simp (eq-eqb (get_or c.args.s.now 0 0) 0x22 c.if-s-eq34.true)
+
+pub returns-then-s-eq114 : goal.returns-then-s-eq114
+unfolding string_of
+returns-then-s-eq114 c = c.raw.ensures ∙ simp (ne_eqb (get_or c.args.s.now 0 0) 0x22 c.if-s-eq34.false, eq-eqb (get_or c.args.s.now 0 0) 0x72 c.if-s-eq114.true)
+
+pub returns : goal.returns
+unfolding string_of
+returns c = ap Refused c.expected_string-2.ensures ∙ simp (ne_eqb (get_or c.args.s.now 0 0) 0x22 c.if-s-eq34.false, ne_eqb (get_or c.args.s.now 0 0) 0x72 c.if-s-eq114.false)

@@ -1,0 +1,18 @@
+use mathlib.Core.Path.{◌∙◌, ap, sym}
+use borrow.Author.Rules.{rules}
+use borrow.Author.Tests.{le-ltb, lt-ltb}
+use Rattle.structs.specs.Scan.{step_of}
+use Rattle.structs.specs.declared.steps.Step.TheVariants.{Refused}
+use Rattle.structs.proofs.steps.next_step.Goals as goal
+
+pub returns-then-s-n : goal.returns-then-s-n
+unfolding step_of
+returns-then-s-n c = simp (sym c.skip_spurious-passed.ensures ∙ c.in-To.is, le-ltb _ _ c.if-s-n.true) (ap Refused c.eof.ensures)
+
+pub returns-else-s-n : goal.returns-else-s-n
+unfolding step_of
+returns-else-s-n c = simp (sym c.skip_spurious-passed.ensures ∙ c.in-To.is, lt-ltb _ _ c.if-s-n.false) c.marked.ensures
+
+pub returns-in-Refused : goal.returns-in-Refused
+unfolding step_of
+returns-in-Refused c = simp (sym c.skip_spurious-passed.ensures ∙ c.in-Refused.is)

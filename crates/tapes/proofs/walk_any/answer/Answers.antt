@@ -1,0 +1,60 @@
+use Prim.Native.Nat.{ℕ}
+use mathlib.Core.List.{List}
+use mathlib.Core.Path.{refl, sym, ap, ◌∙◌}
+use lib.ListN.{length}
+use Rattle.lines.specs.Over.{over}
+use Rattle.show.specs.Answers.{bad_text}
+use Rattle.words.specs.Hex.{hex_in, pairs}
+use Rattle.words.specs.Numbers.{numbers_in, numbers_of}
+use Rattle.words.specs.Split.{first_word, behind_word}
+use Rattle.tapes.specs.Walks.{any_line}
+use Rattle.lines.proofs.LineLaws.{line4}
+use Rattle.tapes.proofs.WalkLaws.{word4, behind4, behinds, any_no_front, any_no_text, any_no_tape, any_goes}
+use borrow.Author.Rules.{rules}
+use Rattle.tapes.proofs.walk_any.answer.Goals as goal
+
+pub returns-in_default : goal.returns-in_default
+returns-in_default c =
+    let words : List ℕ = c.args.words.now in
+    let text : List ℕ = c.args.text.now in
+    let tape : List ℕ = c.args.tape.now in
+    let links : List ℕ = c.args.links.now in
+    line4 (c.args.o.now, c.args.at) _ bad_text _ _ _ text tape links (any_line words text tape links)
+    (any_no_front words text tape links (sym c.front-asked.ensures ∙ c.in_default.is)) c.bad.ensures refl refl refl
+
+pub returns-in_default-bytes : goal.returns-in_default-bytes
+returns-in_default-bytes c =
+    let words : List ℕ = c.args.words.now in
+    let text : List ℕ = c.args.text.now in
+    let tape : List ℕ = c.args.tape.now in
+    let links : List ℕ = c.args.links.now in
+    let fourth = c.word.ensures ∙ ap (λ (w : List ℕ). first_word w) (behinds words _ _ _ c.behind.ensures c.behind-2.ensures c.behind-words.ensures) in
+    line4 (c.args.o.now, c.args.at) _ bad_text _ _ _ (over (pairs (word4 words)) text) tape links (any_line words text tape links)
+    (any_no_text words text tape links c.in-Asks.q (sym c.front-asked.ensures ∙ c.in-Asks.is)
+    (sym (c.bytes-bytes.ensures.0 ∙ ap (λ (w : List ℕ). hex_in w (length text)) fourth) ∙ c.in_default-bytes.is))
+    c.bad-in_default-bytes.ensures (c.bytes-bytes.ensures.1 ∙ ap (λ (w : List ℕ). over (pairs w) text) fourth) refl refl
+
+pub returns-in_default-last : goal.returns-in_default-last
+returns-in_default-last c =
+    let words : List ℕ = c.args.words.now in
+    let text : List ℕ = c.args.text.now in
+    let tape : List ℕ = c.args.tape.now in
+    let links : List ℕ = c.args.links.now in
+    let fourth = c.word.ensures ∙ ap (λ (w : List ℕ). first_word w) (behinds words _ _ _ c.behind.ensures c.behind-2.ensures c.behind-words.ensures) in
+    let fifth = c.behind-3.ensures ∙ ap (λ (w : List ℕ). behind_word w) (behinds words _ _ _ c.behind.ensures c.behind-2.ensures c.behind-words.ensures) in
+    line4 (c.args.o.now, c.args.at) _ bad_text _ _ _ (over (pairs (word4 words)) text) (over (numbers_of (behind4 words)) tape) links (any_line words text tape links)
+    (any_no_tape words text tape links c.in-Asks.q (sym c.front-asked.ensures ∙ c.in-Asks.is) c.in-Bytes.n (sym (c.bytes-bytes.ensures.0 ∙ ap (λ (w : List ℕ). hex_in w (length text)) fourth) ∙ c.in-Bytes.is)
+    (sym (c.numbers-last.ensures.0 ∙ ap (λ (w : List ℕ). numbers_in w (length tape)) fifth) ∙ c.in_default-last.is))
+    c.bad-in_default-last.ensures (c.bytes-bytes.ensures.1 ∙ ap (λ (w : List ℕ). over (pairs w) text) fourth) (c.numbers-last.ensures.1 ∙ ap (λ (w : List ℕ). over (numbers_of w) tape) fifth) refl
+
+pub returns : goal.returns
+returns c =
+    let words : List ℕ = c.args.words.now in
+    let text : List ℕ = c.args.text.now in
+    let tape : List ℕ = c.args.tape.now in
+    let links : List ℕ = c.args.links.now in
+    let fourth = c.word.ensures ∙ ap (λ (w : List ℕ). first_word w) (behinds words _ _ _ c.behind.ensures c.behind-2.ensures c.behind-words.ensures) in
+    let fifth = c.behind-3.ensures ∙ ap (λ (w : List ℕ). behind_word w) (behinds words _ _ _ c.behind.ensures c.behind-2.ensures c.behind-words.ensures) in
+    any_goes words text tape links c.in-Asks.q (sym c.front-asked.ensures ∙ c.in-Asks.is) c.in-Bytes.n (sym (c.bytes-bytes.ensures.0 ∙ ap (λ (w : List ℕ). hex_in w (length text)) fourth) ∙ c.in-Bytes.is)
+    c.in-Stored.m (sym (c.numbers-last.ensures.0 ∙ ap (λ (w : List ℕ). numbers_in w (length tape)) fifth) ∙ c.in-Stored.is)
+    _ _ _ _ _ (c.args.o.now, c.args.at) _ (c.bytes-bytes.ensures.1 ∙ ap (λ (w : List ℕ). over (pairs w) text) fourth) c.part.ensures (c.numbers-last.ensures.1 ∙ ap (λ (w : List ℕ). over (numbers_of w) tape) fifth) c.first.ensures c.answer.ensures

@@ -1,0 +1,25 @@
+use Prim.Native.Nat.{ℕ}
+use mathlib.Core.List.{List}
+use Rattle.tapes.proofs.WalkLaws.{links-left, walked_said, refused_said}
+use borrow.Author.Rules.{rules}
+use Rattle.tapes.proofs.walks.walked.Goals as goal
+
+pub returns-in-Walked : goal.returns-in-Walked
+returns-in-Walked c =
+    let text : List ℕ = c.args.text.now in
+    let tape : List ℕ = c.args.tape.now in
+    let links : List ℕ = c.args.links.now in (
+      walked_said text tape c.args.q links _ _ c.mark.ensures c.walk-answer.ensures.1 (c.args.o.now, c.args.at) _ _ _ c.clean.ensures
+          _ c.walk-answer.ensures.0 c.in-Walked.is _ c.first.ensures c.links-a.ensures c.kept.ensures,
+      links-left text tape c.args.q links _ _ c.mark.ensures c.walk-answer.ensures.1,
+    )
+
+pub returns-in-Refused : goal.returns-in-Refused
+returns-in-Refused c =
+    let text : List ℕ = c.args.text.now in
+    let tape : List ℕ = c.args.tape.now in
+    let links : List ℕ = c.args.links.now in (
+      refused_said text tape c.args.q links _ _ c.mark.ensures c.walk-answer.ensures.1 (c.args.o.now, c.args.at) _ _ _ c.clean-in-Refused.ensures
+          _ c.walk-answer.ensures.0 c.in-Refused.r c.in-Refused.is c.refused-a.ensures c.kept-in-Refused.ensures,
+      links-left text tape c.args.q links _ _ c.mark.ensures c.walk-answer.ensures.1,
+    )

@@ -1,0 +1,10 @@
+use mathlib.Core.Path.{◌∙◌, ap, sym}
+use borrow.Author.Rules.{rules}
+use Rattle.tokens.specs.Token.{of_attribute}
+use Rattle.tokens.proofs.token.read_attribute.Goals as goal
+
+pub returns-in-Read : goal.returns-in-Read
+returns-in-Read c = sym (ap (of_attribute) (sym c.attribute-found.ensures ∙ c.in-Read.is))
+
+pub returns-in-Refused : goal.returns-in-Refused
+returns-in-Refused c = sym (ap (of_attribute) (sym c.attribute-found.ensures ∙ c.in-Refused.is))
