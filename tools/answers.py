@@ -45,6 +45,9 @@ def blocks(text):
                 pass
             i += 1
             continue
+        while re.search(r" :$", l) and i + 1 < len(lines):
+            i += 1
+            l = lines[i] = l + " " + lines[i].strip()
         m = SIGNATURE.match(l)
         j = i + 1
         name = m[2] if m else None
@@ -87,6 +90,12 @@ class Names:
                     if new.endswith("-own"):
                         continue
                     self.arms[plain(field), tuple(sub)] = f"{arm}.{new}"
+        for rows in of["typed"]:
+            for variable, field in rows:
+                self.arms.setdefault((plain(field), ("given",)), f"type_inv.{variable}")
+        keys = [new[3:] for old, new in (place[2] for place in of["places"]) if old == "match" and new.startswith("in-")]
+        for k in range(len(keys)):
+            self.arms.setdefault(("match", ("rest", *["0"] * (len(keys) - 1 - k), "1")), f"in_default.not-{keys[k]}")
         self.loops = {plain(old): (new, names, changed) for ((old, new), names), changed in zip(of["loops"], of["changed"])}
         self.invariants = {}
 
@@ -99,7 +108,8 @@ def path(names, heads, found, left):
         rest = rest[1:]
     if not rest:
         return "c"
-    field, sub = rest[0], rest[1:]
+    old = {"inv": "invariant", "taken": "true", "left": "false", "pre": "requires", "measure": "decreases"}
+    field, sub = "measured" if rest[0] == "decreases" else rest[0], [old.get(it, it) for it in rest[1:]]
     key = plain(field)
     known = {*names.fields, *(k for k, _ in names.arms)}
     for other in (key, re.sub(r"_lem(?=\d*$)", "", key), re.sub("^is_is_?", "is_", key), re.sub(r"(_lem)?\d+$", "", key)):
@@ -166,6 +176,8 @@ def invariant(names, block, kind, left):
             return None
     loop, variables, changed = names.loops[key]
     at, rows = 0, {}
+    if len(params) == len(variables) + sum(changed) - 1 and variables[0] == "stdin":  # the handle that is new here
+        variables, changed = variables[1:], changed[1:]
     wanted = len(variables) + sum(changed)
     if len(params) != wanted:
         left.append(f"{name}: {params} for {variables} {changed}")

@@ -10,6 +10,7 @@ use Rattle.text.specs.Runs.{run}
 use Rattle.search.specs.inner.Others.{other}
 use Rattle.search.proofs.SearchLaws.{found_before, found_now}
 use Rattle.search.proofs.sixteen.has.Goals as goal
+use Rattle.search.proofs.sixteen.has.Goals.{then-s-at, else-s-at}
 
 pub loop-k-init : goal.loop-k-init
 loop-k-init c = (search rules, sym (le-ltb (run (other c.args.b) (drop c.args.at c.args.s.now)) 0 (omega arith)))
@@ -18,10 +19,10 @@ pub loop-k-preserved : goal.loop-k-preserved
 unfolding other
 loop-k-preserved c = (
   search rules,
-  ⊎_elim
-      (λ w. w.1 ∙ sym (found_now (other c.args.b) c.args.s.now c.args.at c.loop-k.k (search rules) (simp (eq-eqb _ _ w.0.taken))))
-      (λ w. w.1 ∙ c.loop-k.invariant.1 ∙ sym (found_before (other c.args.b) c.args.s.now c.args.at c.loop-k.k (search rules) (simp (ne_eqb _ _ w.0.left))))
-      c.if-s-at.branch,
+  elim c.if-s-at.branch [
+    then-s-at w ↦ w.found-is ∙ sym (found_now (other c.args.b) c.args.s.now c.args.at c.loop-k.k (search rules) (simp (eq-eqb _ _ w.if-s-at.true)))
+    | else-s-at w ↦ w.found-is ∙ c.loop-k.invariant.1 ∙ sym (found_before (other c.args.b) c.args.s.now c.args.at c.loop-k.k (search rules) (simp (ne_eqb _ _ w.if-s-at.false)))
+  ],
 )
 
 pub returns : goal.returns

@@ -1,0 +1,11 @@
+use mathlib.Core.Path.{sym, ap}
+use Rattle.pieces.specs.declared.state.Arrived.{Arrived}
+use Rattle.arrive.specs.inner.Said.{next_by}
+use borrow.Author.Rules.{rules}
+use Rattle.arrive.proofs.behind.Goals as goal
+
+pub returns-in-Given : goal.returns-in-Given
+returns-in-Given c = sym (ap (λ (x : Arrived). next_by c.args.s x) c.in-Given.is)
+
+pub returns-in-Stopped : goal.returns-in-Stopped
+returns-in-Stopped c = sym (ap (λ (x : Arrived). next_by c.args.s x) c.in-Stopped.is)

@@ -1,0 +1,35 @@
+use borrow.Author.Tests.{ne_eqb}
+use Rattle.escapes.specs.Escapes.{simple_of}
+use Rattle.escapes.proofs.simple.Goals as goal
+
+pub returns-in-39 : goal.returns-in-39
+unfolding simple_of
+returns-in-39 c = rw c.in-39.is
+
+pub returns-in-34 : goal.returns-in-34
+unfolding simple_of
+returns-in-34 c = rw c.in-34.is
+
+pub returns-in-92 : goal.returns-in-92
+unfolding simple_of
+returns-in-92 c = rw c.in-92.is
+
+pub returns-in-110 : goal.returns-in-110
+unfolding simple_of
+returns-in-110 c = rw c.in-110.is
+
+pub returns-in-114 : goal.returns-in-114
+unfolding simple_of
+returns-in-114 c = rw c.in-114.is
+
+pub returns-in-116 : goal.returns-in-116
+unfolding simple_of
+returns-in-116 c = rw c.in-116.is
+
+pub returns-in-48 : goal.returns-in-48
+unfolding simple_of
+returns-in-48 c = rw c.in-48.is
+
+pub returns-in_default : goal.returns-in_default
+unfolding simple_of
+returns-in_default c = simp (ne_eqb _ _ c.in_default.not-39, ne_eqb _ _ c.in_default.not-34, ne_eqb _ _ c.in_default.not-92, ne_eqb _ _ c.in_default.not-110, ne_eqb _ _ c.in_default.not-114, ne_eqb _ _ c.in_default.not-116, ne_eqb _ _ c.in_default.not-48)
