@@ -14,7 +14,7 @@ use Rattle.arrivals.proofs.arrive_any.end.Goals as goal
 
 pub returns : goal.returns
 returns c =
-    let before : List ℕ = c.mark.new.0 in
+    let before : List ℕ = c.mark.new.s in
     let out : List ℕ × ℕ = (c.args.o.now, c.args.at) in
     let told : Told Rest = finish_of c.args.s c.args.buffer.now (room_of (length before)) in
     end_stands c.args.tape.now before _ c.mark.ensures c.finish-r.auto.1.1.0 out _ _ (end_text told)

@@ -18,7 +18,7 @@ pub returns : goal.returns
 returns c =
     let s : Arrival = c.args.s in
     let buffer : List ℕ = c.args.buffer.now in
-    let before : List ℕ = c.mark.new.0 in
+    let before : List ℕ = c.mark.new.s in
     let out : List ℕ × ℕ = (c.args.o.now, c.args.at) in
     let told : Told Outcome = piece_of s buffer c.args.n (room_of (length before)) in
     piece-line s buffer c.args.n (room_of (length before)) out _

@@ -41,9 +41,9 @@ loop-i-preserved c =
       c.turn-s.auto.1.1.0 ∙ inv.1,
       c.turn-s.auto.1.1.1.0 ∙ inv.2,
       c.turn-s.auto.1.1.1.1.0 ∙ inv.3,
-      c.turn-s.ensures.1.3,
-      cuts_fit cuts c.loop-i.i n s c.turn-s.result text c.turn-s.new.1.1.0 room (c.loop-i.o, s.at) (c.turn-s.new.1.1.1.1.0, c.turn-s.result.at) (c.args.o.now, c.args.at) (omega (arith, inv.0, c.loop-i-test.true)) inv.5 (omega (arith, inv.1, c.requires.1)) _ c.turn-s.ensures.1,
-      left_goes cuts c.loop-i.i n s c.turn-s.result text c.turn-s.new.1.1.0 room (c.loop-i.o, s.at) (c.turn-s.new.1.1.1.1.0, c.turn-s.result.at) _ (omega (arith, inv.0, c.loop-i-test.true)) inv.5 (omega (arith, inv.1, c.requires.1)) _ (ap room_of inv.2) c.turn-s.ensures.1 c.turn-s.ensures.0 inv.6,
+      c.turn-s.ensures.turned.3,
+      cuts_fit cuts c.loop-i.i n s c.turn-s.result text c.turn-s.new.tape.1.0 room (c.loop-i.o, s.at) (c.turn-s.new.tape.1.1.1.0, c.turn-s.result.at) (c.args.o.now, c.args.at) (omega (arith, inv.0, c.loop-i-test.true)) inv.5 (omega (arith, inv.1, c.requires.1)) _ c.turn-s.ensures.turned,
+      left_goes cuts c.loop-i.i n s c.turn-s.result text c.turn-s.new.tape.1.0 room (c.loop-i.o, s.at) (c.turn-s.new.tape.1.1.1.0, c.turn-s.result.at) _ (omega (arith, inv.0, c.loop-i-test.true)) inv.5 (omega (arith, inv.1, c.requires.1)) _ (ap room_of inv.2) c.turn-s.ensures.turned c.turn-s.ensures.at_after inv.6,
     )
 
 pub overflow_sub-n : goal.overflow_sub-n
@@ -69,5 +69,5 @@ returns c =
     let s : Stand = c.loop-i.s in
     let room : ℕ = room_of (length c.args.tape.now) in
     let inv = c.loop-i.invariant in
-    left_ends cuts c.loop-i.i n s c.turn-rest.result text c.turn-rest.new.1.1.0 room (c.loop-i.o, s.at) (c.turn-rest.new.1.1.1.1.0, c.turn-rest.result.at) _ (omega (arith, inv.0, c.loop-i-test.false)) (omega (arith, inv.5)) (omega (arith, inv.1, c.requires.1)) _ (ap room_of inv.2)
-    c.turn-rest.ensures.1 c.turn-rest.ensures.0 inv.6 _ _ (ap room_of (c.turn-rest.auto.1.1.1.0 ∙ inv.2)) c.end.ensures
+    left_ends cuts c.loop-i.i n s c.turn-rest.result text c.turn-rest.new.tape.1.0 room (c.loop-i.o, s.at) (c.turn-rest.new.tape.1.1.1.0, c.turn-rest.result.at) _ (omega (arith, inv.0, c.loop-i-test.false)) (omega (arith, inv.5)) (omega (arith, inv.1, c.requires.1)) _ (ap room_of inv.2)
+    c.turn-rest.ensures.turned c.turn-rest.ensures.at_after inv.6 _ _ (ap room_of (c.turn-rest.auto.1.1.1.0 ∙ inv.2)) c.end.ensures

@@ -27,4 +27,4 @@ pub write_items-requires : goal.write_items-requires
 write_items-requires c = ((sym c.judge-judged.ensures ∙ c.in_default.is), (omega (arith, c.room.ensures, c.if-room-count.false)), (sym c.judge_items-read.ensures ∙ c.in_default-read.is), c.if-magnitudes-items.false, c.if-codes-items.false)
 
 pub returns : goal.returns
-returns c = all_written c.args.text.now c.args.tape.now c.args.count c.args.items.now c.args.magnitudes.now c.args.codes.now _ _ _ (sym c.judge_items-read.ensures ∙ c.in_default-read.is) (by-room c.args.text.now c.args.tape.now c.args.count c.args.items.now (length c.args.magnitudes.now) (length c.args.codes.now) (sym c.judge-judged.ensures ∙ c.in_default.is) (omega (arith, c.room.ensures, c.if-room-count.false)) (sym c.judge_items-read.ensures ∙ c.in_default-read.is) c.if-magnitudes-items.false c.if-codes-items.false) c.write_items.ensures.0 c.write_items.ensures.1
+returns c = all_written c.args.text.now c.args.tape.now c.args.count c.args.items.now c.args.magnitudes.now c.args.codes.now _ _ _ (sym c.judge_items-read.ensures ∙ c.in_default-read.is) (by-room c.args.text.now c.args.tape.now c.args.count c.args.items.now (length c.args.magnitudes.now) (length c.args.codes.now) (sym c.judge-judged.ensures ∙ c.in_default.is) (omega (arith, c.room.ensures, c.if-room-count.false)) (sym c.judge_items-read.ensures ∙ c.in_default-read.is) c.if-magnitudes-items.false c.if-codes-items.false) c.write_items.ensures.magnitudes c.write_items.ensures.codes

@@ -25,6 +25,6 @@ pub returns : goal.returns
 returns c =
     let r = c.requires.1.room in (
       c.earlier.ensures ∙ ap (earlier c.args.found) (search_tells c.args.fields.now c.args.from (c.args.to - c.args.from) (omega arith) (name_at c.args.text.now c.args.tape.now) _
-          (λ p q h l. c.requires.1.rise (c.args.from + p) (c.args.from + q) (omega arith) (omega arith)) c.first_again.ensures.0),
-      lent_back c.args.fields.now c.args.from (c.args.to - c.args.from) (omega arith) c.first_again.new.1.1.0 c.first_again.ensures.1.as_many,
+          (λ p q h l. c.requires.1.rise (c.args.from + p) (c.args.from + q) (omega arith) (omega arith)) c.first_again.ensures.first),
+      lent_back c.args.fields.now c.args.from (c.args.to - c.args.from) (omega arith) c.first_again.new.fields c.first_again.ensures.left.as_many,
     )

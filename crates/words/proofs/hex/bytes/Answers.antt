@@ -26,4 +26,4 @@ pub returns : goal.returns
 unfolding hex_in
 returns c =
     let other : is_dash c.args.s.now ≡ false = sym c.is_dash.ensures ∙ c.if-is_dash.false in
-    (rw (other, ne_eqb _ _ c.if-s-eq0.false) c.pairs.ensures.0, c.pairs.ensures.1)
+    (rw (other, ne_eqb _ _ c.if-s-eq0.false) c.pairs.ensures.value, c.pairs.ensures.buf_after)

@@ -23,4 +23,4 @@ pub returns : goal.returns
 unfolding numbers_in
 returns c =
     let other : is_dash c.args.s.now ≡ false = sym c.is_dash.ensures ∙ c.if-is_dash.false in
-    (rw other c.items.ensures.0, c.items.ensures.1)
+    (rw other c.items.ensures.value, c.items.ensures.tape_after)
