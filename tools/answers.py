@@ -289,7 +289,7 @@ def convert(folder, proof, names, module):
             if not m:
                 left.append(f"{name}: the head {body[head][:60]}")
                 continue
-            if body[head:] == [f"{name} c = search rules"] or body[head:] == [f"{name} c κs = search rules"]:
+            if not unfold and body[head:] == [f"{name} c = search rules"] or not unfold and body[head:] == [f"{name} c κs = search rules"]:
                 trivial += 1
                 continue
             if new is None:

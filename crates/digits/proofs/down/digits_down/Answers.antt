@@ -48,7 +48,7 @@ turn_down-t-requires c =
 } in
     let l = c.loop-i in
     let p = c.requires in
-    (p.0, p.1, self _ l.invariant.1.0 l.invariant.1.1.0, self _ (nat_abs c.args.low) (low_is ∙ p.2), neg.quot-held (bounds) ∙ ap (λ (z : ℤ). neg_ℤ (pos (nat_abs z / c.args.base))) (sym (low_is)))
+    (p.0, p.1, self _ l.invariant.1.0 l.invariant.1.1.0, self _ (nat_abs c.args.low) (low_is ∙ p.2), neg.quot_held (bounds) ∙ ap (λ (z : ℤ). neg_ℤ (pos (nat_abs z / c.args.base))) (sym (low_is)))
 
 pub returns-in-Over : goal.returns-in-Over
 returns-in-Over c =

@@ -24,7 +24,7 @@ returns-then-c-eq95 c =
   low_le = nat_abs-le c.args.low c.ranges.low.sfits;
   base_le = c.requires.1;
 } in
-    simp (eq-eqb _ _ c.if-c-eq95.true) (ap Next (neg.acc-is (negative)))
+    simp (eq-eqb _ _ c.if-c-eq95.true) (ap Next (neg.acc_is (negative)))
 
 pub returns-then-acc-least : goal.returns-then-acc-least
 unfolding turn_of
@@ -38,7 +38,7 @@ returns-then-acc-least c =
   low_le = nat_abs-le c.args.low c.ranges.low.sfits;
   base_le = c.requires.1;
 } in
-    let q = ltb-true _ _ (sym (neg.test-is (negative) c.ranges.least c.requires.4) ∙ c.if-acc-least.true) in
+    let q = ltb-true _ _ (sym (neg.test_is (negative) c.ranges.least c.requires.4) ∙ c.if-acc-least.true) in
     simp (ne_eqb _ _ c.if-c-eq95.false, lt-ltb _ _ ((div-lt_iff_lt-mul c.requires.0).0 q))
 
 pub overflow_mul-product : goal.overflow_mul-product
@@ -52,8 +52,8 @@ overflow_mul-product c =
   low_le = nat_abs-le c.args.low c.ranges.low.sfits;
   base_le = c.requires.1;
 } in
-    let product : nat_abs c.args.acc * c.args.base ≤ nat_abs c.args.low = (le-div_iff_mul-le c.requires.0).0 (ltb-false _ _ (sym (neg.test-is (negative) c.ranges.least c.requires.4) ∙ c.if-acc-least.false)) in
-    neg.product-fits (negative) (product)
+    let product : nat_abs c.args.acc * c.args.base ≤ nat_abs c.args.low = (le-div_iff_mul-le c.requires.0).0 (ltb-false _ _ (sym (neg.test_is (negative) c.ranges.least c.requires.4) ∙ c.if-acc-least.false)) in
+    neg.product_fits (negative) (product)
 
 pub returns-in_default : goal.returns-in_default
 unfolding turn_of
@@ -67,7 +67,7 @@ returns-in_default c =
   low_le = nat_abs-le c.args.low c.ranges.low.sfits;
   base_le = c.requires.1;
 } in
-    let product : nat_abs c.args.acc * c.args.base ≤ nat_abs c.args.low = (le-div_iff_mul-le c.requires.0).0 (ltb-false _ _ (sym (neg.test-is (negative) c.ranges.least c.requires.4) ∙ c.if-acc-least.false)) in
+    let product : nat_abs c.args.acc * c.args.base ≤ nat_abs c.args.low = (le-div_iff_mul-le c.requires.0).0 (ltb-false _ _ (sym (neg.test_is (negative) c.ranges.least c.requires.4) ∙ c.if-acc-least.false)) in
     let a = c.args in
     let z = no_digit a.c (sym c.decode_hex-digit.ensures ∙ c.in_default.is) in
     simp (ne_eqb _ _ c.if-c-eq95.false, le-ltb _ _ (product), le-leb a.base (hex_of a.c) (omega (arith, z, c.requires.1)))
@@ -84,7 +84,7 @@ returns-then-base-d c =
   low_le = nat_abs-le c.args.low c.ranges.low.sfits;
   base_le = c.requires.1;
 } in
-    let product : nat_abs c.args.acc * c.args.base ≤ nat_abs c.args.low = (le-div_iff_mul-le c.requires.0).0 (ltb-false _ _ (sym (neg.test-is (negative) c.ranges.least c.requires.4) ∙ c.if-acc-least.false)) in
+    let product : nat_abs c.args.acc * c.args.base ≤ nat_abs c.args.low = (le-div_iff_mul-le c.requires.0).0 (ltb-false _ _ (sym (neg.test_is (negative) c.ranges.least c.requires.4) ∙ c.if-acc-least.false)) in
     let a = c.args in
     let v = digit_value a.c _ (sym c.decode_hex-digit.ensures ∙ c.in-Digit.is) in
     simp (ne_eqb _ _ c.if-c-eq95.false, le-ltb _ _ (product), le-leb a.base (hex_of a.c) (omega (arith, v)))
@@ -100,7 +100,7 @@ overflow_add-low c =
   low_le = nat_abs-le c.args.low c.ranges.low.sfits;
   base_le = c.requires.1;
 } in
-    let product : nat_abs c.args.acc * c.args.base ≤ nat_abs c.args.low = (le-div_iff_mul-le c.requires.0).0 (ltb-false _ _ (sym (neg.test-is (negative) c.ranges.least c.requires.4) ∙ c.if-acc-least.false)) in
+    let product : nat_abs c.args.acc * c.args.base ≤ nat_abs c.args.low = (le-div_iff_mul-le c.requires.0).0 (ltb-false _ _ (sym (neg.test_is (negative) c.ranges.least c.requires.4) ∙ c.if-acc-least.false)) in
     neg.sum_fits (negative) (product) c.in-Digit.h (omega arith)
 
 pub returns-then-product-low : goal.returns-then-product-low
@@ -115,10 +115,10 @@ returns-then-product-low c =
   low_le = nat_abs-le c.args.low c.ranges.low.sfits;
   base_le = c.requires.1;
 } in
-    let product : nat_abs c.args.acc * c.args.base ≤ nat_abs c.args.low = (le-div_iff_mul-le c.requires.0).0 (ltb-false _ _ (sym (neg.test-is (negative) c.ranges.least c.requires.4) ∙ c.if-acc-least.false)) in
+    let product : nat_abs c.args.acc * c.args.base ≤ nat_abs c.args.low = (le-div_iff_mul-le c.requires.0).0 (ltb-false _ _ (sym (neg.test_is (negative) c.ranges.least c.requires.4) ∙ c.if-acc-least.false)) in
     let a = c.args in
     let v = digit_value a.c _ (sym c.decode_hex-digit.ensures ∙ c.in-Digit.is) in
-    let q : nat_abs a.low < nat_abs a.acc * a.base + c.in-Digit.h = ltb-true _ _ (sym (neg.over-is (negative) (product) c.in-Digit.h (omega arith)) ∙ c.if-product-low.true) in
+    let q : nat_abs a.low < nat_abs a.acc * a.base + c.in-Digit.h = ltb-true _ _ (sym (neg.over_is (negative) (product) c.in-Digit.h (omega arith)) ∙ c.if-product-low.true) in
     simp (ne_eqb _ _ c.if-c-eq95.false, le-ltb _ _ (product), lt-leb a.base (hex_of a.c) (omega (arith, v)), lt-ltb (nat_abs a.low) (nat_abs a.acc * a.base + hex_of a.c) (omega (arith, v, q)))
 
 pub overflow_sub-next : goal.overflow_sub-next
@@ -132,8 +132,8 @@ overflow_sub-next c =
   low_le = nat_abs-le c.args.low c.ranges.low.sfits;
   base_le = c.requires.1;
 } in
-    let product : nat_abs c.args.acc * c.args.base ≤ nat_abs c.args.low = (le-div_iff_mul-le c.requires.0).0 (ltb-false _ _ (sym (neg.test-is (negative) c.ranges.least c.requires.4) ∙ c.if-acc-least.false)) in
-    neg.next_fits (negative) (product) c.in-Digit.h (omega arith) (ltb-false _ _ (sym (neg.over-is (negative) (product) c.in-Digit.h (omega arith)) ∙ c.if-product-low.false))
+    let product : nat_abs c.args.acc * c.args.base ≤ nat_abs c.args.low = (le-div_iff_mul-le c.requires.0).0 (ltb-false _ _ (sym (neg.test_is (negative) c.ranges.least c.requires.4) ∙ c.if-acc-least.false)) in
+    neg.next_fits (negative) (product) c.in-Digit.h (omega arith) (ltb-false _ _ (sym (neg.over_is (negative) (product) c.in-Digit.h (omega arith)) ∙ c.if-product-low.false))
 
 pub returns : goal.returns
 unfolding turn_of
@@ -147,9 +147,9 @@ returns c =
   low_le = nat_abs-le c.args.low c.ranges.low.sfits;
   base_le = c.requires.1;
 } in
-    let product : nat_abs c.args.acc * c.args.base ≤ nat_abs c.args.low = (le-div_iff_mul-le c.requires.0).0 (ltb-false _ _ (sym (neg.test-is (negative) c.ranges.least c.requires.4) ∙ c.if-acc-least.false)) in
+    let product : nat_abs c.args.acc * c.args.base ≤ nat_abs c.args.low = (le-div_iff_mul-le c.requires.0).0 (ltb-false _ _ (sym (neg.test_is (negative) c.ranges.least c.requires.4) ∙ c.if-acc-least.false)) in
     let a = c.args in
     let v = digit_value a.c _ (sym c.decode_hex-digit.ensures ∙ c.in-Digit.is) in
-    let q : nat_abs a.acc * a.base + c.in-Digit.h ≤ nat_abs a.low = ltb-false _ _ (sym (neg.over-is (negative) (product) c.in-Digit.h (omega arith)) ∙ c.if-product-low.false) in
+    let q : nat_abs a.acc * a.base + c.in-Digit.h ≤ nat_abs a.low = ltb-false _ _ (sym (neg.over_is (negative) (product) c.in-Digit.h (omega arith)) ∙ c.if-product-low.false) in
     simp (ne_eqb _ _ c.if-c-eq95.false, le-ltb _ _ (product), lt-leb a.base (hex_of a.c) (omega (arith, v)), le-ltb (nat_abs a.low) (nat_abs a.acc * a.base + hex_of a.c) (omega (arith, v, q)))
-    (ap Next (neg.next-held (negative) (product) c.in-Digit.h (omega arith) q ∙ ap (λ (d : ℕ). neg_ℤ (pos (nat_abs a.acc * a.base + d))) v))
+    (ap Next (neg.next_held (negative) (product) c.in-Digit.h (omega arith) q ∙ ap (λ (d : ℕ). neg_ℤ (pos (nat_abs a.acc * a.base + d))) v))
