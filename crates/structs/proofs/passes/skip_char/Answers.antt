@@ -39,3 +39,5 @@ returns-in-Refused c =
 pub returns-in_default : goal.returns-in_default
 unfolding past_char
 returns-in_default c = search rules
+
+

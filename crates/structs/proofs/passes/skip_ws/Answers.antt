@@ -58,3 +58,5 @@ returns-in-Refused c =
 pub returns-in_default : goal.returns-in_default
 unfolding past_gap
 returns-in_default c = search rules
+
+

@@ -17,3 +17,5 @@ returns-else-n-le65536 c =
 pub returns-in-Refused : goal.returns-in-Refused
 unfolding written_of
 returns-in-Refused c = search rules
+
+
