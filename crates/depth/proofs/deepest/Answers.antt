@@ -1,4 +1,3 @@
-use Prim.Native.Nat.{◌-◌, ◌≤◌}
 use native.Mathlib.Omega.{arith}
 use mathlib.Core.Path.{◌∙◌, ◌≡◌, ap}
 use Rattle.rows.specs.declared.Entry.{Entry}
@@ -6,7 +5,7 @@ use Rattle.rows.specs.Rows.{entry_at}
 use Rattle.grammar.specs.declared.kinds.Side.{Side}
 use Rattle.grammar.specs.Kinds.{kind_of, side_of}
 use Rattle.grammar.specs.Refused.{open_behind}
-use Rattle.depth.proofs.DepthLaws.{Deep, deep_starts, deep_turns, deep_ends}
+use Rattle.depth.proofs.DepthLaws.{deep_starts, deep_turns, deep_ends}
 use borrow.Author.Rules.{rules}
 use Rattle.depth.proofs.deepest.Goals as goal
 

@@ -1,7 +1,6 @@
 use mathlib.Core.Path.{◌∙◌, ap, sym}
 use Rattle.grammar.specs.declared.kinds.Side.{Side}
 use Rattle.grammar.specs.Refused.{open_behind}
-use borrow.Author.Rules.{rules}
 use Rattle.depth.proofs.open_behind.Goals as goal
 
 pub returns-in-Opens : goal.returns-in-Opens

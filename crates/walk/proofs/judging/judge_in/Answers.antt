@@ -1,14 +1,14 @@
-use Prim.Native.Nat.{◌-◌, ◌≤◌}
+use Prim.Native.Nat.{◌-◌}
 use native.Mathlib.Omega.{arith}
-use mathlib.Core.Path.{◌∙◌, ◌≡◌, ap, refl, subst}
-use lib.ListN.{length, length-set}
+use mathlib.Core.Path.{◌∙◌, ap, refl, subst}
+use lib.ListN.{length-set}
 use Rattle.rows.specs.Rows.{entry_at}
 use Rattle.grammar.specs.Kinds.{kind_of}
 use Rattle.fields.specs.declared.again.Again.{Again}
 use Rattle.fields.proofs.Readable.{has_name}
 use Rattle.walk.specs.inner.Gathered.{told_by}
 use Rattle.walk.specs.inner.Turns.{Comes}
-use Rattle.walk.proofs.JudgeTurns.{Turning, turn_starts, turn_noted, room-for, turn_pushes, turn_pops, stop_with}
+use Rattle.walk.proofs.JudgeTurns.{turn_starts, turn_noted, room-for, turn_pushes, turn_pops, stop_with}
 use Rattle.walk.proofs.OpenLaws.{rising_next}
 use borrow.Author.Rules.{rules}
 use Rattle.walk.proofs.judging.judge_in.Goals as goal
@@ -74,7 +74,7 @@ pub still_open-again-requires : goal.still_open-again-requires
 still_open-again-requires c = (omega (arith, c.requires.1), c.loop-w.invariant.5.rising, c.loop-w.invariant.5.held)
 
 pub shape_of-fields : goal.shape_of-fields
-shape_of-fields c = c.still_open-again.auto.1.1.0 ∙ c.loop-w.invariant.4
+shape_of-fields c = c.still_open-again.auto.fields ∙ c.loop-w.invariant.4
 
 pub returns : goal.returns
 returns c = c.told.ensures ∙ ap (λ (a : Again). told_by a c.in-Stop.v) c.still_open-again.ensures ∙ stop_with c.args.text.now c.args.tape.now c.args.count c.args.limit c.loop-w.fields c.loop-w.outer c.loop-w.bases c.loop-w.depth c.loop-w.top c.loop-w.want c.loop-w.inside c.loop-w.found c.loop-w.next c.loop-w.invariant.5 _ (subst (Comes c.args.tape.now c.args.count c.args.limit c.loop-w.next c.loop-w.depth c.loop-w.want c.loop-w.inside) c.in-Stop.is c.comes_to.ensures)

@@ -1,13 +1,8 @@
-use Prim.Native.Nat.{ℕ, suc, ◌-◌, ◌≤◌}
+use Prim.Native.Nat.{◌-◌}
 use native.Mathlib.Omega.{arith}
-use mathlib.Core.List.{◌∷◌}
-use mathlib.Core.Path.{◌≡◌, ◌∙◌, refl, sym}
-use lib.ListN.{length, get_or}
-use Rattle.fields.specs.inner.Again.{earlier}
+use mathlib.Core.Path.{◌∙◌, refl}
 use Rattle.fields.specs.Names.{name_at}
-use Rattle.walk.specs.inner.Gathered.{inner_of, outers_of, Rising, Fields, first_of}
 use Rattle.walk.proofs.OpenLaws.{fields_under, rising_next, open_next, open_last}
-use borrow.Author.Rules.{rules}
 use Rattle.walk.proofs.judging.still_open.Goals as goal
 
 pub loop-d-init : goal.loop-d-init
