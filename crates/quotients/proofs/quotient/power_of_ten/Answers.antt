@@ -1,11 +1,10 @@
-use Prim.Native.Nat.{ℕ, ◌+◌, ◌-◌, ◌^◌, ◌≤◌}
+use Prim.Native.Nat.{ℕ, ◌-◌, ◌^◌, ◌≤◌}
 use native.Mathlib.Omega.{arith}
 use mathlib.Core.Path.{◌≡◌, sym, ap, ap₂, ◌∙◌, subst}
 use lib.Dec.{T, lit≤}
 use lib.IntN.{pos}
-use lib.Ieee.{Float, binary64, in_float, of_int, mul}
+use lib.Ieee.{binary64, in_float, of_int, mul}
 use Rattle.quotients.proofs.Exact.{in-float, power_small, product}
-use borrow.Author.Rules.{rules}
 use Rattle.quotients.proofs.quotient.power_of_ten.Goals as goal
 
 -- a power that was counted casts exactly
