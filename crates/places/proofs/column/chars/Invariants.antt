@@ -1,12 +1,8 @@
 use Prim.Native.Nat.{◌+◌, ◌-◌, ◌≤◌}
-use native.Mathlib.Omega.{arith}
-use mathlib.Core.Logic.{⊎_elim}
-use mathlib.Core.Path.{◌≡◌, ◌∙◌, sym}
+use mathlib.Core.Path.{◌≡◌}
 use lib.ListN.{length, drop}
 use Rattle.places.specs.Lines.{count}
-use Rattle.places.proofs.LineLaws.{count_more, count_less, count_end}
 use Rattle.places.specs.Columns.{starts_char}
-use borrow.Author.Rules.{rules}
 use Rattle.places.proofs.column.chars.Given as goal
 
 abbrev pub invariant-loop-i : goal.invariant-loop-i

@@ -1,9 +1,5 @@
-use Prim.Native.Nat.{ℕ, ◌-◌}
-use native.Mathlib.Omega.{arith}
-use mathlib.Core.Path.{◌≡◌, ◌∙◌, sym, ap, refl}
-use Rattle.places.specs.Columns.{chars_back, starts_char}
-use Rattle.places.proofs.ColumnLaws.{back_zero, back_enough, back_here, back_char, back_tail}
-use borrow.Author.Rules.{rules}
+use mathlib.Core.Path.{◌≡◌}
+use Rattle.places.specs.Columns.{chars_back}
 use Rattle.places.proofs.column.chars_back.Given as goal
 
 abbrev pub invariant-loop-i : goal.invariant-loop-i

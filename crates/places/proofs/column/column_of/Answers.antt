@@ -4,7 +4,6 @@ use Prim.Native.Nat.{ℕ, ◌+◌}
 use Rattle.places.specs.Lines.{count, between}
 use Rattle.places.specs.Columns.{starts_char, column_of}
 use Rattle.places.proofs.LineLaws.{part_count}
-use borrow.Author.Rules.{rules}
 use Rattle.places.proofs.column.column_of.Goals as goal
 
 pub overflow_add-result : goal.overflow_add-result

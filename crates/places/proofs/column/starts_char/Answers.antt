@@ -1,6 +1,5 @@
 use mathlib.Core.Path.{ap}
 use mathlib.Core.Bool.{not}
-use borrow.Author.Rules.{rules}
 use Rattle.places.proofs.column.starts_char.Goals as goal
 
 pub returns : goal.returns

@@ -2,7 +2,6 @@ use mathlib.Core.Path.{ap}
 use borrow.Author.Tests.{lt-ltb, le-ltb}
 use Rattle.rows.specs.declared.Entry.{Entry}
 use Rattle.places.specs.Entries.{entry_place}
-use borrow.Author.Rules.{rules}
 use Rattle.places.proofs.entry.entry_place.Goals as goal
 
 pub returns-then-n-count : goal.returns-then-n-count

@@ -1,6 +1,5 @@
 use mathlib.Core.Path.{sym, ◌∙◌}
 use Rattle.places.specs.Entries.{walk_place}
-use borrow.Author.Rules.{rules}
 use Rattle.places.proofs.entry.walk_place.Goals as goal
 
 pub returns-then-names_entry : goal.returns-then-names_entry

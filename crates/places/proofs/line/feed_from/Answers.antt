@@ -1,6 +1,5 @@
 use native.Mathlib.Omega.{arith}
 use Rattle.places.proofs.LineLaws.{feed_at, feed_within}
-use borrow.Author.Rules.{rules}
 use Rattle.places.proofs.line.feed_from.Goals as goal
 
 pub overflow_add-result : goal.overflow_add-result

@@ -1,12 +1,7 @@
 use Prim.Native.Nat.{◌+◌, ◌-◌, ◌≤◌}
-use native.Mathlib.Omega.{arith}
-use mathlib.Core.Logic.{⊎_elim}
 use mathlib.Core.Path.{◌≡◌}
 use lib.ListN.{length, drop}
-use borrow.Author.Tests.{eq-eqb, ne_eqb}
 use Rattle.places.specs.Lines.{count, line_feed}
-use Rattle.places.proofs.LineLaws.{count_more, count_less, count_end}
-use borrow.Author.Rules.{rules}
 use Rattle.places.proofs.line.feeds.Given as goal
 
 abbrev pub invariant-loop-i : goal.invariant-loop-i

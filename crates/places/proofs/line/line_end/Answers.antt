@@ -1,6 +1,5 @@
 use mathlib.Core.Path.{◌∙◌, sym}
 use Rattle.places.proofs.LineLaws.{end_zero, end_cr, end_other}
-use borrow.Author.Rules.{rules}
 use Rattle.places.proofs.line.line_end.Goals as goal
 
 pub returns-then-e-eq0 : goal.returns-then-e-eq0

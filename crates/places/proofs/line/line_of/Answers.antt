@@ -3,7 +3,6 @@ use mathlib.Core.Path.{◌∙◌, ap}
 use Prim.Native.Nat.{ℕ, ◌+◌}
 use Rattle.places.specs.Lines.{count, line_feed, line_of}
 use Rattle.places.proofs.LineLaws.{part_count}
-use borrow.Author.Rules.{rules}
 use Rattle.places.proofs.line.line_of.Goals as goal
 
 pub overflow_add-result : goal.overflow_add-result

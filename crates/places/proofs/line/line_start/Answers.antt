@@ -3,7 +3,6 @@ use native.Mathlib.Omega.{arith}
 use mathlib.Core.Path.{◌≡◌, ◌∙◌, sym, ap, refl}
 use Rattle.places.specs.Lines.{line_start}
 use Rattle.places.proofs.LineLaws.{start_zero, start_here, start_back}
-use borrow.Author.Rules.{rules}
 use Rattle.places.proofs.line.line_start.Goals as goal
 
 pub loop-i-init : goal.loop-i-init

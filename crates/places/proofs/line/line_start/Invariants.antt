@@ -1,9 +1,5 @@
-use Prim.Native.Nat.{◌-◌}
-use native.Mathlib.Omega.{arith}
-use mathlib.Core.Path.{◌≡◌, ◌∙◌, sym, ap, refl}
+use mathlib.Core.Path.{◌≡◌}
 use Rattle.places.specs.Lines.{line_start}
-use Rattle.places.proofs.LineLaws.{start_zero, start_here, start_back}
-use borrow.Author.Rules.{rules}
 use Rattle.places.proofs.line.line_start.Given as goal
 
 abbrev pub invariant-loop-i : goal.invariant-loop-i

@@ -1,6 +1,5 @@
 use Rattle.places.specs.Shown.{control}
 use borrow.Author.Tests.{le-leb, lt-leb}
-use borrow.Author.Rules.{rules}
 use Rattle.places.proofs.shown.is_control.Goals as goal
 
 pub returns-then-c-le31 : goal.returns-then-c-le31

@@ -1,6 +1,5 @@
 use Rattle.places.specs.Shown.{hidden}
 use mathlib.Core.Path.{sym, ◌∙◌}
-use borrow.Author.Rules.{rules}
 use Rattle.places.proofs.shown.is_hidden.Goals as goal
 
 pub returns-then-is_between : goal.returns-then-is_between

@@ -1,6 +1,5 @@
 use Rattle.places.specs.Shown.{shown}
 use mathlib.Core.Path.{sym, ◌∙◌}
-use borrow.Author.Rules.{rules}
 use Rattle.places.proofs.shown.is_shown.Goals as goal
 
 pub returns-then-is_control : goal.returns-then-is_control
