@@ -64,14 +64,14 @@ def main(argv):
                     print("look:", p, m[0], callee)
                     return m[0]
                 muts, clauses = rows[0]
-                if kind == "new":
+                if kind in ("new", "auto"):
                     n = 0
                     while n < len(rest) and rest[n] == "1":
                         n += 1
                     if n >= len(muts) or n >= len(rest):
                         print("look:", p, m[0], callee, muts)
                         return m[0]
-                    return ".".join(["c", step, "new", muts[n], *rest[n + 1 :]])
+                    return ".".join(["c", step, kind, muts[n], *rest[n + 1 :]])
                 if len(clauses) < 2:
                     return m[0]
                 k, left = nested(rest, len(clauses))
@@ -80,7 +80,7 @@ def main(argv):
                     return m[0]
                 return ".".join(["c", step, "ensures", clauses[k], *left])
 
-            new = re.sub(r"(?<![\w.'-])c\.([^\s(){}.;,@\"«»\[\]|]+)\.(new|ensures)((?:\.\d+)+)", turn, t)
+            new = re.sub(r"(?<![\w.'-])c\.([^\s(){}.;,@\"«»\[\]|]+)\.(new|auto|ensures)((?:\.\d+)+)", turn, t)
             if new != t:
                 total += 1
                 open(p, "w", encoding="utf-8").write(new)

@@ -49,7 +49,7 @@ pieces-requires c =
     let links : List ℕ = c.args.links.now in
     let first : List ℕ = first_word words in
     let rest : List ℕ = behind_word words in
-    (leb-true _ _ (sym c.fit.ensures ∙ c.if-not-fit.false), omega (arith, (hex_fits rest (length text) c.in-Bytes.n (said (λ (w : List ℕ). hex_in w (length text)) _ rest _ _ c.bytes-bytes.ensures.value c.behind.ensures c.in-Bytes.is)).1, c.bytes-bytes.auto.1.0))
+    (leb-true _ _ (sym c.fit.ensures ∙ c.if-not-fit.false), omega (arith, (hex_fits rest (length text) c.in-Bytes.n (said (λ (w : List ℕ). hex_in w (length text)) _ rest _ _ c.bytes-bytes.ensures.value c.behind.ensures c.in-Bytes.is)).1, c.bytes-bytes.auto.buf))
 
 pub returns : goal.returns
 returns c =

@@ -10,5 +10,5 @@ returns c =
     let s : Stand = c.args.s in
     record {
       at_after = turned_said s c.args.n c.args.text.now (room_of (length c.args.tape.now)) c.requires.0 c.requires.1 _ c.shift.ensures (c.args.o.now, s.at) _ c.piece-r.ensures.at_after;
-      turned = turned s c.args.n c.args.text.now (room_of (length c.args.tape.now)) c.requires.0 c.requires.1 _ c.shift.ensures _ c.piece-r.ensures.buffer_after c.piece-r.auto.1.0 _ c.piece-r.ensures.state_value _ c.least.ensures c.piece-r.result.at;
+      turned = turned s c.args.n c.args.text.now (room_of (length c.args.tape.now)) c.requires.0 c.requires.1 _ c.shift.ensures _ c.piece-r.ensures.buffer_after c.piece-r.auto.buffer _ c.piece-r.ensures.state_value _ c.least.ensures c.piece-r.result.at;
     }

@@ -3,10 +3,10 @@ use borrow.Author.Rules.{rules}
 use Rattle.read.proofs.pass.put.Goals as goal
 
 pub returns-then-not-on : goal.returns-then-not-on
-returns-then-not-on c = rw (not-true _ c.if-not-on.true)
+returns-then-not-on c = rw c.if-not-on.true
 
 pub write-requires : goal.write-requires
-write-requires c = c.requires (not-false _ c.if-not-on.false)
+write-requires c = c.requires c.if-not-on.false
 
 pub returns : goal.returns
-returns c = rw (not-false _ c.if-not-on.false) c.write.ensures
+returns c = rw c.if-not-on.false c.write.ensures
