@@ -18,10 +18,12 @@ returns-in-Accepted c =
     let t : List ℕ = c.args.tape.now in
     let links : List ℕ = c.args.links.now in
     let answer : Told ℕ = read_answer s (length t) in
-    let out : List ℕ × ℕ = (c.args.o.now, 0) in (
-      explained_accepted s t _ c.read-r.result c.read-r.ensures.0 c.read-r.ensures.1 out _ (length links) c.in-Accepted.n c.in-Accepted.is c.walked.ensures.said,
-      (c.read-r.ensures.1, links_accepted s _ links _ answer c.read-r.result c.read-r.ensures.0 c.in-Accepted.n c.in-Accepted.is c.walked.ensures.left),
-    )
+    let out : List ℕ × ℕ = (c.args.o.now, 0) in
+    record {
+      said = explained_accepted s t _ c.read-r.result c.read-r.ensures.0 c.read-r.ensures.1 out _ (length links) c.in-Accepted.n c.in-Accepted.is c.walked.ensures.said;
+      tape = c.read-r.ensures.1;
+      left = links_accepted s _ links _ answer c.read-r.result c.read-r.ensures.0 c.in-Accepted.n c.in-Accepted.is c.walked.ensures.left;
+    }
 
 pub returns-in-Refused : goal.returns-in-Refused
 returns-in-Refused c =
@@ -29,7 +31,9 @@ returns-in-Refused c =
     let t : List ℕ = c.args.tape.now in
     let links : List ℕ = c.args.links.now in
     let answer : Told ℕ = read_answer s (length t) in
-    let out : List ℕ × ℕ = (c.args.o.now, 0) in (
-      explained_refused s t _ c.read-r.result c.read-r.ensures.0 c.read-r.ensures.1 out _ (length links) c.in-Refused.f c.in-Refused.is c.read_begun.result c.read_begun.ensures c.refused.ensures,
-      (c.read-r.ensures.1, links_refused s _ links _ answer c.read-r.result c.read-r.ensures.0 c.in-Refused.f c.in-Refused.is refl),
-    )
+    let out : List ℕ × ℕ = (c.args.o.now, 0) in
+    record {
+      said = explained_refused s t _ c.read-r.result c.read-r.ensures.0 c.read-r.ensures.1 out _ (length links) c.in-Refused.f c.in-Refused.is c.read_begun.result c.read_begun.ensures c.refused.ensures;
+      tape = c.read-r.ensures.1;
+      left = links_refused s _ links _ answer c.read-r.result c.read-r.ensures.0 c.in-Refused.f c.in-Refused.is refl;
+    }

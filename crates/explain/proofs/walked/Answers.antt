@@ -13,10 +13,11 @@ returns-in-Walked c =
     let t : List ℕ = c.args.tape.now in
     let n : ℕ = c.args.count in
     let answer : Told Unit = walk_of s t n 128 (length c.args.links.now) in
-    let out : List ℕ × ℕ = (c.args.o.now, 0) in (
-      walked_accepted s t n answer c.walk-r.result c.walk-r.ensures.answer out _ c.in-Walked.is c.deepest.result c.deepest.ensures c.accepted.ensures,
-      c.walk-r.ensures.left,
-    )
+    let out : List ℕ × ℕ = (c.args.o.now, 0) in
+    record {
+      said = walked_accepted s t n answer c.walk-r.result c.walk-r.ensures.answer out _ c.in-Walked.is c.deepest.result c.deepest.ensures c.accepted.ensures;
+      left = c.walk-r.ensures.left;
+    }
 
 pub returns-in-Refused : goal.returns-in-Refused
 returns-in-Refused c =
@@ -24,7 +25,8 @@ returns-in-Refused c =
     let t : List ℕ = c.args.tape.now in
     let n : ℕ = c.args.count in
     let answer : Told Unit = walk_of s t n 128 (length c.args.links.now) in
-    let out : List ℕ × ℕ = (c.args.o.now, 0) in (
-      walked_refused s t n answer c.walk-r.result c.walk-r.ensures.answer out _ c.in-Refused.f c.in-Refused.is c.walk_place-place.result c.walk_begun-begun.result c.walk_place-place.ensures c.walk_begun-begun.ensures c.refused.ensures,
-      c.walk-r.ensures.left,
-    )
+    let out : List ℕ × ℕ = (c.args.o.now, 0) in
+    record {
+      said = walked_refused s t n answer c.walk-r.result c.walk-r.ensures.answer out _ c.in-Refused.f c.in-Refused.is c.walk_place-place.result c.walk_begun-begun.result c.walk_place-place.ensures c.walk_begun-begun.ensures c.refused.ensures;
+      left = c.walk-r.ensures.left;
+    }

@@ -14,4 +14,9 @@ pub returns-then-width-gt8 : goal.returns-then-width-gt8
 returns-then-width-gt8 c = rw (width_high c.args.text.now c.args.place c.args.width c.if-width-gt8.true) (c.refused-then-width-gt8.ensures ∙ ap refusal_word c.unfit_in-then-width-gt8.ensures, refl)
 
 pub returns : goal.returns
-returns c = let e = c.integer.ensures ∙ ap (integer_of c.args.text.now c.args.place) c.width_at.ensures ∙ sym (width_fit c.args.text.now c.args.place c.args.width c.if-width-lt1.false c.if-width-gt8.false) in (c.word.ensures.0 ∙ ap (packed typed_word) e, c.word.ensures.1 ∙ ap (λ t. lent_after magnitude_of t c.args.magnitude.now) e)
+returns c =
+    let e = c.integer.ensures ∙ ap (integer_of c.args.text.now c.args.place) c.width_at.ensures ∙ sym (width_fit c.args.text.now c.args.place c.args.width c.if-width-lt1.false c.if-width-gt8.false) in
+    record {
+      answer = c.word.ensures.0 ∙ ap (packed typed_word) e;
+      number = c.word.ensures.1 ∙ ap (λ t. lent_after magnitude_of t c.args.magnitude.now) e;
+    }

@@ -5,4 +5,10 @@ use borrow.Author.Rules.{rules}
 use Rattle.sarridok_c.proofs.repair_c.sarridok_repair.Goals as goal
 
 pub returns : goal.returns
-returns c = (c.word.ensures.0 ∙ ap (packed repaired_word) c.repair.ensures.0, (c.repair.ensures.1, (c.word.ensures.1 ∙ ap (λ t. lent_after before_of t c.args.before.now) c.repair.ensures.0, c.word.ensures.2 ∙ ap (λ t. lent_after behind_of t c.args.behind.now) c.repair.ensures.0)))
+returns c =
+    record {
+      answer = c.word.ensures.0 ∙ ap (packed repaired_word) c.repair.ensures.0;
+      entries = c.repair.ensures.1;
+      before = c.word.ensures.1 ∙ ap (λ t. lent_after before_of t c.args.before.now) c.repair.ensures.0;
+      behind = c.word.ensures.2 ∙ ap (λ t. lent_after behind_of t c.args.behind.now) c.repair.ensures.0;
+    }

@@ -5,4 +5,9 @@ use borrow.Author.Rules.{rules}
 use Rattle.sarridok_c.proofs.skip_c.sarridok_skip.Goals as goal
 
 pub returns : goal.returns
-returns c = (c.word.ensures.0 ∙ ap (packed cursor_word) c.skip.ensures, (c.word.ensures.1 ∙ ap (λ t. lent_after pre_of t c.args.new-pre-ws-cursor.now) c.skip.ensures, c.word.ensures.2 ∙ ap (λ t. lent_after length_of t c.args.new-last-ws-len.now) c.skip.ensures))
+returns c =
+    record {
+      answer = c.word.ensures.0 ∙ ap (packed cursor_word) c.skip.ensures;
+      pre = c.word.ensures.1 ∙ ap (λ t. lent_after pre_of t c.args.new-pre-ws-cursor.now) c.skip.ensures;
+      len = c.word.ensures.2 ∙ ap (λ t. lent_after length_of t c.args.new-last-ws-len.now) c.skip.ensures;
+    }
