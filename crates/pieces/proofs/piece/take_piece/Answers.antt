@@ -16,7 +16,7 @@ pub limit-most-requires : goal.limit-most-requires
 limit-most-requires c =
     let a = c.args in
     let o = ordered a.state c.requires.order in
-    (o.part-kept, omega (arith, o.behind), o.few, omega (arith, length-take-le (a.state.kept + a.n) a.buffer.now c.requires.there))
+    (o.part_kept, omega (arith, o.behind), o.few, omega (arith, length-take-le (a.state.kept + a.n) a.buffer.now c.requires.there))
 
 pub slice_bounds-come-end : goal.slice_bounds-come-end
 slice_bounds-come-end c =
@@ -35,7 +35,7 @@ come-came-requires c =
     let a = c.args in
     let l = limited a.state a.buffer.now a.n c.requires c.limit-most.result c.limit-most.ensures in
     let o = ordered a.state c.requires.order in (
-      omega (arith, l.whole-inside, l.long),
+      omega (arith, l.whole_inside, l.long),
       omega (arith, l.held, l.long),
       omega (arith, l.small, l.long, o.behind),
       open_more a.state.gap a.state.taken 65536 o.few o.opened,
@@ -91,14 +91,14 @@ overflow_add-base c =
     let a = c.args in
     let l = limited a.state a.buffer.now a.n c.requires c.limit-most.result c.limit-most.ensures in
     let f = found a.state a.buffer.now a.n c.requires c.limit-most.result c.limit-most.ensures c.come-came.result c.come-came.ensures in
-    omega (arith, f.end-in, l.small)
+    omega (arith, f.end_in, l.small)
 
 pub overflow_add-base-then-refusal-ne0 : goal.overflow_add-base-then-refusal-ne0
 overflow_add-base-then-refusal-ne0 c =
     let a = c.args in
     let l = limited a.state a.buffer.now a.n c.requires c.limit-most.result c.limit-most.ensures in
     let f = found a.state a.buffer.now a.n c.requires c.limit-most.result c.limit-most.ensures c.come-came.result c.come-came.ensures in
-    omega (arith, f.bytes-in, l.small)
+    omega (arith, f.bytes_in, l.small)
 
 pub returns-then-refusal-ne0 : goal.returns-then-refusal-ne0
 returns-then-refusal-ne0 c =
@@ -130,7 +130,7 @@ pub overflow_sub-next : goal.overflow_sub-next
 overflow_sub-next c =
     let a = c.args in
     let l = limited a.state a.buffer.now a.n c.requires c.limit-most.result c.limit-most.ensures in
-    l.whole-inside
+    l.whole_inside
 
 pub returns : goal.returns
 returns c =
