@@ -11,37 +11,37 @@ use Rattle.read.proofs.PassLaws.{few_entries}
 use Rattle.repair.proofs.repairer.repair_text.Goals as goal
 
 pub returns-then-not-repair_fits : goal.returns-then-not-repair_fits
-returns-then-not-repair_fits c = let w = out_unfit c.args.tape.now c.args.count c.args.old-len c.args.a c.args.b c.args.text.now (sym c.repair_fits.ensures ∙ c.if-not-repair_fits.true) in (ap refused c.not_in_order.ensures ∙ w.0, w.1)
+returns-then-not-repair_fits c = let w = out_unfit c.args.tape.now c.args.count c.args.old_len c.args.a c.args.b c.args.text.now (sym c.repair_fits.ensures ∙ c.if-not-repair_fits.true) in (ap refused c.not_in_order.ensures ∙ w.0, w.1)
 
 pub overflow_sub-e : goal.overflow_sub-e
-overflow_sub-e c = let fit = fits_true c.args.tape.now c.args.count c.args.old-len c.args.a c.args.b (length c.args.text.now) (sym c.repair_fits.ensures ∙ c.if-not-repair_fits.false) in fit.cuts.in_old
+overflow_sub-e c = let fit = fits_true c.args.tape.now c.args.count c.args.old_len c.args.a c.args.b (length c.args.text.now) (sym c.repair_fits.ensures ∙ c.if-not-repair_fits.false) in fit.cuts.in_old
 
 pub overflow_sub-e-2 : goal.overflow_sub-e-2
-overflow_sub-e-2 c = let fit = fits_true c.args.tape.now c.args.count c.args.old-len c.args.a c.args.b (length c.args.text.now) (sym c.repair_fits.ensures ∙ c.if-not-repair_fits.false) in omega (arith, fit.cuts.in_old, fit.cuts.lengths)
+overflow_sub-e-2 c = let fit = fits_true c.args.tape.now c.args.count c.args.old_len c.args.a c.args.b (length c.args.text.now) (sym c.repair_fits.ensures ∙ c.if-not-repair_fits.false) in omega (arith, fit.cuts.in_old, fit.cuts.lengths)
 
 pub slice_bounds-last_quiet-end : goal.slice_bounds-last_quiet-end
-slice_bounds-last_quiet-end c = let fit = fits_true c.args.tape.now c.args.count c.args.old-len c.args.a c.args.b (length c.args.text.now) (sym c.repair_fits.ensures ∙ c.if-not-repair_fits.false) in omega (arith, cut_inside c.args.tape.now c.args.count c.args.old-len c.args.a c.args.b c.args.text.now fit)
+slice_bounds-last_quiet-end c = let fit = fits_true c.args.tape.now c.args.count c.args.old_len c.args.a c.args.b (length c.args.text.now) (sym c.repair_fits.ensures ∙ c.if-not-repair_fits.false) in omega (arith, cut_inside c.args.tape.now c.args.count c.args.old_len c.args.a c.args.b c.args.text.now fit)
 
 pub ends_before-j-requires : goal.ends_before-j-requires
-ends_before-j-requires c = let fit = fits_true c.args.tape.now c.args.count c.args.old-len c.args.a c.args.b (length c.args.text.now) (sym c.repair_fits.ensures ∙ c.if-not-repair_fits.false) in (fit.room, (c.args.old-len, fit.sorted))
+ends_before-j-requires c = let fit = fits_true c.args.tape.now c.args.count c.args.old_len c.args.a c.args.b (length c.args.text.now) (sym c.repair_fits.ensures ∙ c.if-not-repair_fits.false) in (fit.room, (c.args.old_len, fit.sorted))
 
 pub resume_at-from-requires : goal.resume_at-from-requires
-resume_at-from-requires c = let fit = fits_true c.args.tape.now c.args.count c.args.old-len c.args.a c.args.b (length c.args.text.now) (sym c.repair_fits.ensures ∙ c.if-not-repair_fits.false) in let ej = kept_is c.args.tape.now c.args.count c.args.old-len c.args.a c.args.b c.args.text.now fit _ _ c.last_quiet-q.ensures c.ends_before-j.ensures in omega (arith, ej, kept_le c.args.tape.now c.args.count c.args.old-len c.args.a c.args.b c.args.text.now fit, fit.room)
+resume_at-from-requires c = let fit = fits_true c.args.tape.now c.args.count c.args.old_len c.args.a c.args.b (length c.args.text.now) (sym c.repair_fits.ensures ∙ c.if-not-repair_fits.false) in let ej = kept_is c.args.tape.now c.args.count c.args.old_len c.args.a c.args.b c.args.text.now fit _ _ c.last_quiet-q.ensures c.ends_before-j.ensures in omega (arith, ej, kept_le c.args.tape.now c.args.count c.args.old_len c.args.a c.args.b c.args.text.now fit, fit.room)
 
 pub find_join-found-requires : goal.find_join-found-requires
-find_join-found-requires c = let fit = fits_true c.args.tape.now c.args.count c.args.old-len c.args.a c.args.b (length c.args.text.now) (sym c.repair_fits.ensures ∙ c.if-not-repair_fits.false) in let ej = kept_is c.args.tape.now c.args.count c.args.old-len c.args.a c.args.b c.args.text.now fit _ _ c.last_quiet-q.ensures c.ends_before-j.ensures in let ep = from_is c.args.tape.now c.args.count c.args.old-len c.args.a c.args.b c.args.text.now fit _ _ ej c.resume_at-from.ensures in (c.requires, omega (arith, ep, resume_inside c.args.tape.now c.args.count c.args.old-len c.args.a c.args.b c.args.text.now fit), fit.room, omega (arith, fit.cuts.in_old, fit.cuts.lengths), kept_early c.args.tape.now c.args.count c.args.old-len c.args.a c.args.b c.args.text.now fit _ ej)
+find_join-found-requires c = let fit = fits_true c.args.tape.now c.args.count c.args.old_len c.args.a c.args.b (length c.args.text.now) (sym c.repair_fits.ensures ∙ c.if-not-repair_fits.false) in let ej = kept_is c.args.tape.now c.args.count c.args.old_len c.args.a c.args.b c.args.text.now fit _ _ c.last_quiet-q.ensures c.ends_before-j.ensures in let ep = from_is c.args.tape.now c.args.count c.args.old_len c.args.a c.args.b c.args.text.now fit _ _ ej c.resume_at-from.ensures in (c.requires, omega (arith, ep, resume_inside c.args.tape.now c.args.count c.args.old_len c.args.a c.args.b c.args.text.now fit), fit.room, omega (arith, fit.cuts.in_old, fit.cuts.lengths), kept_early c.args.tape.now c.args.count c.args.old_len c.args.a c.args.b c.args.text.now fit _ ej)
 
 pub overflow_sub-f : goal.overflow_sub-f
-overflow_sub-f c = let fit = fits_true c.args.tape.now c.args.count c.args.old-len c.args.a c.args.b (length c.args.text.now) (sym c.repair_fits.ensures ∙ c.if-not-repair_fits.false) in let ej = kept_is c.args.tape.now c.args.count c.args.old-len c.args.a c.args.b c.args.text.now fit _ _ c.last_quiet-q.ensures c.ends_before-j.ensures in let ep = from_is c.args.tape.now c.args.count c.args.old-len c.args.a c.args.b c.args.text.now fit _ _ ej c.resume_at-from.ensures in let es = sym (found_is c.args.tape.now c.args.count c.args.old-len c.args.a c.args.b c.args.text.now fit _ _ ep c.find_join-found.ensures) ∙ c.in-Found.is in omega (arith, ej, join_behind c.args.tape.now c.args.count c.args.old-len c.args.a c.args.b c.args.text.now fit _ _ es)
+overflow_sub-f c = let fit = fits_true c.args.tape.now c.args.count c.args.old_len c.args.a c.args.b (length c.args.text.now) (sym c.repair_fits.ensures ∙ c.if-not-repair_fits.false) in let ej = kept_is c.args.tape.now c.args.count c.args.old_len c.args.a c.args.b c.args.text.now fit _ _ c.last_quiet-q.ensures c.ends_before-j.ensures in let ep = from_is c.args.tape.now c.args.count c.args.old_len c.args.a c.args.b c.args.text.now fit _ _ ej c.resume_at-from.ensures in let es = sym (found_is c.args.tape.now c.args.count c.args.old_len c.args.a c.args.b c.args.text.now fit _ _ ep c.find_join-found.ensures) ∙ c.in-Found.is in omega (arith, ej, join_behind c.args.tape.now c.args.count c.args.old_len c.args.a c.args.b c.args.text.now fit _ _ es)
 
 pub overflow_sub-m : goal.overflow_sub-m
-overflow_sub-m c = let fit = fits_true c.args.tape.now c.args.count c.args.old-len c.args.a c.args.b (length c.args.text.now) (sym c.repair_fits.ensures ∙ c.if-not-repair_fits.false) in let ej = kept_is c.args.tape.now c.args.count c.args.old-len c.args.a c.args.b c.args.text.now fit _ _ c.last_quiet-q.ensures c.ends_before-j.ensures in let ep = from_is c.args.tape.now c.args.count c.args.old-len c.args.a c.args.b c.args.text.now fit _ _ ej c.resume_at-from.ensures in let es = sym (found_is c.args.tape.now c.args.count c.args.old-len c.args.a c.args.b c.args.text.now fit _ _ ep c.find_join-found.ensures) ∙ c.in-Found.is in join_le c.args.tape.now c.args.count c.args.old-len c.args.a c.args.b c.args.text.now fit _ _ es
+overflow_sub-m c = let fit = fits_true c.args.tape.now c.args.count c.args.old_len c.args.a c.args.b (length c.args.text.now) (sym c.repair_fits.ensures ∙ c.if-not-repair_fits.false) in let ej = kept_is c.args.tape.now c.args.count c.args.old_len c.args.a c.args.b c.args.text.now fit _ _ c.last_quiet-q.ensures c.ends_before-j.ensures in let ep = from_is c.args.tape.now c.args.count c.args.old_len c.args.a c.args.b c.args.text.now fit _ _ ej c.resume_at-from.ensures in let es = sym (found_is c.args.tape.now c.args.count c.args.old_len c.args.a c.args.b c.args.text.now fit _ _ ep c.find_join-found.ensures) ∙ c.in-Found.is in join_le c.args.tape.now c.args.count c.args.old_len c.args.a c.args.b c.args.text.now fit _ _ es
 
 pub finish-requires : goal.finish-requires
-finish-requires c = let fit = fits_true c.args.tape.now c.args.count c.args.old-len c.args.a c.args.b (length c.args.text.now) (sym c.repair_fits.ensures ∙ c.if-not-repair_fits.false) in let ej = kept_is c.args.tape.now c.args.count c.args.old-len c.args.a c.args.b c.args.text.now fit _ _ c.last_quiet-q.ensures c.ends_before-j.ensures in let ep = from_is c.args.tape.now c.args.count c.args.old-len c.args.a c.args.b c.args.text.now fit _ _ ej c.resume_at-from.ensures in let es = sym (found_is c.args.tape.now c.args.count c.args.old-len c.args.a c.args.b c.args.text.now fit _ _ ep c.find_join-found.ensures) ∙ c.in-Found.is in let few = few_new c.args.tape.now c.args.count c.args.old-len c.args.a c.args.b c.args.text.now fit _ _ es _ ep in let less = few_entries c.args.text.now c.resume_at-from.result in (c.requires, omega (arith, ep, resume_inside c.args.tape.now c.args.count c.args.old-len c.args.a c.args.b c.args.text.now fit), few, omega (arith, ej, fit.room, join_behind c.args.tape.now c.args.count c.args.old-len c.args.a c.args.b c.args.text.now fit _ _ es, join_le c.args.tape.now c.args.count c.args.old-len c.args.a c.args.b c.args.text.now fit _ _ es), omega (arith, few, less, c.requires), behind_movable c.args.tape.now c.args.count c.args.old-len c.args.a c.args.b c.args.text.now fit _ _ es c.requires _ ej)
+finish-requires c = let fit = fits_true c.args.tape.now c.args.count c.args.old_len c.args.a c.args.b (length c.args.text.now) (sym c.repair_fits.ensures ∙ c.if-not-repair_fits.false) in let ej = kept_is c.args.tape.now c.args.count c.args.old_len c.args.a c.args.b c.args.text.now fit _ _ c.last_quiet-q.ensures c.ends_before-j.ensures in let ep = from_is c.args.tape.now c.args.count c.args.old_len c.args.a c.args.b c.args.text.now fit _ _ ej c.resume_at-from.ensures in let es = sym (found_is c.args.tape.now c.args.count c.args.old_len c.args.a c.args.b c.args.text.now fit _ _ ep c.find_join-found.ensures) ∙ c.in-Found.is in let few = few_new c.args.tape.now c.args.count c.args.old_len c.args.a c.args.b c.args.text.now fit _ _ es _ ep in let less = few_entries c.args.text.now c.resume_at-from.result in (c.requires, omega (arith, ep, resume_inside c.args.tape.now c.args.count c.args.old_len c.args.a c.args.b c.args.text.now fit), few, omega (arith, ej, fit.room, join_behind c.args.tape.now c.args.count c.args.old_len c.args.a c.args.b c.args.text.now fit _ _ es, join_le c.args.tape.now c.args.count c.args.old_len c.args.a c.args.b c.args.text.now fit _ _ es), omega (arith, few, less, c.requires), behind_movable c.args.tape.now c.args.count c.args.old_len c.args.a c.args.b c.args.text.now fit _ _ es c.requires _ ej)
 
 pub returns-in-Refused : goal.returns-in-Refused
-returns-in-Refused c = let fit = fits_true c.args.tape.now c.args.count c.args.old-len c.args.a c.args.b (length c.args.text.now) (sym c.repair_fits.ensures ∙ c.if-not-repair_fits.false) in let ej = kept_is c.args.tape.now c.args.count c.args.old-len c.args.a c.args.b c.args.text.now fit _ _ c.last_quiet-q.ensures c.ends_before-j.ensures in let ep = from_is c.args.tape.now c.args.count c.args.old-len c.args.a c.args.b c.args.text.now fit _ _ ej c.resume_at-from.ensures in let es = sym (found_is c.args.tape.now c.args.count c.args.old-len c.args.a c.args.b c.args.text.now fit _ _ ep c.find_join-found.ensures) ∙ c.in-Refused.is in out_refused c.args.tape.now c.args.count c.args.old-len c.args.a c.args.b c.args.text.now (sym c.repair_fits.ensures ∙ c.if-not-repair_fits.false) _ es
+returns-in-Refused c = let fit = fits_true c.args.tape.now c.args.count c.args.old_len c.args.a c.args.b (length c.args.text.now) (sym c.repair_fits.ensures ∙ c.if-not-repair_fits.false) in let ej = kept_is c.args.tape.now c.args.count c.args.old_len c.args.a c.args.b c.args.text.now fit _ _ c.last_quiet-q.ensures c.ends_before-j.ensures in let ep = from_is c.args.tape.now c.args.count c.args.old_len c.args.a c.args.b c.args.text.now fit _ _ ej c.resume_at-from.ensures in let es = sym (found_is c.args.tape.now c.args.count c.args.old_len c.args.a c.args.b c.args.text.now fit _ _ ep c.find_join-found.ensures) ∙ c.in-Refused.is in out_refused c.args.tape.now c.args.count c.args.old_len c.args.a c.args.b c.args.text.now (sym c.repair_fits.ensures ∙ c.if-not-repair_fits.false) _ es
 
 pub returns-in-Found : goal.returns-in-Found
-returns-in-Found c = let fit = fits_true c.args.tape.now c.args.count c.args.old-len c.args.a c.args.b (length c.args.text.now) (sym c.repair_fits.ensures ∙ c.if-not-repair_fits.false) in let ej = kept_is c.args.tape.now c.args.count c.args.old-len c.args.a c.args.b c.args.text.now fit _ _ c.last_quiet-q.ensures c.ends_before-j.ensures in let ep = from_is c.args.tape.now c.args.count c.args.old-len c.args.a c.args.b c.args.text.now fit _ _ ej c.resume_at-from.ensures in let es = sym (found_is c.args.tape.now c.args.count c.args.old-len c.args.a c.args.b c.args.text.now fit _ _ ep c.find_join-found.ensures) ∙ c.in-Found.is in out_done c.args.tape.now c.args.count c.args.old-len c.args.a c.args.b c.args.text.now (sym c.repair_fits.ensures ∙ c.if-not-repair_fits.false) _ _ es c.requires _ _ ej ep _ _ c.finish.ensures
+returns-in-Found c = let fit = fits_true c.args.tape.now c.args.count c.args.old_len c.args.a c.args.b (length c.args.text.now) (sym c.repair_fits.ensures ∙ c.if-not-repair_fits.false) in let ej = kept_is c.args.tape.now c.args.count c.args.old_len c.args.a c.args.b c.args.text.now fit _ _ c.last_quiet-q.ensures c.ends_before-j.ensures in let ep = from_is c.args.tape.now c.args.count c.args.old_len c.args.a c.args.b c.args.text.now fit _ _ ej c.resume_at-from.ensures in let es = sym (found_is c.args.tape.now c.args.count c.args.old_len c.args.a c.args.b c.args.text.now fit _ _ ep c.find_join-found.ensures) ∙ c.in-Found.is in out_done c.args.tape.now c.args.count c.args.old_len c.args.a c.args.b c.args.text.now (sym c.repair_fits.ensures ∙ c.if-not-repair_fits.false) _ _ es c.requires _ _ ej ep _ _ c.finish.ensures

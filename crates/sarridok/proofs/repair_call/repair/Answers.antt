@@ -5,10 +5,10 @@ use Rattle.repair.proofs.Judging.{call_fit, call_refused}
 use Rattle.sarridok.proofs.repair_call.repair.Goals as goal
 
 pub returns-in-Refused : goal.returns-in-Refused
-returns-in-Refused c = call_refused c.args.tape.now c.args.count c.args.old-len c.args.a c.args.b c.args.text.now _ (sym c.judge-judged.ensures ∙ c.in-Refused.is)
+returns-in-Refused c = call_refused c.args.tape.now c.args.count c.args.old_len c.args.a c.args.b c.args.text.now _ (sym c.judge-judged.ensures ∙ c.in-Refused.is)
 
 pub repair_text-requires : goal.repair_text-requires
 repair_text-requires c = fit_short c.args.text.now (sym c.judge-judged.ensures ∙ c.in_default.is)
 
 pub returns : goal.returns
-returns c = call_fit c.args.tape.now c.args.count c.args.old-len c.args.a c.args.b c.args.text.now (sym c.judge-judged.ensures ∙ c.in_default.is) _ _ c.repair_text.ensures
+returns c = call_fit c.args.tape.now c.args.count c.args.old_len c.args.a c.args.b c.args.text.now (sym c.judge-judged.ensures ∙ c.in_default.is) _ _ c.repair_text.ensures

@@ -8,6 +8,6 @@ pub returns : goal.returns
 returns c =
     record {
       answer = c.word.ensures.0 ∙ ap (packed cursor_word) c.skip.ensures;
-      pre = c.word.ensures.1 ∙ ap (λ t. lent_after pre_of t c.args.new-pre-ws-cursor.now) c.skip.ensures;
-      len = c.word.ensures.2 ∙ ap (λ t. lent_after length_of t c.args.new-last-ws-len.now) c.skip.ensures;
+      pre = c.word.ensures.1 ∙ ap (λ t. lent_after pre_of t c.args.new_pre_ws_cursor.now) c.skip.ensures;
+      len = c.word.ensures.2 ∙ ap (λ t. lent_after length_of t c.args.new_last_ws_len.now) c.skip.ensures;
     }
