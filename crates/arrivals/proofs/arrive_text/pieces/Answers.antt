@@ -42,8 +42,8 @@ loop-i-preserved c =
       c.turn-s.auto.tape ∙ inv.2,
       c.turn-s.auto.o ∙ inv.3,
       c.turn-s.ensures.turned.3,
-      cuts_fit cuts c.loop-i.i n s c.turn-s.result text c.turn-s.new.tape.1.0 room (c.loop-i.o, s.at) (c.turn-s.new.tape.1.1.1.0, c.turn-s.result.at) (c.args.o.now, c.args.at) (omega (arith, inv.0, c.loop-i-test.true)) inv.5 (omega (arith, inv.1, c.requires.1)) _ c.turn-s.ensures.turned,
-      left_goes cuts c.loop-i.i n s c.turn-s.result text c.turn-s.new.tape.1.0 room (c.loop-i.o, s.at) (c.turn-s.new.tape.1.1.1.0, c.turn-s.result.at) _ (omega (arith, inv.0, c.loop-i-test.true)) inv.5 (omega (arith, inv.1, c.requires.1)) _ (ap room_of inv.2) c.turn-s.ensures.turned c.turn-s.ensures.at_after inv.6,
+      cuts_fit cuts c.loop-i.i n s c.turn-s.result text c.turn-s.new.text room (c.loop-i.o, s.at) (c.turn-s.new.o, c.turn-s.result.at) (c.args.o.now, c.args.at) (omega (arith, inv.0, c.loop-i-test.true)) inv.5 (omega (arith, inv.1, c.requires.1)) _ c.turn-s.ensures.turned,
+      left_goes cuts c.loop-i.i n s c.turn-s.result text c.turn-s.new.text room (c.loop-i.o, s.at) (c.turn-s.new.o, c.turn-s.result.at) _ (omega (arith, inv.0, c.loop-i-test.true)) inv.5 (omega (arith, inv.1, c.requires.1)) _ (ap room_of inv.2) c.turn-s.ensures.turned c.turn-s.ensures.at_after inv.6,
     )
 
 pub overflow_sub-n : goal.overflow_sub-n
@@ -69,5 +69,5 @@ returns c =
     let s : Stand = c.loop-i.s in
     let room : ℕ = room_of (length c.args.tape.now) in
     let inv = c.loop-i.invariant in
-    left_ends cuts c.loop-i.i n s c.turn-rest.result text c.turn-rest.new.tape.1.0 room (c.loop-i.o, s.at) (c.turn-rest.new.tape.1.1.1.0, c.turn-rest.result.at) _ (omega (arith, inv.0, c.loop-i-test.false)) (omega (arith, inv.5)) (omega (arith, inv.1, c.requires.1)) _ (ap room_of inv.2)
+    left_ends cuts c.loop-i.i n s c.turn-rest.result text c.turn-rest.new.text room (c.loop-i.o, s.at) (c.turn-rest.new.o, c.turn-rest.result.at) _ (omega (arith, inv.0, c.loop-i-test.false)) (omega (arith, inv.5)) (omega (arith, inv.1, c.requires.1)) _ (ap room_of inv.2)
     c.turn-rest.ensures.turned c.turn-rest.ensures.at_after inv.6 _ _ (ap room_of (c.turn-rest.auto.tape ∙ inv.2)) c.end.ensures
