@@ -2,16 +2,16 @@
 use Prim.Native.Nat.{ℕ, zero, suc, ◌+◌, ◌≤◌, ◌<◌}
 use native.Mathlib.Omega.{arith}
 use native.Mathlib.Nat.{eq-or-lt_of_le}
-use mathlib.Core.Path.{◌≡◌, refl, sym, ap, ◌∙◌}
+use mathlib.Core.Path.{◌≡◌, ap, ◌∙◌}
 use mathlib.Core.Logic.{⊎_elim}
 use mathlib.Core.List.{List, ◌∷◌}
-use mathlib.Core.Bool.{Bool, true, false, ◌&&◌}
+use mathlib.Core.Bool.{true, ◌&&◌}
 use lib.ListN.{length, get_or, drop}
 use lib.Dec.{ltb}
 use lib.Bits.{bit_or, or_lt, or_add_and, and_le_l, and_le_r}
-use borrow.Author.Tests.{ltb-true, ltb-false, lt-ltb, le-ltb}
+use borrow.Author.Tests.{lt-ltb, le-ltb}
 use Rattle.text.specs.Runs.{run, ascii, ascii_for}
-use Rattle.text.proofs.Choices.{bool_cases, either, and_true, lt_or_le}
+use Rattle.text.proofs.Choices.{either, and_true, lt_or_le}
 use Rattle.text.proofs.RunLaws.{run_many}
 
 -- a `|` is below 0x80 exactly when both its numbers are

@@ -1,12 +1,12 @@
 -- Laws of the classes. Assumes nothing.
 use Prim.Native.Nat.{ℕ, ◌≤◌, ◌<◌}
 use native.Mathlib.Omega.{arith}
-use mathlib.Core.Path.{◌≡◌, refl, ap, sym, ◌∙◌}
+use mathlib.Core.Path.{◌≡◌, ap, sym, ◌∙◌}
 use mathlib.Core.List.{List, [], ◌∷◌}
 use mathlib.Core.Bool.{Bool, true, false, cond, ◌&&◌, ◌||◌}
 use lib.ListN.{length, get_or}
-use lib.Dec.{leb, eqb, lit≤}
-use borrow.Author.Tests.{leb-true, le-leb, lt-leb, lt-ltb, ne_eqb, eqb-true}
+use lib.Dec.{eqb, lit≤}
+use borrow.Author.Tests.{lt-ltb, ne_eqb, eqb-true}
 use Rattle.text.specs.Classes.{within, blank1, blank2, blank3, blank_width, digit, ascii_first, ascii_next, ascii_raw, ident_first, ident_next, ident_raw, letter, one_of}
 use Rattle.text.specs.Utf8.{In}
 pub use Rattle.xid.proofs.Ranges.{inside, below, above}

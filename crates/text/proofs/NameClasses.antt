@@ -6,7 +6,7 @@ use mathlib.Core.Bool.{Bool, true, false, cond, true≢false, ◌&&◌, ◌||◌
 use mathlib.Core.List.{[], ◌∷◌}
 use mathlib.Core.Path.{◌∙◌, ◌≡◌, ap, refl, subst, sym}
 use lib.Dec.{eqb}
-use borrow.Author.Tests.{le-ltb, lt-ltb, ne_eqb}
+use borrow.Author.Tests.{le-ltb, ne_eqb}
 use Rattle.text.proofs.Choices.{and_true, either, lt_or_le}
 use Rattle.text.proofs.ClassLaws.{first_ascii, next_ascii, raw_ascii}
 use Rattle.text.specs.Classes.{ascii_first, ascii_next, ascii_raw, digit, ident_first, ident_next, ident_raw, letter, one_of, within}

@@ -4,15 +4,14 @@ use native.Mathlib.Nat.{add-zero, not-suc-le-zero}
 use native.Mathlib.Omega.{arith}
 use mathlib.Core.Path.{◌≡◌, refl, ap, ◌∙◌}
 use mathlib.Core.List.{List, [], ◌∷◌}
-use mathlib.Core.Bool.{Bool, true, false, cond, ◌&&◌}
+use mathlib.Core.Bool.{Bool, true}
 use lib.ListN.{length, get_or, drop, length-drop}
 use lib.Seq.{drop-drop}
 use lib.Dec.{ltb, leb, eqb}
 use borrow.Author.Tests.{ltb-true, leb-true, eqb-true, eqb-false, le-leb}
-use Rattle.text.specs.declared.utf8.Utf8Answer.{Utf8Answer}
 use Rattle.text.specs.declared.utf8.Utf8Answer.TheVariants.{Good, BadAt}
 use Rattle.text.specs.Classes.{within}
-use Rattle.text.specs.Utf8.{tail_byte, second_byte, behind_three, behind_four, width_of, char_len, by_width, utf8_from, utf8_of, In, Tail}
+use Rattle.text.specs.Utf8.{tail_byte, second_byte, behind_three, behind_four, width_of, char_len, by_width, utf8_from, In, Tail}
 use Rattle.text.specs.Runs.{run, ascii}
 use Rattle.text.proofs.Choices.{cond_cases, and_true, bool_cases, either}
 use Rattle.text.proofs.ClassLaws.{within_true}

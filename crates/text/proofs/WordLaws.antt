@@ -7,7 +7,7 @@ use mathlib.Core.Path.{◌≡◌, refl, sym, ap, ◌∙◌}
 use lib.Dec.{eqb, leb}
 use lib.ListN.{length, get_or, drop, drop_of_length-le}
 use lib.Seq.{drop-cons}
-use borrow.Author.Tests.{eq-eqb, eqb-true, le-leb, lt-leb, ne_eqb}
+use borrow.Author.Tests.{eq-eqb, eqb-true, le-leb, ne_eqb}
 use Rattle.text.specs.Words.{starts_with}
 use Rattle.text.proofs.Choices.{and_false, and_one, and_true, bool_cases, either}
 use Rattle.text.proofs.ClassLaws.{all_of}

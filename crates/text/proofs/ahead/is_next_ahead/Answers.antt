@@ -1,4 +1,4 @@
-use mathlib.Core.Path.{◌≡◌, sym, ◌∙◌}
+use mathlib.Core.Path.{sym, ◌∙◌}
 use Rattle.text.proofs.AheadLaws.{ahead_ascii, ahead_nil}
 use borrow.Author.Rules.{rules}
 use Rattle.text.proofs.ahead.is_next_ahead.Goals as goal

@@ -1,12 +1,11 @@
 use Prim.Native.Nat.{ℕ}
 use mathlib.Core.Bool.{Bool, cond}
-use mathlib.Core.Path.{◌≡◌, sym, ap, ◌∙◌}
+use mathlib.Core.Path.{sym, ap, ◌∙◌}
 use lib.Dec.{ltb}
 use Rattle.text.proofs.NameClasses.{usual_next}
 use Rattle.text.specs.Ahead.{char_if, next_ahead}
 use Rattle.text.specs.Classes.{ident_next}
 use Rattle.text.specs.Utf8.{char_len}
-use borrow.Author.Rules.{rules}
 use Rattle.text.proofs.ahead.is_wide_next.Goals as goal
 
 pub returns-then-is_usual : goal.returns-then-is_usual

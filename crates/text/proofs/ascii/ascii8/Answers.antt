@@ -1,5 +1,4 @@
 use native.Mathlib.Nat.{add-zero}
-use borrow.Author.Rules.{rules}
 use Rattle.text.proofs.AsciiLaws.{or_ascii}
 use Rattle.text.specs.Runs.{ascii_for}
 use Rattle.text.proofs.ascii.ascii8.Goals as goal

@@ -1,11 +1,10 @@
-use Prim.Native.Nat.{◌+◌, ◌-◌, ◌≤◌}
 use native.Mathlib.Omega.{arith}
-use mathlib.Core.Path.{◌≡◌, refl}
-use lib.ListN.{drop, length, get_or}
+use mathlib.Core.Path.{refl}
+use lib.ListN.{get_or}
 use borrow.Author.Rules.{rules}
 use borrow.Author.Tests.{le-ltb, lt-ltb}
 use Rattle.text.proofs.RunLaws.{run_end, run_more, run_out}
-use Rattle.text.specs.Runs.{ascii, run}
+use Rattle.text.specs.Runs.{ascii}
 use Rattle.text.proofs.ascii.run1.Goals as goal
 
 pub loop-i-init : goal.loop-i-init

@@ -1,10 +1,6 @@
 use Prim.Native.Nat.{◌+◌, ◌-◌, ◌≤◌}
-use native.Mathlib.Omega.{arith}
-use mathlib.Core.Path.{◌≡◌, refl}
-use lib.ListN.{drop, length, get_or}
-use borrow.Author.Rules.{rules}
-use borrow.Author.Tests.{le-ltb, lt-ltb}
-use Rattle.text.proofs.RunLaws.{run_end, run_more, run_out}
+use mathlib.Core.Path.{◌≡◌}
+use lib.ListN.{drop, length}
 use Rattle.text.specs.Runs.{ascii, run}
 use Rattle.text.proofs.ascii.run1.Given as goal
 

@@ -1,11 +1,7 @@
-use Prim.Native.Nat.{◌+◌, ◌-◌, ◌≤◌}
 use native.Mathlib.Omega.{arith}
-use mathlib.Core.Path.{◌∙◌, ◌≡◌, refl, sym}
-use lib.ListN.{drop, length}
+use mathlib.Core.Path.{◌∙◌, refl, sym}
 use borrow.Author.Rules.{rules}
-use borrow.Author.Tests.{not-false}
 use Rattle.text.proofs.AsciiLaws.{ascii_many}
-use Rattle.text.specs.Runs.{ascii, run}
 use Rattle.text.proofs.ascii.run8.Goals as goal
 
 pub loop-i-init : goal.loop-i-init

@@ -1,10 +1,6 @@
 use Prim.Native.Nat.{◌+◌, ◌-◌, ◌≤◌}
-use native.Mathlib.Omega.{arith}
-use mathlib.Core.Path.{◌∙◌, ◌≡◌, refl, sym}
+use mathlib.Core.Path.{◌≡◌}
 use lib.ListN.{drop, length}
-use borrow.Author.Rules.{rules}
-use borrow.Author.Tests.{not-false}
-use Rattle.text.proofs.AsciiLaws.{ascii_many}
 use Rattle.text.specs.Runs.{ascii, run}
 use Rattle.text.proofs.ascii.run8.Given as goal
 

@@ -1,4 +1,3 @@
-use borrow.Author.Rules.{rules}
 use borrow.Author.Tests.{ne_eqb}
 use Rattle.text.proofs.ClassLaws.{above, below, blank_ascii, inside}
 use Rattle.text.specs.Classes.{blank1, within}

@@ -1,5 +1,4 @@
 use mathlib.Core.Path.{sym, ◌∙◌}
-use borrow.Author.Rules.{rules}
 use Rattle.text.specs.Classes.{ascii_first}
 use Rattle.text.proofs.classes.is_ascii_first.Goals as goal
 

@@ -1,5 +1,4 @@
 use mathlib.Core.Path.{sym, ◌∙◌}
-use borrow.Author.Rules.{rules}
 use Rattle.text.specs.Classes.{digit, ascii_next}
 use Rattle.text.proofs.classes.is_ascii_next.Goals as goal
 

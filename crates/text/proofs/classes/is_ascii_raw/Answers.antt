@@ -1,4 +1,3 @@
-use borrow.Author.Rules.{rules}
 use borrow.Author.Tests.{eq-eqb, ne_eqb}
 use Rattle.text.specs.Classes.{ascii_raw}
 use Rattle.text.proofs.classes.is_ascii_raw.Goals as goal

@@ -1,4 +1,3 @@
-use borrow.Author.Rules.{rules}
 use Rattle.text.specs.Classes.{digit}
 use Rattle.text.proofs.classes.is_digit.Goals as goal
 

@@ -1,5 +1,3 @@
-use mathlib.Core.Path.{◌≡◌, sym, ◌∙◌}
-use borrow.Author.Rules.{rules}
 use borrow.Author.Tests.{lt-ltb, le-ltb}
 use Rattle.text.specs.Classes.{ident_next}
 use Rattle.text.proofs.classes.is_ident_next_char.Goals as goal

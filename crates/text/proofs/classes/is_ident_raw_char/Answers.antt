@@ -1,5 +1,3 @@
-use mathlib.Core.Path.{◌≡◌, sym, ◌∙◌}
-use borrow.Author.Rules.{rules}
 use borrow.Author.Tests.{lt-ltb, le-ltb}
 use Rattle.text.specs.Classes.{ident_raw}
 use Rattle.text.proofs.classes.is_ident_raw_char.Goals as goal

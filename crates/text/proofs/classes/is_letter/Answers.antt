@@ -1,5 +1,4 @@
 use mathlib.Core.Path.{sym, ◌∙◌}
-use borrow.Author.Rules.{rules}
 use Rattle.text.specs.Classes.{letter}
 use Rattle.text.proofs.classes.is_letter.Goals as goal
 

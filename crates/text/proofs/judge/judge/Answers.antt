@@ -1,5 +1,4 @@
 use mathlib.Core.Path.{ap, ◌∙◌, sym}
-use borrow.Author.Rules.{rules}
 use borrow.Author.Tests.{le-ltb, lt-ltb}
 use Rattle.text.specs.Judged.{judged_of, by_utf8}
 use Rattle.text.specs.declared.judge.Judged.TheVariants.{Refused}

@@ -1,4 +1,3 @@
-use borrow.Author.Rules.{rules}
 use borrow.Author.Tests.{le-leb, lt-leb}
 use Rattle.text.specs.Judged.{place_fits}
 use Rattle.text.proofs.judge.place_fits.Goals as goal

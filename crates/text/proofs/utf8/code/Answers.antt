@@ -1,4 +1,3 @@
-use borrow.Author.Rules.{rules}
 use borrow.Author.Tests.{le-ltb, lt-ltb}
 use Rattle.text.specs.Utf8.{code_of4}
 use Rattle.text.proofs.utf8.code.Goals as goal

@@ -1,4 +1,3 @@
-use borrow.Author.Rules.{rules}
 use Rattle.text.specs.Utf8.{code_of}
 use Rattle.text.proofs.utf8.code_point.Goals as goal
 

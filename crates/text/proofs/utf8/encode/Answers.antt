@@ -1,8 +1,7 @@
 use native.Mathlib.Omega.{arith}
 use mathlib.Core.Path.{◌∙◌, ap, refl, sym}
 use lib.ListN.{length}
-use borrow.Author.Rules.{rules}
-use borrow.Author.Tests.{le-leb, lt-leb, not-false, not-true}
+use borrow.Author.Tests.{le-leb, lt-leb}
 use Rattle.text.proofs.Utf8Agree.{scalar_true}
 use Rattle.text.specs.Utf8.{encode_answer, encoded_into, encoded_len}
 use Rattle.text.specs.declared.utf8.EncodeAnswer.TheVariants.{Wrote}

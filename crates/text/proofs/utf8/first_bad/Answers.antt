@@ -1,7 +1,7 @@
-use Prim.Native.Nat.{◌-◌, ◌≤◌, ℕ, ◌+◌}
+use Prim.Native.Nat.{ℕ, ◌+◌}
 use native.Mathlib.Omega.{arith}
-use mathlib.Core.Path.{◌∙◌, ◌≡◌, ap, sym}
-use lib.ListN.{drop, length, length-drop}
+use mathlib.Core.Path.{◌∙◌, ap, sym}
+use lib.ListN.{drop, length-drop}
 use borrow.Author.Rules.{rules}
 use Rattle.text.proofs.RunLaws.{run_le}
 use Rattle.text.proofs.Utf8Agree.{part_char}

@@ -1,12 +1,6 @@
-use Prim.Native.Nat.{◌-◌, ◌≤◌, ℕ, ◌+◌}
-use native.Mathlib.Omega.{arith}
-use mathlib.Core.Path.{◌∙◌, ◌≡◌, ap, sym}
-use lib.ListN.{drop, length, length-drop}
-use borrow.Author.Rules.{rules}
-use Rattle.text.proofs.RunLaws.{run_le}
-use Rattle.text.proofs.Utf8Agree.{part_char}
-use Rattle.text.proofs.Utf8Laws.{ascii_from, utf8_done, utf8_next, utf8_stop}
-use Rattle.text.specs.Runs.{ascii}
+use Prim.Native.Nat.{◌-◌, ◌≤◌}
+use mathlib.Core.Path.{◌≡◌}
+use lib.ListN.{drop, length}
 use Rattle.text.specs.Utf8.{utf8_from, utf8_of}
 use Rattle.text.proofs.utf8.first_bad.Given as goal
 

@@ -1,5 +1,4 @@
 use mathlib.Core.Path.{sym, ◌∙◌}
-use borrow.Author.Rules.{rules}
 use Rattle.text.specs.Utf8.{behind_four}
 use Rattle.text.proofs.utf8.four.Goals as goal
 

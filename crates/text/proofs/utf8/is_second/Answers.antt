@@ -1,4 +1,3 @@
-use borrow.Author.Rules.{rules}
 use borrow.Author.Tests.{eq-eqb, ne_eqb}
 use Rattle.text.specs.Utf8.{second_byte}
 use Rattle.text.proofs.utf8.is_second.Goals as goal

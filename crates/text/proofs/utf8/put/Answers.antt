@@ -1,6 +1,5 @@
 use native.Mathlib.Omega.{arith}
 use lib.ListN.{length-set}
-use borrow.Author.Rules.{rules}
 use Rattle.text.proofs.Utf8Agree.{put_1, put_2, put_3, put_4, encoded_len_1, encoded_len_2, encoded_len_3, encoded_len_4}
 use Rattle.text.proofs.utf8.put.Goals as goal
 

@@ -1,5 +1,4 @@
 use mathlib.Core.Path.{sym, ◌∙◌}
-use borrow.Author.Rules.{rules}
 use Rattle.text.specs.Utf8.{behind_three}
 use Rattle.text.proofs.utf8.three.Goals as goal
 

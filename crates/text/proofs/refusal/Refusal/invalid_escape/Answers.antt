@@ -1,4 +1,3 @@
-use borrow.Author.Rules.{rules}
 use Rattle.text.proofs.refusal.Refusal.invalid_escape.Goals as goal
 
 pub returns : goal.returns
