@@ -93,9 +93,7 @@ class Names:
         for rows in of["typed"]:
             for variable, field in rows:
                 self.arms.setdefault((plain(field), ("given",)), f"type_inv.{variable}")
-        keys = [new[3:] for old, new in (place[2] for place in of["places"]) if old == "match" and new.startswith("in-")]
-        for k in range(len(keys)):
-            self.arms.setdefault(("match", ("rest", *["0"] * (len(keys) - 1 - k), "1")), f"in_default.not-{keys[k]}")
+        self.arms.setdefault(("match", ("rest",)), "in_default")
         self.loops = {plain(old): (new, names, changed) for ((old, new), names), changed in zip(of["loops"], of["changed"])}
         self.invariants = {}
 
@@ -112,7 +110,7 @@ def path(names, heads, found, left):
     field, sub = "measured" if rest[0] == "decreases" else rest[0], [old.get(it, it) for it in rest[1:]]
     key = plain(field)
     known = {*names.fields, *(k for k, _ in names.arms)}
-    for other in (key, re.sub(r"_lem(?=\d*$)", "", key), re.sub("^is_is_?", "is_", key), re.sub(r"(_lem)?\d+$", "", key)):
+    for other in (key, re.sub(r"_lem(?=\d*$)", "", key), re.sub("^is_is_?", "is_", key), re.sub(r"_is(?=[a-z])", "_", key), re.sub(r"(_lem)?\d+$", "", key)):
         if other in known:
             key = other
             break
@@ -212,7 +210,7 @@ def placed(names, block, left):
         return None
     params = m[1].split()
     head_name, rest = params[0], params[1:]
-    text = re.sub(r"(?<![\w.'-])%s(?=[\s.()]|$)" % re.escape(head_name), "c", m[2]) if head_name != "c" else m[2]
+    text = re.sub(r"(?<![\w.'-])%s(?![\w'-])" % re.escape(head_name), "c", m[2]) if head_name != "c" else m[2]
     text = turned(names, [text], left).strip()
     kind = re.sub(r"^→ ", "", turned(names, [re.sub(r"(?<![\w.'-])%s(?![\w'-])" % re.escape(of_place[1]), "c", of_place[2]) if not of_place[1].startswith("tie") else of_place[2]], left))
     is_term = block[1][0].startswith("abbrev") and not rest
@@ -291,7 +289,7 @@ def convert(folder, proof, names, module):
             if not m:
                 left.append(f"{name}: the head {body[head][:60]}")
                 continue
-            if body[head:] == [f"{name} c = search rules"] or body[head:] == [f"{name} c κs = search rules"]:
+            if not unfold and body[head:] == [f"{name} c = search rules"] or not unfold and body[head:] == [f"{name} c κs = search rules"]:
                 trivial += 1
                 continue
             if new is None:

@@ -84,10 +84,14 @@ module _ (o n : ℕ) where
   end_there : (es es' : List Entry) (a a' : ℕ) → a' + o ≡ a + n → AllThere o n es es' → end_of a' es' + o ≡ end_of a es + n
   unfolding end_of
   end_there [] [] a a' h none = h
+  end_there [] (x ∷ xs) a a' h m = elim m [ ]
+  end_there (y ∷ ys) [] a a' h m = elim m [ ]
   end_there (y ∷ ys) (x ∷ xs) a a' h (more m t) = end_there ys xs y.end x.end m.end t
 
   pub there_append : (es es' fs fs' : List Entry) → AllThere o n es es' → AllThere o n fs fs' → AllThere o n (es ++ fs) (es' ++ fs')
   there_append [] [] fs fs' none h = h
+  there_append [] (x ∷ xs) fs fs' m h = elim m [ ]
+  there_append (y ∷ ys) [] fs fs' m h = elim m [ ]
   there_append (y ∷ ys) (x ∷ xs) fs fs' (more m t) h = more m (there_append ys xs fs fs' t h)
 
 -- whether a byte is taken
@@ -179,6 +183,8 @@ module _ (R : Reader) (bar : ℕ → List ℕ → ℕ → Passing) where
       ends_there : (es es' : List Entry) → AllThere o n es es' → 0 < length es → end_of at' es' + o ≡ end_of at es + n
       unfolding end_of
       ends_there [] [] none p = absurd (omega arith)
+      ends_there [] (f ∷ fs) m p = elim m [ ]
+      ends_there (e ∷ es) [] m p = elim m [ ]
       ends_there (e ∷ es) (f ∷ fs) (more m t) p = end_there o n es fs e.end f.end m.end t
 
       -- and what stands behind them
@@ -224,6 +230,8 @@ module _ (R : Reader) (bar : ℕ → List ℕ → ℕ → Passing) where
       ends_with [] [] none =
           ne_eqb at (at + length (y ++ b ∷ [])) (λ e. omega (arith, length-append y (b ∷ [])))
           ∙ sym (ne_eqb at' (at' + length (x ++ b ∷ [])) (λ e. omega (arith, length-append x (b ∷ []))))
+      ends_with [] (f ∷ fs) m = elim m [ ]
+      ends_with (e ∷ es) [] m = elim m [ ]
       ends_with (e ∷ es) (f ∷ fs) (more m t) =
           eqb_meets o n (end_of e.end es) (at + length (y ++ b ∷ [])) (end_of f.end fs) (at' + length (x ++ b ∷ []))
           (end_there o n es fs e.end f.end m.end t) lens
@@ -239,6 +247,8 @@ module _ (R : Reader) (bar : ℕ → List ℕ → ℕ → Passing) where
       unfolding end_of spoilt
       spoilt_there [] [] r q none =
           rw (sub_self at, sub_self at') (ap₂ ◌&&◌ (k.settle (b ∷ [])) (refused_same (R.tok (y ++ b ∷ [])) ∙ ap is_refused (sym (k.answers (b ∷ [])))))
+      spoilt_there [] (f ∷ fs) r q m = elim m [ ]
+      spoilt_there (e ∷ es) [] r q m = elim m [ ]
       spoilt_there (e ∷ es) (f ∷ fs) r q (more m t) =
           ap (spoilt R) (drop_there o n d y x k at at' h (b ∷ []) (e ∷ es) (f ∷ fs) r q (more m t) (omega arith))
 
@@ -281,6 +291,8 @@ module _ (R : Reader) (bar : ℕ → List ℕ → ℕ → Passing) where
         next_is = rw (sub_self at, sub_self at') (left_there o n d (y ++ b ∷ []) (x ++ b ∷ []) (alike_on d y x (b ∷ []) k) at at' h);
         bytes_are = refl;
       }
+      behind_there [] (f ∷ fs) r q m = elim m [ ]
+      behind_there (e ∷ es) [] r q m = elim m [ ]
       behind_there (e ∷ es) (f ∷ fs) r q (more m t) =
           let left : List ℕ = drop (end_of f.end fs - at') (x ++ b ∷ []) in
           let same : drop (end_of e.end es - at) (y ++ b ∷ []) ≡ left = drop_there o n d y x k at at' h (b ∷ []) (e ∷ es) (f ∷ fs) r q (more m t) (omega arith) in

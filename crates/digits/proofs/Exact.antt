@@ -6,7 +6,7 @@ use mathlib.Core.List.{List, [], ◌∷◌}
 use mathlib.Core.Logic.{◌↔◌, inl, inr}
 use mathlib.Core.Path.{◌≡◌, ap, refl}
 use lib.Dec.{eqb, leb, ltb}
-use lib.Ieee.{fits}
+use lib.ListN.{get_or, length}
 use borrow.Author.Tests.{eqb-false, eqb-true, le-ltb, leb-false, lt-leb, ltb-false}
 use Rattle.digits.specs.Digits.{hex_of, digits_from, digits_of, turn_of}
 use Rattle.digits.specs.Value.{Fit, ReadsFrom, digit_step, value_from}
@@ -70,7 +70,7 @@ module _ (limit base : ℕ) (positive : 0 < base) where
           let k = turn_next limit base acc c n q h in
           let r = rest n k.1.1 (rw q at e) in
           record {
-            only = λ i. elim i [ zero ↦ λ l. k.1.0 | suc j ↦ λ l. r.only j (omega (arith, l)) ];
+            only = λ i. elim i as (λ i. i < length (c ∷ cs) → Fit base (get_or (c ∷ cs) i 0)) [ zero ↦ λ l. k.1.0 | suc j ↦ λ l. r.only j (omega (arith, l)) ];
             value = rw k.0 r.value;
             fits = r.fits;
           }

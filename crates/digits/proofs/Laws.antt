@@ -9,8 +9,6 @@ use Rattle.digits.specs.declared.Run.{Run}
 use Rattle.digits.specs.declared.Run.TheVariants.{Value, Empty, Underscore, NotDigit, Over}
 use Rattle.digits.specs.declared.up.Turned.{Turned}
 use Rattle.text.proofs.Lists.{front}
-use Rattle.text.specs.Runs.{run}
-use Rattle.text.specs.Utf8.Encoded.{next}
 use Rattle.digits.specs.declared.up.Turned.TheVariants as turned
 
 module _ (limit base acc : ℕ) (run : List ℕ) (i : ℕ) where

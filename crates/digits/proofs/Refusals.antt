@@ -5,8 +5,7 @@ use mathlib.Core.List.{List, [], ◌∷◌}
 use mathlib.Core.Logic.{◌↔◌, ◌⊎◌, inl, inr}
 use mathlib.Core.Path.{◌∙◌, ◌≡◌, ap, refl}
 use lib.Dec.{eqb, leb, ltb}
-use lib.Ieee.{fits}
-use lib.ListN.{take}
+use lib.ListN.{get_or, length, take}
 use borrow.Author.Tests.{eqb-false, leb-false, leb-true, ltb-false, ltb-true, le-leb, le-ltb, lt-leb, lt-ltb, ne_eqb}
 use Rattle.digits.proofs.Exact.{turn_fit, turn_next, value_grows}
 use Rattle.digits.specs.Digits.{hex_of, digits_from, digits_of, on_turn, turn_of}
@@ -15,9 +14,7 @@ use Rattle.digits.specs.declared.Run.{Run}
 use Rattle.digits.specs.declared.Run.TheVariants.{Value, Empty, Underscore, NotDigit, Over}
 use Rattle.digits.specs.declared.up.Turned.{Turned}
 use Rattle.text.proofs.Choices.{bool_cases, either}
-use Rattle.text.proofs.ClassLaws.{inside}
 use Rattle.text.specs.Runs.{run}
-use Rattle.text.specs.Utf8.Encoded.{next}
 use Rattle.digits.specs.declared.up.Turned.TheVariants as turned
 
 pub clash : {X : Type 0} → ◌≡◌ {A = ℕ} 0 1 → X
@@ -60,7 +57,7 @@ module _ (limit base : ℕ) (positive : 0 < base) where
       record {
         inside = omega (arith, s.inside);
         before = record {
-          only = λ j. elim j [ zero ↦ λ l. f | suc k ↦ λ l. s.before.only k (omega (arith, l)) ];
+          only = λ j. elim j as (λ j. j < length (take (suc i) (c ∷ cs)) → Fit base (get_or (take (suc i) (c ∷ cs)) j 0)) [ zero ↦ λ l. f | suc k ↦ λ l. s.before.only k (omega (arith, l)) ];
           value = refl;
           fits = s.before.fits;
         };

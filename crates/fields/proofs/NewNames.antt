@@ -1,6 +1,6 @@
 -- The test for a name that came before says what it is: equality with one of the names. Assumes nothing.
 use Prim.Native.Nat.{ℕ}
-use mathlib.Core.Path.{◌≡◌, refl, sym, ap, ◌∙◌}
+use mathlib.Core.Path.{◌≡◌, sym, ap, ◌∙◌}
 use mathlib.Core.Bool.{true, false, true≢false}
 use mathlib.Core.List.{List, [], ◌∷◌}
 use Rattle.text.proofs.Choices.{or_left, or_right, or_cases, either}

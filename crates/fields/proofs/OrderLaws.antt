@@ -4,9 +4,9 @@ use native.Mathlib.Omega.{arith}
 use mathlib.Core.Path.{◌∙◌, ◌≡◌, ap, ap₂, refl, sym}
 use mathlib.Core.List.{List, [], ◌∷◌}
 use mathlib.Core.Bool.{Bool, true, false}
-use lib.Dec.{eqb, ltb}
-use borrow.Author.Tests.{eq-eqb, eqb-true, le-ltb, lt-ltb, ltb-false, ltb-true}
-use Rattle.text.proofs.Choices.{and_true, bool_cases, either}
+use lib.Dec.{ltb}
+use borrow.Author.Tests.{le-ltb, lt-ltb, ltb-false, ltb-true}
+use Rattle.text.proofs.Choices.{bool_cases, either}
 use Rattle.fields.specs.declared.comparing.Order.{Order}
 use Rattle.fields.specs.declared.comparing.Order.TheVariants.{Before, Same, Behind}
 use Rattle.fields.specs.inner.Order.{order_of, by_order, comes_before}

@@ -5,7 +5,6 @@ use mathlib.Core.Bool.{Bool, ◌||◌, false, true}
 use mathlib.Core.List.{List, [], ◌∷◌, ◌++◌}
 use mathlib.Core.Logic.{◌⊎◌, inl, inr, ◌↔◌}
 use mathlib.Core.Path.{◌∙◌, ◌≡◌, ap, refl}
-use lib.Bits.{digits}
 use lib.Dec.{eqb}
 use borrow.Author.Tests.{eqb-true}
 use Rattle.floats.specs.Classes.{point, scale, sign}
@@ -74,6 +73,7 @@ loops st k (c ∷ a) x (g.Digits.next d s e ds) = ap (accepts (a ++ x)) (on-digi
 -- one or more digits lead from a state to the one that a digit leads to
 leads : (st to : State) → on_digit st ≡ to → on_digit to ≡ to → (a x : List ℕ) → Some a → accepts (a ++ x) st ≡ accepts x to
 unfolding accepts
+leads st to f k [] x s = elim s [ ]
 leads st to f k (c ∷ a) x (g.Some.next d s e ds) = ap (accepts (a ++ x)) (on-digit st c e ∙ f) ∙ loops to k a x ds
 
 power_digits : (a : List ℕ) → Digits a → accepts a Power ≡ true
@@ -83,6 +83,7 @@ power_digits (c ∷ a) (g.Digits.next d s e ds) = ap (accepts a) (on-digit Power
 
 power_accepted : (st : State) → on_digit st ≡ Power → (s : List ℕ) → Some s → accepts s st ≡ true
 unfolding accepts
+power_accepted st f [] s = elim s [ ]
 power_accepted st f (c ∷ s) (g.Some.next d t e ds) = ap (accepts s) (on-digit st c e ∙ f) ∙ power_digits s ds
 
 scaled_accepted : (s : List ℕ) → Signable Some s → accepts s Scale ≡ true

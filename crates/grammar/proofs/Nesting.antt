@@ -136,6 +136,7 @@ held_next {b = b} {i = i} {k = k} {ks = ks} {l = l} {ls = ls} h =
     }
 
 held : {σ : List Bracket} {i : ℕ} {ks : List Kind} {ls : List ℕ} → Run σ i ks ls → (b : Bracket) → In b σ → Held b i ks ls
+held (done {i = i}) b m = elim m [ ]
 held (itself e r) b m = held_next (held r b m)
 held (open_to q c e r) b m = held_next (held r b (further m))
 held {i = i} (close_to {k = k} {ks = ks} {ls = ls} j lt r) b innermost = record { low = omega arith; high = omega arith; back = link_here j ls i; kind = kind_here k ks i }
@@ -264,6 +265,8 @@ module _ (ks : List Kind) (ls : List ℕ) (run : Run [] 0 ks ls) where
   run_joined p (closing q e lo lt c f) =
       let z : q ≡ link_at ks ls p = sym e ∙ at_link p in
       closes (omega arith) (partners (ap (kind_at ks ls) (sym z) ∙ sym (at_kind q)) (sym (at_kind p)) c) (ap (link_at ks ls) (sym z) ∙ sym (at_link q) ∙ f)
+
+  run_joined p (outer b x' _ _ _) = elim x' [ ]
 
   run_nested : length ls ≡ length ks → Nested ks ls
   run_nested e =

@@ -22,8 +22,6 @@ use Rattle.integers.proofs.Runs.{digits_run}
 use Rattle.integers.specs.Range.{InWidth, Reads, signed_of, Begun, NotBelow, Passes}
 use Rattle.integers.specs.Width.{limit_of}
 use Rattle.text.proofs.Choices.{bool_cases, either}
-use Rattle.text.proofs.ClassLaws.{above, inside}
-use Rattle.text.specs.Classes.{digit}
 
 -- ---- the numbers of a width are those whose magnitude is within its limit
 

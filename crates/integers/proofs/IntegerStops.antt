@@ -26,7 +26,6 @@ use Rattle.text.proofs.Stops.{Stopped, Reach, on, on₂, bind, part, behind, sum
 use Rattle.text.specs.Classes.{digit, hex_digit, ascii_next, ascii_raw, int_char, letter, within}
 use Rattle.text.specs.Refusals.{eof}
 use Rattle.text.specs.Runs.{run}
-use Rattle.integers.specs.declared.integer.Numeral.TheVariants as numeral
 use Rattle.integers.specs.declared.integer.Integer.TheVariants as integer
 use Rattle.integers.specs.declared.integer.AnyInteger.TheVariants as any
 

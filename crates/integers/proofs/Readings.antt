@@ -1,7 +1,7 @@
 -- Laws of reading an integer: what the parts that the code has in hand make up, and places within the part. Assumes nothing.
 use Prim.Native.Nat.{◌+◌, ◌-◌, ◌<◌, ◌≤◌, ℕ}
 use native.Mathlib.Omega.{arith}
-use mathlib.Core.Bool.{Bool, false, true}
+use mathlib.Core.Bool.{Bool}
 use mathlib.Core.List.{List, [], ◌∷◌}
 use mathlib.Core.Path.{◌≡◌, sym}
 use lib.Dec.{eqb}
@@ -9,7 +9,6 @@ use lib.ListN.{drop, length, length-drop, take}
 use lib.Seq.{length-take-le}
 use borrow.Author.Tests.{ne_eqb}
 use Rattle.digits.proofs.Laws.{place_of, place_le}
-use Rattle.digits.proofs.Neg.{some}
 use Rattle.digits.specs.Digits.{digits_of, run_of}
 use Rattle.digits.specs.declared.Run.{Run}
 use Rattle.digits.specs.declared.Run.TheVariants.{Value, Empty, Underscore, NotDigit, Over}
@@ -24,7 +23,6 @@ use Rattle.integers.specs.declared.integer.Numeral.{Numeral}
 use Rattle.integers.specs.declared.width.Width.{Width}
 use Rattle.text.proofs.Choices.{bool_cases, either}
 use Rattle.text.proofs.RunLaws.{run_le}
-use Rattle.text.proofs.Stops.{part}
 use Rattle.text.specs.Classes.{int_char}
 use Rattle.text.specs.Runs.{run}
 use Rattle.integers.specs.declared.integer.Numeral.TheVariants as numeral

@@ -2,7 +2,7 @@
 use Prim.Native.Nat.{ℕ, suc, zero}
 use native.Mathlib.Omega.{arith}
 use mathlib.Core.Bool.{false, true}
-use mathlib.Core.List.{List, [], ◌∷◌}
+use mathlib.Core.List.{[], ◌∷◌}
 use mathlib.Core.Path.{◌≡◌, ap, refl}
 use lib.ListN.{length}
 use Rattle.integers.specs.Width.{code_of, limit_at, limit_of, row, suffix_word, width_at}

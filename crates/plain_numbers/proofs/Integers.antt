@@ -27,7 +27,6 @@ use Rattle.integers.specs.Front.{front_of, prefix_of, sign_of}
 use Rattle.integers.specs.Integer.{any_of, numeral_of}
 use Rattle.integers.specs.Width.{first_fit, limit_at, suffix_first, suffix_of, widest, width_at}
 use Rattle.integers.specs.Words.{nothing_found}
-use Rattle.integers.specs.declared.integer.AnyInteger.TheVariants as any
 use Rattle.integers.specs.declared.integer.Numeral.TheVariants as numeral
 use Rattle.numbers.specs.Numbers.{float_ahead, number_of}
 use Rattle.numbers.specs.declared.Number.TheVariants.{Int}

@@ -1,5 +1,5 @@
 -- A short integer is what the general reader reads there, in every width. Assumes nothing.
-use Prim.Native.Nat.{ℕ, ◌+◌, ◌≤◌, ◌<◌, min}
+use Prim.Native.Nat.{ℕ, ◌≤◌, ◌<◌, min}
 use native.Mathlib.Nat.{zero-add}
 use native.Mathlib.Omega.{arith, min_cases}
 use mathlib.Core.Bool.{Bool, true, false, ◌&&◌}
@@ -14,17 +14,16 @@ use Rattle.text.specs.Classes.{digit, hex_digit, int_char, within}
 use Rattle.text.specs.Runs.{run}
 use Rattle.text.specs.Words.{starts_with}
 use Rattle.digits.specs.Value.{value_of}
-use Rattle.integers.specs.Front.{front_of, sign_of}
+use Rattle.integers.specs.Front.{sign_of}
 use Rattle.integers.specs.Integer.{typed_of}
 use Rattle.integers.specs.Width.{code_of, limit_at}
-use Rattle.integers.specs.declared.front.Sign.{Sign}
 use Rattle.integers.specs.declared.integer.Integer.TheVariants as integer
 use Rattle.integers.specs.declared.width.Width.{Width}
 use Rattle.reading.specs.Owed.{quiet_byte}
 use Rattle.plain_numbers.proofs.Integers.{Ends, front_is, numeral_is, quiet_ends}
 use Rattle.plain_numbers.proofs.Runs.{digit_in, digit_int}
 use Rattle.plain_numbers.specs.declared.short.Short.{Short}
-use Rattle.plain_numbers.specs.declared.short.Short.TheVariants.{Other, Value}
+use Rattle.plain_numbers.specs.declared.short.Short.TheVariants.{Value}
 use Rattle.plain_numbers.specs.inner.Shorts.{digits_of, ends_short, most, short_of}
 
 -- what a short integer is: digits up to a byte that no integer goes on with, of a value that the width holds

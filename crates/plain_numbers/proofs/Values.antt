@@ -6,7 +6,7 @@ use mathlib.Core.Bool.{true}
 use mathlib.Core.List.{List, [], ◌∷◌}
 use mathlib.Core.Path.{◌≡◌, ap, refl, sym, ◌∙◌}
 use lib.ListN.{length, take, drop, get_or}
-use lib.Seq.{get_or-drop, get_or-take, length-take-le}
+use lib.Seq.{get_or-take, length-take-le}
 use borrow.Author.Tests.{ne_eqb}
 use Rattle.text.proofs.Choices.{bool_cases, either}
 use Rattle.text.proofs.Lists.{front}

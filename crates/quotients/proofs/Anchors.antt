@@ -1,14 +1,14 @@
 -- What `units_of` is: the magnitude that IEEE 754 gives to a pattern; and the next pattern is the neighbour, since patterns and magnitudes have one order. Assumes nothing.
-use Prim.Native.Nat.{ℕ, zero, suc, ◌+◌, ◌-◌, ◌*◌, ◌/◌, ◌%◌, ◌^◌, ◌≤◌, ◌<◌}
+use Prim.Native.Nat.{ℕ, zero, suc, ◌+◌, ◌*◌, ◌/◌, ◌%◌, ◌^◌, ◌≤◌, ◌<◌}
 use native.Mathlib.Nat.{mul-one, mod-eq_of_lt, mod-lt, div-add-mod', div-lt_iff_lt-mul, lt_of_lt_of_le, le_of_eq, mul-lt-mul_of_pos_right, mul_assoc, mul_comm, pow-suc, eq-or-lt_of_le}
 use native.Mathlib.Omega.{arith}
-use mathlib.Core.Path.{◌≡◌, refl, sym, ap, ap₂, ◌∙◌, subst}
+use mathlib.Core.Path.{◌≡◌, sym, ap, ◌∙◌, subst}
 use mathlib.Core.Logic.{◌⊎◌, inl, inr}
-use mathlib.Core.Bool.{Bool, true, false, cond}
-use lib.Dec.{leb, eqb, lit≤, lit<}
+use mathlib.Core.Bool.{Bool, false, cond}
+use lib.Dec.{eqb, lit≤, lit<}
 use lib.Pow.{pow_pos}
 use borrow.Author.Tests.{lt-leb, ne_eqb}
-use lib.Ieee.{Float, nan, inf, binary64, odd, of_fields, of_bits}
+use lib.Ieee.{nan, inf, binary64, odd, of_fields, of_bits}
 use lib.Ieee.Exact.{HasValue, odd_sign}
 use Rattle.quotients.specs.Quotient.{units_in, units_of}
 use Rattle.quotients.proofs.Patterns.{at_fields}

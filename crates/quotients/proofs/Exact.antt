@@ -1,13 +1,13 @@
 -- The division of CR 14: both whole numbers are cast exactly, so that the quotient is the fraction rounded once; and its half gap. Assumes nothing.
-use Prim.Native.Nat.{ℕ, zero, suc, ◌+◌, ◌-◌, ◌*◌, ◌^◌, ◌≤◌, ◌<◌}
+use Prim.Native.Nat.{ℕ, zero, suc, ◌+◌, ◌*◌, ◌^◌, ◌≤◌, ◌<◌}
 use native.Mathlib.Nat.{le_trans, le_of_lt, lt_of_le_of_lt, lt_of_lt_of_le, mul-pos, mul-one, mul_assoc, mul_comm, mul_left_comm, mul-mul-mul_comm, pow-suc, pow-le-pow_right}
 use native.Mathlib.Omega.{arith}
 use mathlib.Core.Path.{◌≡◌, refl, sym, ap, ◌∙◌, subst}
 use mathlib.Core.Bool.{Bool, true, false, true≢false, cond, not}
 use lib.Dec.{T, lit≤, lit<, eqb, le→leb}
 use borrow.Author.Tests.{ne_eqb}
-use lib.IntN.{ℤ, pos}
-use lib.Pow.{pow-add, pow_pos, pow_mono, shl_lt}
+use lib.IntN.{pos}
+use lib.Pow.{pow-add, pow_mono, shl_lt}
 use lib.Ieee.{Float, nan, inf, fin, Format, binary64, up, down, round, of_int, div, mul, neg, is_nan, in_float, to_bits}
 use lib.Ieee.Fits.{up_pos, down_pos}
 use lib.Ieee.Exact.{HasValue, round_exact}

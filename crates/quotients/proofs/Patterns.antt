@@ -1,9 +1,9 @@
 -- The patterns of f64 over whole numbers: a normal magnitude is q * 2 ^ k units with q from 2 ^ 52 to 2 ^ 53, and its pattern is k * 2 ^ 52 + q, at both ends too.
 -- Assumes nothing.
-use Prim.Native.Nat.{ℕ, zero, suc, ◌+◌, ◌-◌, ◌*◌, ◌/◌, ◌%◌, ◌^◌, ◌≤◌, ◌<◌}
+use Prim.Native.Nat.{ℕ, zero, suc, ◌+◌, ◌-◌, ◌*◌, ◌/◌, ◌^◌, ◌≤◌, ◌<◌}
 use native.Mathlib.Nat.{le_antisymm, lt_of_not-le, not-le_of_lt, lt_of_lt_of_le, le_trans, le_of_eq, mul-div_cancel, mul_assoc, mul_comm, suc-mul, pow-suc, mul-le-mul_right, mul-lt-mul_of_pos_right, eq-or-lt_of_le}
 use native.Mathlib.Omega.{arith}
-use mathlib.Core.Path.{◌≡◌, refl, sym, ap, ap₂, ◌∙◌, subst}
+use mathlib.Core.Path.{◌≡◌, sym, ap, ap₂, ◌∙◌, subst}
 use mathlib.Core.Logic.{◌⊎◌, inl, inr}
 use lib.Pow.{pow-add, pow_pos, pow_mono, high, low}
 use lib.Ieee.{size}

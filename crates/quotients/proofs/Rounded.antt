@@ -1,17 +1,17 @@
 -- A fraction m / 10 ^ e rounded to an f64: its pattern, and that it is at most half a gap away. Assumes nothing.
 use Prim.Native.Nat.{ℕ, zero, suc, ◌+◌, ◌-◌, ◌*◌, ◌/◌, ◌%◌, ◌^◌, ◌≤◌, ◌<◌, compare}
-use native.Mathlib.Nat.{le_trans, le_of_eq, lt_of_le_of_lt, lt_of_lt_of_le, le_of_lt, mul-pos, mul_assoc, mul_comm, mul-le-mul_left, mul-le-mul_right, div-le_self, div-div-eq-div-mul, mul-div_cancel, le-div_iff_mul-le, zero-add, zero-mul, suc-mul, one-mul, pow-le-pow_right, eq-or-lt_of_le, one-le-pow}
+use native.Mathlib.Nat.{le_trans, le_of_eq, lt_of_le_of_lt, lt_of_lt_of_le, mul-pos, mul_assoc, mul_comm, mul-le-mul_left, mul-le-mul_right, div-le_self, div-div-eq-div-mul, mul-div_cancel, le-div_iff_mul-le, zero-add, zero-mul, suc-mul, one-mul, pow-le-pow_right, eq-or-lt_of_le, one-le-pow}
 use native.Mathlib.Omega.{arith}
 use mathlib.Core.Path.{◌≡◌, refl, sym, ap, ◌∙◌, subst}
 use mathlib.Core.Logic.{◌⊎◌, inl, inr}
 use mathlib.Core.Bool.{true, false, true≢false}
 use lib.Dec.{lit≤, lit<}
-use lib.Pow.{pow-add, pow_pos, pow_mono, pow-lt, shl_lt}
-use lib.Ieee.{Float, nan, inf, fin, binary64, up, down, size, round, to_bits}
+use lib.Pow.{pow-add, pow_pos, pow-lt, shl_lt}
+use lib.Ieee.{Float, nan, inf, fin, binary64, down, size, round, to_bits}
 use lib.Ieee.Digits.{size-le, size_reaches}
 use lib.Ieee.Fits.{kept-lt, nearest-le, down_pos}
 use lib.Ieee.Exact.{HasValue}
-use lib.Ieee.Nearest.{closest, nearest-ge}
+use lib.Ieee.Nearest.{nearest-ge}
 use lib.Ieee.Order.{drop, kept}
 use lib.Ieee.Scale.{round_val, normal_of_fraction}
 use Rattle.quotients.specs.Quotient.{units_of, HalfGap}

@@ -12,8 +12,7 @@ use stored::store;
 use text::Refusal;
 
 // The state before a text's first byte. Its answer is 0; the ten numbers are written.
-#[unsafe(no_mangle)]
-pub extern "C" fn sarridok_begin(state: &mut [u32]) -> u64
+pub fn sarridok_begin(state: &mut [u32]) -> u64
     ensures { (result ≡ packed done_word (begin_numbered (length state.old))) × (state.new ≡ stored_in begun state.old) }
 {
     if state.len() < NUMBERS {

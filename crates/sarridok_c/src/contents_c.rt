@@ -18,8 +18,7 @@ fn word(answer: ContentsAnswer) -> u64
 }
 
 // Where the contents of a string entry begin and end, where nothing in them is escaped.
-#[unsafe(no_mangle)]
-pub extern "C" fn sarridok_contents(text: &[u8], tape: &[u32], count: usize, entry: usize) -> u64
+pub fn sarridok_contents(text: &[u8], tape: &[u32], count: usize, entry: usize) -> u64
     ensures { result ≡ packed span_word (contents_of text.now tape.now count entry) }
 {
     word(sarridok::contents(text, tape, count, entry))

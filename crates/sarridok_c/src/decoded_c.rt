@@ -18,8 +18,7 @@ fn word(answer: DecodedAnswer) -> u64
 }
 
 // Decodes the contents of a string entry into `out`. Its answer is how many bytes stand at the front of it.
-#[unsafe(no_mangle)]
-pub extern "C" fn sarridok_decoded(
+pub fn sarridok_decoded(
     text: &[u8],
     tape: &[u32],
     count: usize,

@@ -30,13 +30,7 @@ fn word(answer: Ended, count: &mut u64) -> u64
 
 // The end of the text, with what is kept at the buffer's front. Its answer is 0 or a refusal; unless that is 22 or 23, the number of entries at the tape's front is
 // written.
-#[unsafe(no_mangle)]
-pub extern "C" fn sarridok_finish(
-    state: &[u32],
-    buffer: &[u8],
-    tape: &mut [u32],
-    count: &mut u64,
-) -> u64
+pub fn sarridok_finish(state: &[u32], buffer: &[u8], tape: &mut [u32], count: &mut u64) -> u64
     ensures answer { result ≡ packed rest_word (finish_numbered state.now buffer.now (room_of (length tape.old))) }
     ensures entries { tape.new ≡
         rest_laid (finish_numbered state.now buffer.now (room_of (length tape.old))) tape.old }

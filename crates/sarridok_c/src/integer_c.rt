@@ -23,13 +23,7 @@ fn word(answer: IntegerAnswer, magnitude: &mut u64) -> u64
 }
 
 // The integer at a place, in a width by its number. Its answer is the minus and the place behind it; `magnitude` is written.
-#[unsafe(no_mangle)]
-pub extern "C" fn sarridok_integer(
-    text: &[u8],
-    place: usize,
-    width: u32,
-    magnitude: &mut u64,
-) -> u64
+pub fn sarridok_integer(text: &[u8], place: usize, width: u32, magnitude: &mut u64) -> u64
     ensures answer { result ≡ packed typed_word (integer_numbered text.now place width) }
     ensures number { magnitude.new ≡ lent_after magnitude_of (integer_numbered text.now place width) magnitude.old }
 {

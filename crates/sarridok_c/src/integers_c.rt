@@ -17,8 +17,7 @@ fn word(answer: IntegersAnswer) -> u64
 }
 
 // Reads the integers that a list of entries names, each in its entry's width. Its answer is 0; a magnitude and a code are written for each.
-#[unsafe(no_mangle)]
-pub extern "C" fn sarridok_integers(
+pub fn sarridok_integers(
     text: &[u8],
     tape: &[u32],
     count: usize,

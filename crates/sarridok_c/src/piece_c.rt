@@ -32,8 +32,7 @@ fn word(answer: Arrived, state: &mut [u32], count: &mut u64) -> u64
 
 // A piece of n bytes, which the host has put behind what is kept at the buffer's front. Its answer is 0 or a refusal; unless that is 22 or 23, the number of entries at
 // the tape's front, the state and what is kept are written.
-#[unsafe(no_mangle)]
-pub extern "C" fn sarridok_piece(
+pub fn sarridok_piece(
     state: &mut [u32],
     buffer: &mut [u8],
     n: usize,

@@ -17,8 +17,7 @@ fn word(answer: ReadAnswer) -> u64
 }
 
 // Reads a text into a tape. Its answer is how many entries now stand at the tape's front.
-#[unsafe(no_mangle)]
-pub extern "C" fn sarridok_read(text: &[u8], tape: &mut [u32]) -> u64
+pub fn sarridok_read(text: &[u8], tape: &mut [u32]) -> u64
     ensures { (result ≡ packed count_word (read_answer text.now (length tape.old)))
         × (tape.new ≡ read_tape text.now tape.old) }
 {

@@ -23,8 +23,7 @@ fn word(answer: RepairAnswer, before: &mut u64, behind: &mut u64) -> u64
 }
 
 // Makes the tape of an old text that of `text`, in which bytes `a` to `b` of the old one were replaced. Its answer is how many entries the tape has now.
-#[unsafe(no_mangle)]
-pub extern "C" fn sarridok_repair(
+pub fn sarridok_repair(
     tape: &mut [u32],
     count: usize,
     old_len: usize,

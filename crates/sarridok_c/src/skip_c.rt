@@ -23,8 +23,7 @@ fn word(step: Step, pre: &mut u64, len: &mut u64) -> u64
 }
 
 // Moves a cursor of three numbers behind the whitespace and comments at it. Its answer is the place; the two others are written.
-#[unsafe(no_mangle)]
-pub extern "C" fn sarridok_skip(
+pub fn sarridok_skip(
     text: &[u8],
     cursor: usize,
     pre_ws_cursor: usize,

@@ -49,8 +49,7 @@ fn word(answer: StructAnswer) -> u64
 }
 
 // The type of the struct at a place, in two modes by their numbers. Its answer is the type's number.
-#[unsafe(no_mangle)]
-pub extern "C" fn sarridok_struct_kind(text: &[u8], place: usize, newtype: u32, tuple: u32) -> u64
+pub fn sarridok_struct_kind(text: &[u8], place: usize, newtype: u32, tuple: u32) -> u64
     ensures { result ≡ packed kind_word (kind_numbered text.now place newtype tuple) }
 {
     if 1 < newtype {

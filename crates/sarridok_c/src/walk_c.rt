@@ -17,8 +17,7 @@ fn word(answer: WalkAnswer) -> u64
 }
 
 // Joins the brackets of a tape, at most `limit` of them open at once, and no field named again in its ( ). Its answer is 0; the links are written.
-#[unsafe(no_mangle)]
-pub extern "C" fn sarridok_walk(
+pub fn sarridok_walk(
     text: &[u8],
     tape: &[u32],
     count: usize,

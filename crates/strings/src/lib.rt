@@ -39,7 +39,7 @@ pub fn string(s: &[u8]) -> LiteralAnswer
 
 // The byte string that the part begins with, quoted or raw; after the crate's function of this name, which looks for no base64.
 pub fn byte_string_no_base64(s: &[u8]) -> LiteralAnswer
-    ensures { result ≡ byteStringOf s.now }
+    ensures { result ≡ byte_string_of s.now }
 {
     if s.len() < 2 {
         return LiteralAnswer::Refused(Refusal::expected_byte_string(0));

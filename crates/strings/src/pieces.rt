@@ -94,7 +94,7 @@ fn is_simple(b: u8) -> bool
 // Whether such an escape of two bytes stands at a place.
 pub fn simple_escape(s: &[u8], at: usize) -> bool
     requires { at < length s.now }
-    ensures { result ≡ simpleFront (drop at s.now) }
+    ensures { result ≡ simple_front (drop at s.now) }
 {
     if s[at] != b'\\' {
         return false;

@@ -1,19 +1,18 @@
 -- A bracket closes: the first of its fields, as they lie in the array, and what of the array stays. Assumes nothing.
-use Prim.Native.Nat.{ℕ, zero, suc, ◌+◌, ◌-◌, ◌<◌, ◌≤◌}
+use Prim.Native.Nat.{ℕ, zero, suc, ◌+◌, ◌<◌, ◌≤◌}
 use native.Mathlib.Nat.{not-suc-le-zero}
 use native.Mathlib.Omega.{arith}
-use mathlib.Core.List.{List, [], ◌∷◌, ◌++◌}
-use mathlib.Core.Path.{◌≡◌, ◌∙◌, ap, refl, subst, sym}
-use lib.ListN.{length, get_or, take, drop, length-append, length-drop, length-take, get_or-append}
+use mathlib.Core.List.{List, ◌∷◌, ◌++◌}
+use mathlib.Core.Path.{◌≡◌, ◌∙◌, subst, sym}
+use lib.ListN.{length, get_or, take, drop, length-drop, get_or-append}
 use lib.Seq.{get_or-take, get_or-drop, length-take-le}
 use borrow.Rule.Slice.PartMut.{put_mid, same_len_mid}
 use Rattle.text.proofs.Choices.{either, lt_or_le}
 use Rattle.fields.specs.inner.Again.{In, FirstIn, earlier}
-use Rattle.fields.specs.Names.{HasName, name_at}
 use Rattle.fields.specs.Fields.{is_named}
 use Rattle.fields.proofs.FirstLaws.{first_unique}
 use Rattle.fields.specs.declared.again.Again.{Again}
-use Rattle.walk.specs.inner.Gathered.{part, Fields, Alike, again_in}
+use Rattle.walk.specs.inner.Gathered.{part, Alike, again_in}
 use Rattle.walk.proofs.AgainLaws.{earlier_nowhere}
 use Rattle.walk.proofs.FirstAgain.{in_none, in_cases, in_here, in_there, Falling, first_again, first_same}
 

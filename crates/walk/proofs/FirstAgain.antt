@@ -1,18 +1,17 @@
 -- What the search over a list of fields tells is the first in the order in which they were gathered. Assumes nothing.
-use Prim.Native.Nat.{ℕ, zero, suc, ◌+◌, ◌-◌, ◌<◌, ◌≤◌}
+use Prim.Native.Nat.{ℕ, zero, suc, ◌<◌}
 use native.Mathlib.Nat.{not-suc-le-zero}
 use native.Mathlib.Omega.{arith}
-use mathlib.Core.Bool.{Bool, true, false, cond, ◌||◌}
+use mathlib.Core.Bool.{Bool, true, false, cond}
 use mathlib.Core.List.{List, [], ◌∷◌}
-use mathlib.Core.Path.{◌≡◌, ◌∙◌, ap, refl, sym, subst}
-use lib.ListN.{length, get_or, take, drop}
-use Rattle.text.proofs.Choices.{bool_cases, or_cases, or_right, either}
+use mathlib.Core.Path.{◌≡◌, ◌∙◌, ap, refl, sym}
+use lib.ListN.{length, get_or}
+use Rattle.text.proofs.Choices.{or_cases, or_right, either}
 use Rattle.fields.specs.inner.Again.{In, Repeats, FirstIn, nowhere, at}
 use Rattle.fields.specs.Fields.{same, is_named}
 use Rattle.fields.proofs.SameLaws.{same_is, same_self}
 use Rattle.fields.specs.declared.again.Again.{Again}
-use Rattle.fields.specs.declared.again.Again.TheVariants.{Nowhere, At}
-use Rattle.walk.specs.inner.Gathered.{or_at, again_in, part}
+use Rattle.walk.specs.inner.Gathered.{or_at, again_in}
 
 -- ---- one of a list
 

@@ -8,7 +8,7 @@ use lib.Dec.{ltb}
 use lib.ListN.{length, set, get_or}
 use lib.Seq.{get_or-set_same, get_or-set_other}
 use borrow.Author.Tests.{ltb-true, ltb-false}
-use Rattle.text.specs.Refusals.{depth_limit_passed, not_allowed_here}
+use Rattle.text.specs.Refusals.{depth_limit_passed}
 use Rattle.rows.specs.Rows.{entry_at, entries_of}
 use Rattle.grammar.specs.declared.kinds.Kind.{Kind}
 use Rattle.grammar.specs.declared.kinds.Side.{Side}
@@ -19,7 +19,6 @@ use Rattle.grammar.specs.declared.states.Want.{Want}
 use Rattle.grammar.specs.declared.states.Want.TheVariants.{Start, Behind}
 use Rattle.grammar.specs.declared.states.Move.{Move}
 use Rattle.grammar.specs.declared.states.Move.TheVariants.{Stay, Push, Pop, Bad}
-use Rattle.grammar.specs.declared.ends.Verdict.{Verdict}
 use Rattle.grammar.specs.declared.ends.Verdict.TheVariants.{Accepted, Refused}
 use Rattle.grammar.specs.Kinds.{kind_of, kinds_of, side_of}
 use Rattle.grammar.specs.Steps.{step_of}

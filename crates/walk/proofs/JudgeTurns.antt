@@ -1,5 +1,5 @@
 -- The loop that judges, with its arrays: what holds between two entries, and that each turn keeps it. Assumes nothing.
-use Prim.Native.Nat.{ℕ, zero, suc, ◌+◌, ◌-◌, ◌*◌, ◌<◌, ◌≤◌}
+use Prim.Native.Nat.{ℕ, suc, ◌+◌, ◌-◌, ◌*◌, ◌<◌, ◌≤◌}
 use native.Mathlib.Omega.{arith}
 use mathlib.Core.Bool.{Bool, true, false, cond}
 use mathlib.Core.List.{List, [], ◌∷◌}
@@ -15,18 +15,17 @@ use Rattle.grammar.specs.declared.states.Frame.{Frame}
 use Rattle.grammar.specs.declared.states.Frame.TheVariants.{Top}
 use Rattle.grammar.specs.declared.states.Want.{Want}
 use Rattle.grammar.specs.declared.states.Want.TheVariants.{Start, Behind}
-use Rattle.grammar.specs.declared.states.Move.{Move}
-use Rattle.grammar.specs.declared.states.Move.TheVariants.{Stay, Push, Pop, Bad}
+use Rattle.grammar.specs.declared.states.Move.TheVariants.{Stay, Push, Pop}
 use Rattle.grammar.specs.declared.ends.Verdict.{Verdict}
 use Rattle.grammar.specs.declared.ends.Verdict.TheVariants.{Refused}
 use Rattle.grammar.specs.Kinds.{kind_of, kinds_of}
 use Rattle.grammar.specs.Steps.{step_of}
 use Rattle.grammar.specs.Walk.{walk_of, finish}
 use Rattle.fields.specs.inner.Again.{earlier}
-use Rattle.fields.specs.Fields.{names_field, again_from, again_of, by_again, named_walk}
+use Rattle.fields.specs.Fields.{names_field, again_of, by_again, named_walk}
 use Rattle.fields.specs.Names.{HasName, name_at}
 use Rattle.fields.specs.declared.again.Again.{Again}
-use Rattle.fields.specs.declared.again.Again.TheVariants.{Nowhere, At}
+use Rattle.fields.specs.declared.again.Again.TheVariants.{Nowhere}
 use Rattle.walk.specs.inner.Gathered.{part, base_of, inner_of, outers_of, Rising, Fields, Alike, again_in, first_of, told_by}
 use Rattle.walk.specs.inner.Turns.{Stops, at_end, deep, closes_none, not_allowed}
 use Rattle.walk.proofs.AgainLaws.{somewhere}

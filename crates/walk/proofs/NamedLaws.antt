@@ -1,12 +1,11 @@
 -- The loop that judges, with the names of fields: one turn for each thing that an entry can do. Assumes nothing.
-use Prim.Native.Nat.{ℕ, ◌+◌, ◌<◌, ◌≤◌}
+use Prim.Native.Nat.{ℕ, ◌+◌, ◌<◌}
 use native.Mathlib.Omega.{arith}
 use mathlib.Core.Bool.{Bool, true, false, cond}
 use mathlib.Core.List.{List, [], ◌∷◌}
 use mathlib.Core.Logic.{◌⊎◌, inl, inr}
 use mathlib.Core.Path.{◌≡◌, ◌∙◌, ap, refl, sym}
-use lib.Dec.{ltb}
-use borrow.Author.Tests.{lt-ltb, le-ltb, ltb-true, ltb-false}
+use borrow.Author.Tests.{lt-ltb, le-ltb}
 use Rattle.text.specs.Refusals.{tape_ends_early, repeated_field}
 use Rattle.text.specs.declared.refusal.Refusal.{Refusal}
 use Rattle.grammar.specs.declared.kinds.Kind.{Kind}
@@ -15,8 +14,7 @@ use Rattle.grammar.specs.declared.states.Frame.TheVariants.{Top, Square, Tuple, 
 use Rattle.grammar.specs.declared.states.Want.{Want}
 use Rattle.grammar.specs.declared.states.Want.TheVariants.{Start, Must, Item, First, FirstName, Named, Behind, Field, FieldName}
 use Rattle.grammar.specs.declared.states.Move.{Move}
-use Rattle.grammar.specs.declared.states.Move.TheVariants.{Stay, Push, Pop, Bad}
-use Rattle.grammar.specs.declared.ends.Verdict.{Verdict}
+use Rattle.grammar.specs.declared.states.Move.TheVariants.{Stay, Push, Pop}
 use Rattle.grammar.specs.declared.ends.Verdict.TheVariants.{Accepted, Refused}
 use Rattle.grammar.specs.Steps.{step_of}
 use Rattle.grammar.specs.Walk.{ended, finish}
@@ -26,7 +24,7 @@ use Rattle.fields.specs.declared.again.Again.{Again}
 use Rattle.fields.specs.declared.again.Again.TheVariants.{Nowhere, At}
 use Rattle.walk.specs.inner.Gathered.{or_at, again_in, first_of, told_by}
 use Rattle.fields.proofs.AgainOn.{again_from_on}
-use Rattle.walk.proofs.AgainLaws.{or_else, somewhere, one_place, earlier_nowhere, earlier_assoc, noted_none, noted_some}
+use Rattle.walk.proofs.AgainLaws.{or_else, one_place, earlier_assoc, noted_none, noted_some}
 
 ended_says : (f : Frame) (i : ℕ) → (ended f i ≡ Accepted) ⊎ (ended f i ≡ Refused (tape_ends_early i))
 ended_says Top i = inl refl

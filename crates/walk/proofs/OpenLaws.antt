@@ -1,15 +1,15 @@
 -- The brackets that are still open where the walk stops, the innermost first: one closes, and those around it are left. Assumes nothing.
-use Prim.Native.Nat.{ℕ, zero, suc, ◌+◌, ◌-◌, ◌<◌, ◌≤◌}
+use Prim.Native.Nat.{ℕ, suc, ◌-◌, ◌<◌, ◌≤◌}
 use native.Mathlib.Omega.{arith}
-use mathlib.Core.List.{List, [], ◌∷◌}
-use mathlib.Core.Path.{◌≡◌, ◌∙◌, ap, refl, subst, sym}
-use lib.ListN.{length, get_or}
+use mathlib.Core.List.{List, ◌∷◌}
+use mathlib.Core.Path.{◌≡◌, ◌∙◌, ap, subst, sym}
+use lib.ListN.{get_or}
 use Rattle.fields.specs.inner.Again.{earlier}
 use Rattle.fields.specs.Names.{HasName}
 use Rattle.fields.specs.declared.again.Again.{Again}
 use Rattle.walk.specs.inner.Gathered.{part, base_of, inner_of, outers_of, Rising, Fields, Alike, again_in, first_of}
 use Rattle.walk.proofs.AgainLaws.{earlier_nowhere, earlier_assoc}
-use Rattle.walk.proofs.GatherLaws.{part_alike, base_under, inner_alike, outers_alike}
+use Rattle.walk.proofs.GatherLaws.{inner_alike, outers_alike}
 
 -- the fields below a place are as they were
 pub fields_under : (text tape f g : List ℕ) (to b : ℕ) → Fields text tape f to → Alike f g b → b ≤ to → Fields text tape g b

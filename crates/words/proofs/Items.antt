@@ -1,21 +1,21 @@
 -- Laws of items between commas, and of the numbers that they say. Assumes nothing.
-use Prim.Native.Nat.{ℕ, zero, suc, ◌+◌, ◌-◌, ◌≤◌, ◌<◌}
+use Prim.Native.Nat.{ℕ, suc, ◌+◌, ◌-◌, ◌≤◌, ◌<◌}
 use native.Mathlib.Nat.{not-suc-le-zero, le_of_suc-le-suc}
 use native.Mathlib.Numerals.{add-one}
 use native.Mathlib.Omega.{arith}
 use mathlib.Core.Path.{◌≡◌, refl, sym, ap, ◌∙◌}
-use mathlib.Core.Bool.{Bool, true, false, cond, ◌&&◌}
+use mathlib.Core.Bool.{Bool, true, false}
 use mathlib.Core.List.{List, [], ◌∷◌}
 use lib.ListN.{length, take, drop}
 use lib.Seq.{take_all}
-use lib.Dec.{leb, ltb, eqb}
+use lib.Dec.{ltb, eqb}
 use borrow.Author.Tests.{le-leb, lt-leb, eq-eqb, ne_eqb, ltb-true, ltb-false}
 use Rattle.lines.specs.Find.{find_of}
 use Rattle.words.specs.Dash.{is_dash}
 use Rattle.text.specs.Classes.{within}
 use Rattle.words.specs.Number.{all_digits, value_from, decimal_from, decimal_of}
 use Rattle.words.specs.Small.{small_of}
-use Rattle.words.specs.Numbers.{in_front, items, on_small, smalls, numbers_of, items_in}
+use Rattle.words.specs.Numbers.{items, smalls, numbers_of, items_in}
 use Rattle.words.specs.declared.small.Small.{Small}
 use Rattle.words.specs.declared.small.Small.TheVariants as small
 use Rattle.words.specs.declared.list.Count.TheVariants.{Stored, Bad}

@@ -4,11 +4,11 @@ use native.Mathlib.Omega.{arith}
 use mathlib.Core.Path.{◌≡◌, refl, sym, ap, ◌∙◌, subst}
 use native.Mathlib.Nat.{eq-or-lt_of_le}
 use mathlib.Core.List.{List, [], ◌∷◌}
-use mathlib.Core.Bool.{Bool, true, false, cond, not, ◌&&◌, ◌||◌, true≢false}
+use mathlib.Core.Bool.{Bool, true, false, not, ◌&&◌, ◌||◌, true≢false}
 use lib.ListN.{length, get_or}
 use lib.Dec.{leb, ltb, eqb}
-use borrow.Author.Tests.{leb-true, ltb-true, le-leb, lt-leb, eq-eqb}
-use Rattle.xid.proofs.Choices.{and_false, and_true, bool_cases, either, or_false}
+use borrow.Author.Tests.{leb-true, ltb-true, eq-eqb}
+use Rattle.xid.proofs.Choices.{and_true, bool_cases, either, or_false}
 use Rattle.xid.proofs.Ranges.{above, above_first, below, below_last, inside}
 use Rattle.xid.specs.Rows.{Lies, Row, class_at, first_at, last_at}
 use Rattle.xid.specs.Xid.{within, in_rows, class_of, in_order, apart_from, starts, continues}

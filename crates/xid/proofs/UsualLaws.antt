@@ -2,10 +2,10 @@
 use Prim.Native.Nat.{ℕ, ◌+◌, ◌*◌, ◌≤◌, ◌<◌}
 use native.Mathlib.Omega.{arith}
 use mathlib.Core.Path.{◌≡◌, refl, sym, ap, ◌∙◌}
-use mathlib.Core.Bool.{Bool, true, false, not, ◌&&◌, ◌||◌}
+use mathlib.Core.Bool.{true, false, not, ◌&&◌, ◌||◌}
 use lib.ListN.{length}
-use lib.Dec.{eqb, leb, ltb, lit<}
-use borrow.Author.Tests.{eqb-false, ltb-true, ltb-false, lt-leb, le-leb, not-true}
+use lib.Dec.{eqb, leb, lit<}
+use borrow.Author.Tests.{eqb-false, not-true}
 use native.Mathlib.Nat.{eq-or-lt_of_le}
 use Rattle.xid.specs.Table.{table}
 use Rattle.xid.specs.Xid.{within, class_of, usual, xid_start, xid_continue, starts, continues}

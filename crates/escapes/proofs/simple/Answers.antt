@@ -32,4 +32,4 @@ returns-in-48 c = rw c.in-48.is
 
 pub returns-in_default : goal.returns-in_default
 unfolding simple_of
-returns-in_default c = simp (ne_eqb _ _ c.in_default.not-39, ne_eqb _ _ c.in_default.not-34, ne_eqb _ _ c.in_default.not-92, ne_eqb _ _ c.in_default.not-110, ne_eqb _ _ c.in_default.not-114, ne_eqb _ _ c.in_default.not-116, ne_eqb _ _ c.in_default.not-48)
+returns-in_default c = simp (ne_eqb _ _ c.in_default.in_default-own.rest.0.0.0.0.0.0.1, ne_eqb _ _ c.in_default.in_default-own.rest.0.0.0.0.0.1, ne_eqb _ _ c.in_default.in_default-own.rest.0.0.0.0.1, ne_eqb _ _ c.in_default.in_default-own.rest.0.0.0.1, ne_eqb _ _ c.in_default.in_default-own.rest.0.0.1, ne_eqb _ _ c.in_default.in_default-own.rest.0.1, ne_eqb _ _ c.in_default.in_default-own.rest.1)

@@ -1,5 +1,4 @@
 use mathlib.Core.Path.{◌∙◌, ap, sym}
-use borrow.Author.Rules.{rules}
 use Rattle.numbers.proofs.Laws.{number_else, number_float}
 use Rattle.numbers.specs.Numbers.{of_float}
 use Rattle.numbers.proofs.any_number.Goals as goal

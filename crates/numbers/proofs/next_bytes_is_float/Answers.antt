@@ -2,8 +2,6 @@ use Prim.Native.Nat.{◌+◌, ◌≤◌}
 use native.Mathlib.Omega.{arith}
 use mathlib.Core.Path.{◌∙◌, ◌≡◌, ap, sym}
 use lib.ListN.{drop, length, length-drop}
-use borrow.Author.Rules.{rules}
-use borrow.Author.Tests.{not-true}
 use Rattle.floats.specs.Classes.{float_run}
 use Rattle.integers.proofs.Fronts.{sign_le}
 use Rattle.integers.specs.declared.front.Sign.{Sign}

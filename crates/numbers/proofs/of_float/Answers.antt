@@ -1,4 +1,3 @@
-use borrow.Author.Rules.{rules}
 use Rattle.numbers.proofs.of_float.Goals as goal
 
 pub returns-in-Read : goal.returns-in-Read

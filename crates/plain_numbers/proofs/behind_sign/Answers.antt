@@ -10,7 +10,6 @@ use Rattle.text.specs.Runs.{run}
 use Rattle.plain_numbers.proofs.Said.{fraction_le, said_float, said_integer, said_long, said_loud, said_none}
 use Rattle.plain_numbers.proofs.Values.{cut_all}
 use Rattle.plain_numbers.specs.inner.PlainNumbers.{fraction_of}
-use borrow.Author.Rules.{rules}
 use Rattle.plain_numbers.proofs.behind_sign.Goals as goal
 
 pub returns-then-n-eq0 : goal.returns-then-n-eq0

@@ -5,7 +5,6 @@ use Rattle.text.proofs.Lists.{tail_part}
 use Rattle.integers.proofs.Fronts.{sign_le}
 use Rattle.integers.specs.declared.front.Sign.{Sign}
 use Rattle.plain_numbers.proofs.Said.{plain_said}
-use borrow.Author.Rules.{rules}
 use Rattle.plain_numbers.proofs.plain_number.Goals as goal
 
 pub slice_bounds-behind_sign-count : goal.slice_bounds-behind_sign-count

@@ -1,4 +1,3 @@
-use borrow.Author.Rules.{rules}
 use borrow.Author.Tests.{eq-eqb, ne_eqb}
 use Rattle.words.specs.Dash.{is_dash}
 use Rattle.words.proofs.is_dash.Goals as goal

@@ -18,11 +18,11 @@ pub returns : goal.returns
 returns c =
     let s : Arrival = c.args.s in
     let buffer : List ℕ = c.args.buffer.now in
-    let before : List ℕ = c.mark.new.0 in
+    let before : List ℕ = c.mark.new.s in
     let out : List ℕ × ℕ = (c.args.o.now, c.args.at) in
     let told : Told Outcome = piece_of s buffer c.args.n (room_of (length before)) in
     piece-line s buffer c.args.n (room_of (length before)) out _
-    (piece_stands c.args.tape.now before _ c.mark.ensures c.piece-r.auto.1.1.1.0 out _ _ (piece_text told ++ left_text told buffer)
-    (left_said told buffer _ before _ _ c.piece-r.ensures.0 c.piece-r.ensures.1 c.piece-r.ensures.2 c.piece-r.auto.1.1.1.0 out _ c.arrived-a.ensures _ c.left-b.ensures)
+    (piece_stands c.args.tape.now before _ c.mark.ensures c.piece-r.auto.tape out _ _ (piece_text told ++ left_text told buffer)
+    (left_said told buffer _ before _ _ c.piece-r.ensures.0 c.piece-r.ensures.1 c.piece-r.ensures.2 c.piece-r.auto.tape out _ c.arrived-a.ensures _ c.left-b.ensures)
     _ c.clean.ensures told _ c.piece-r.ensures.0 c.piece-r.ensures.2 c.arrived_clean.ensures)
-    ∙ ap (λ (n : ℕ). put out (piece_line s buffer c.args.n (room_of n))) c.mark.auto.0
+    ∙ ap (λ (n : ℕ). put out (piece_line s buffer c.args.n (room_of n))) c.mark.auto.s

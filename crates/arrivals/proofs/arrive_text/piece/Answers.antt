@@ -21,9 +21,11 @@ returns c =
     let buffer : List ℕ = c.args.buffer.now in
     let tape : List ℕ = c.args.tape.now in
     let out : List ℕ × ℕ = (c.args.o.now, c.args.at) in
-    let told : Told Outcome = piece_of s buffer c.args.n (room_of (length tape)) in (
-      then out _ _ (piece_text told) (ascii " | ")
-          (piece_said told buffer _ tape _ _ c.piece-r.ensures.0 c.piece-r.ensures.1 c.piece-r.ensures.2 c.piece-r.auto.1.1.1.0 out _ c.arrived-a.ensures)
-          c.bytes.ensures,
-      (c.behind.ensures ∙ ap (next_by s) c.piece-r.ensures.0 ∙ next_says s told, c.piece-r.ensures.1),
-    )
+    let told : Told Outcome = piece_of s buffer c.args.n (room_of (length tape)) in
+    record {
+      at_after = then out _ _ (piece_text told) (ascii " | ")
+          (piece_said told buffer _ tape _ _ c.piece-r.ensures.0 c.piece-r.ensures.1 c.piece-r.ensures.2 c.piece-r.auto.tape out _ c.arrived-a.ensures)
+          c.bytes.ensures;
+      state_value = c.behind.ensures ∙ ap (next_by s) c.piece-r.ensures.0 ∙ next_says s told;
+      buffer_after = c.piece-r.ensures.1;
+    }

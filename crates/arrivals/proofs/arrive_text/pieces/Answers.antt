@@ -38,12 +38,12 @@ loop-i-preserved c =
     let room : ℕ = room_of (length c.args.tape.now) in
     let inv = c.loop-i.invariant in (
       inv.0,
-      c.turn-s.auto.1.1.0 ∙ inv.1,
-      c.turn-s.auto.1.1.1.0 ∙ inv.2,
-      c.turn-s.auto.1.1.1.1.0 ∙ inv.3,
-      c.turn-s.ensures.1.3,
-      cuts_fit cuts c.loop-i.i n s c.turn-s.result text c.turn-s.new.1.1.0 room (c.loop-i.o, s.at) (c.turn-s.new.1.1.1.1.0, c.turn-s.result.at) (c.args.o.now, c.args.at) (omega (arith, inv.0, c.loop-i-test.true)) inv.5 (omega (arith, inv.1, c.requires.1)) _ c.turn-s.ensures.1,
-      left_goes cuts c.loop-i.i n s c.turn-s.result text c.turn-s.new.1.1.0 room (c.loop-i.o, s.at) (c.turn-s.new.1.1.1.1.0, c.turn-s.result.at) _ (omega (arith, inv.0, c.loop-i-test.true)) inv.5 (omega (arith, inv.1, c.requires.1)) _ (ap room_of inv.2) c.turn-s.ensures.1 c.turn-s.ensures.0 inv.6,
+      c.turn-s.auto.text ∙ inv.1,
+      c.turn-s.auto.tape ∙ inv.2,
+      c.turn-s.auto.o ∙ inv.3,
+      c.turn-s.ensures.turned.3,
+      cuts_fit cuts c.loop-i.i n s c.turn-s.result text c.turn-s.new.tape.1.0 room (c.loop-i.o, s.at) (c.turn-s.new.tape.1.1.1.0, c.turn-s.result.at) (c.args.o.now, c.args.at) (omega (arith, inv.0, c.loop-i-test.true)) inv.5 (omega (arith, inv.1, c.requires.1)) _ c.turn-s.ensures.turned,
+      left_goes cuts c.loop-i.i n s c.turn-s.result text c.turn-s.new.tape.1.0 room (c.loop-i.o, s.at) (c.turn-s.new.tape.1.1.1.0, c.turn-s.result.at) _ (omega (arith, inv.0, c.loop-i-test.true)) inv.5 (omega (arith, inv.1, c.requires.1)) _ (ap room_of inv.2) c.turn-s.ensures.turned c.turn-s.ensures.at_after inv.6,
     )
 
 pub overflow_sub-n : goal.overflow_sub-n
@@ -53,13 +53,13 @@ pub turn-rest-requires : goal.turn-rest-requires
 turn-rest-requires c = (c.loop-i.invariant.4, omega (arith, c.loop-i.invariant.1, c.loop-i.invariant.5, c.requires.1))
 
 pub shape_of-text : goal.shape_of-text
-shape_of-text c = c.turn-rest.auto.1.1.0 ∙ c.loop-i.invariant.1
+shape_of-text c = c.turn-rest.auto.text ∙ c.loop-i.invariant.1
 
 pub shape_of-tape : goal.shape_of-tape
-shape_of-tape c = c.end.auto.1.1.0 ∙ c.turn-rest.auto.1.1.1.0 ∙ c.loop-i.invariant.2
+shape_of-tape c = c.end.auto.tape ∙ c.turn-rest.auto.tape ∙ c.loop-i.invariant.2
 
 pub shape_of-o : goal.shape_of-o
-shape_of-o c = c.end.auto.1.1.1.0 ∙ c.turn-rest.auto.1.1.1.1.0 ∙ c.loop-i.invariant.3
+shape_of-o c = c.end.auto.o ∙ c.turn-rest.auto.o ∙ c.loop-i.invariant.3
 
 pub returns : goal.returns
 returns c =
@@ -69,5 +69,5 @@ returns c =
     let s : Stand = c.loop-i.s in
     let room : ℕ = room_of (length c.args.tape.now) in
     let inv = c.loop-i.invariant in
-    left_ends cuts c.loop-i.i n s c.turn-rest.result text c.turn-rest.new.1.1.0 room (c.loop-i.o, s.at) (c.turn-rest.new.1.1.1.1.0, c.turn-rest.result.at) _ (omega (arith, inv.0, c.loop-i-test.false)) (omega (arith, inv.5)) (omega (arith, inv.1, c.requires.1)) _ (ap room_of inv.2)
-    c.turn-rest.ensures.1 c.turn-rest.ensures.0 inv.6 _ _ (ap room_of (c.turn-rest.auto.1.1.1.0 ∙ inv.2)) c.end.ensures
+    left_ends cuts c.loop-i.i n s c.turn-rest.result text c.turn-rest.new.tape.1.0 room (c.loop-i.o, s.at) (c.turn-rest.new.tape.1.1.1.0, c.turn-rest.result.at) _ (omega (arith, inv.0, c.loop-i-test.false)) (omega (arith, inv.5)) (omega (arith, inv.1, c.requires.1)) _ (ap room_of inv.2)
+    c.turn-rest.ensures.turned c.turn-rest.ensures.at_after inv.6 _ _ (ap room_of (c.turn-rest.auto.tape ∙ inv.2)) c.end.ensures

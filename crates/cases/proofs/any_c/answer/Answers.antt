@@ -38,7 +38,7 @@ returns-in_default-bytes c =
     let is-hexed : ◌≡◌ {A = List ℕ} _ hexed = c.word.ensures ∙ ap first_word is-fourth in
     line4 out _ bad_text _ _ _ (over (pairs hexed) text) tape spare (any_line words text tape spare)
     (no_text words text tape spare c.in-Asks.q (sym c.front-asked.ensures ∙ c.in-Asks.is)
-    (said (λ (w : List ℕ). hex_in w (length text)) _ hexed _ _ c.bytes-bytes.ensures.0 is-hexed c.in_default-bytes.is)) c.bad-in_default-bytes.ensures (c.bytes-bytes.ensures.1 ∙ ap (λ (w : List ℕ). over (pairs w) text) is-hexed) refl refl
+    (said (λ (w : List ℕ). hex_in w (length text)) _ hexed _ _ c.bytes-bytes.ensures.value is-hexed c.in_default-bytes.is)) c.bad-in_default-bytes.ensures (c.bytes-bytes.ensures.buf_after ∙ ap (λ (w : List ℕ). over (pairs w) text) is-hexed) refl refl
 
 pub returns-in_default-numbers : goal.returns-in_default-numbers
 returns-in_default-numbers c =
@@ -55,8 +55,8 @@ returns-in_default-numbers c =
     let is-fifth : ◌≡◌ {A = List ℕ} _ fifth = c.behind-3.ensures ∙ ap behind_word is-fourth in
     line4 out _ bad_text _ _ _ (over (pairs hexed) text) (over (numbers_of fifth) tape) spare (any_line words text tape spare)
     (no_tape words text tape spare c.in-Asks.q (sym c.front-asked.ensures ∙ c.in-Asks.is) _
-    (said (λ (w : List ℕ). hex_in w (length text)) _ hexed _ _ c.bytes-bytes.ensures.0 is-hexed c.in-Bytes.is)
-    (said (λ (w : List ℕ). numbers_in w (length tape)) _ fifth _ _ c.numbers-numbers.ensures.0 is-fifth c.in_default-numbers.is)) c.bad-in_default-numbers.ensures (c.bytes-bytes.ensures.1 ∙ ap (λ (w : List ℕ). over (pairs w) text) is-hexed) (c.numbers-numbers.ensures.1 ∙ ap (λ (w : List ℕ). over (numbers_of w) tape) is-fifth) refl
+    (said (λ (w : List ℕ). hex_in w (length text)) _ hexed _ _ c.bytes-bytes.ensures.value is-hexed c.in-Bytes.is)
+    (said (λ (w : List ℕ). numbers_in w (length tape)) _ fifth _ _ c.numbers-numbers.ensures.value is-fifth c.in_default-numbers.is)) c.bad-in_default-numbers.ensures (c.bytes-bytes.ensures.buf_after ∙ ap (λ (w : List ℕ). over (pairs w) text) is-hexed) (c.numbers-numbers.ensures.tape_after ∙ ap (λ (w : List ℕ). over (numbers_of w) tape) is-fifth) refl
 
 pub returns : goal.returns
 returns c =
@@ -71,10 +71,10 @@ returns c =
     let is-hexed : ◌≡◌ {A = List ℕ} _ hexed = c.word.ensures ∙ ap first_word is-fourth in
     let fifth : List ℕ = behind_word fourth in
     let is-fifth : ◌≡◌ {A = List ℕ} _ fifth = c.behind-3.ensures ∙ ap behind_word is-fourth in
-    let h = said (λ (w : List ℕ). hex_in w (length text)) _ hexed _ _ c.bytes-bytes.ensures.0 is-hexed c.in-Bytes.is in
-    let left = c.bytes-bytes.ensures.1 ∙ ap (λ (w : List ℕ). over (pairs w) text) is-hexed in
-    let k = said (λ (w : List ℕ). numbers_in w (length tape)) _ fifth _ _ c.numbers-numbers.ensures.0 is-fifth c.in-Stored.is in
-    let stored = c.numbers-numbers.ensures.1 ∙ ap (λ (w : List ℕ). over (numbers_of w) tape) is-fifth in
+    let h = said (λ (w : List ℕ). hex_in w (length text)) _ hexed _ _ c.bytes-bytes.ensures.value is-hexed c.in-Bytes.is in
+    let left = c.bytes-bytes.ensures.buf_after ∙ ap (λ (w : List ℕ). over (pairs w) text) is-hexed in
+    let k = said (λ (w : List ℕ). numbers_in w (length tape)) _ fifth _ _ c.numbers-numbers.ensures.value is-fifth c.in-Stored.is in
+    let stored = c.numbers-numbers.ensures.tape_after ∙ ap (λ (w : List ℕ). over (numbers_of w) tape) is-fifth in
     let part = part_said hexed text _ _ _ h left c.part.ensures in
     let numbers = tape_said fifth tape _ _ _ k stored c.first.ensures in
     let both = said_same c.in-Asks.q spare _ (pairs hexed) _ (numbers_of fifth) _ out _ part numbers c.answer.ensures in

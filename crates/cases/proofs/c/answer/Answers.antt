@@ -43,7 +43,7 @@ returns-in_default-last c =
     let is_last : ◌≡◌ {A = List ℕ} _ last = c.behind.ensures ∙ ap behind_word c.behind-words.ensures in
     line3 out _ bad_text _ _ (over (pairs last) text) spare (contents_line words text spare)
     (no_bytes words text spare _ (said small_of _ (first_word words) _ _ c.small_of-first.ensures c.word.ensures c.in-Value.is) _ (said small_of _ (first_word (behind_word words)) _ _ c.small_of-second.ensures (c.word-2.ensures ∙ ap first_word c.behind-words.ensures) c.in-Value-second.is)
-    (said (λ (w : List ℕ). hex_in w (length text)) _ last _ _ c.bytes-last.ensures.0 is_last c.in_default-last.is)) c.bad-in_default-last.ensures (c.bytes-last.ensures.1 ∙ ap (λ (w : List ℕ). over (pairs w) text) is_last) refl
+    (said (λ (w : List ℕ). hex_in w (length text)) _ last _ _ c.bytes-last.ensures.value is_last c.in_default-last.is)) c.bad-in_default-last.ensures (c.bytes-last.ensures.buf_after ∙ ap (λ (w : List ℕ). over (pairs w) text) is_last) refl
 
 pub returns : goal.returns
 returns c =
@@ -53,8 +53,8 @@ returns c =
     let out : List ℕ × ℕ = (c.args.o.now, c.args.at) in
     let last : List ℕ = behind_word (behind_word words) in
     let is_last : ◌≡◌ {A = List ℕ} _ last = c.behind.ensures ∙ ap behind_word c.behind-words.ensures in
-    let h = said (λ (w : List ℕ). hex_in w (length text)) _ last _ _ c.bytes-last.ensures.0 is_last c.in-Bytes.is in
-    let left = c.bytes-last.ensures.1 ∙ ap (λ (w : List ℕ). over (pairs w) text) is_last in
+    let h = said (λ (w : List ℕ). hex_in w (length text)) _ last _ _ c.bytes-last.ensures.value is_last c.in-Bytes.is in
+    let left = c.bytes-last.ensures.buf_after ∙ ap (λ (w : List ℕ). over (pairs w) text) is_last in
     let part = part_said last text _ _ _ h left c.part.ensures in
     let both = said_same (asked 0 1 (2 ^ 64 - 1)) spare _ (pairs last) _ (c.in-Value.kind ∷ c.in-Value-second.start ∷ 0 ∷ 0 ∷ 0 ∷ []) _ out _ part refl c.answer.ensures in
     let own : List ℕ × List ℕ = entry_in words text spare c.in-Value.kind c.in-Value-second.start (pairs last) in

@@ -10,7 +10,8 @@ pub returns : goal.returns
 unfolding buffer_after
 returns c =
     let text : List ℕ = c.args.text.now in
-    let tape : List ℕ = c.args.tape.now in (
-      c.decoded.ensures.0 ∙ ap (decoded_answer text tape c.args.q.count c.args.q.entry) (search rules),
-      c.decoded.ensures.1 ∙ ap (decoded_out text tape c.args.q.count c.args.q.entry) c.mark.ensures,
-    )
+    let tape : List ℕ = c.args.tape.now in
+    record {
+      result_value = c.decoded.ensures.result_value ∙ ap (decoded_answer text tape c.args.q.count c.args.q.entry) (search rules);
+      buffer_after = c.decoded.ensures.out_after ∙ ap (decoded_out text tape c.args.q.count c.args.q.entry) c.mark.ensures;
+    }

@@ -32,8 +32,8 @@ returns-in_default-last c =
     let is_last : ◌≡◌ {A = List ℕ} _ last = c.behind-2.ensures ∙ ap behind_word c.behind.ensures in
     line_bad out _ (integer_line words text) _ typed_text (λ s. integer_of s c.in-At.place c.in-At.width) last text
     (integer_at words text c.in-At.width c.in-At.place (sym c.front-read.ensures ∙ c.in-At.is))
-    (c.bytes-last.ensures.1 ∙ ap (λ (w : List ℕ). over (pairs w) text) is_last)
-    (said (λ (w : List ℕ). hex_in w (length text)) _ last _ _ c.bytes-last.ensures.0 is_last c.in_default-last.is) c.bad-in_default-last.ensures
+    (c.bytes-last.ensures.buf_after ∙ ap (λ (w : List ℕ). over (pairs w) text) is_last)
+    (said (λ (w : List ℕ). hex_in w (length text)) _ last _ _ c.bytes-last.ensures.value is_last c.in_default-last.is) c.bad-in_default-last.ensures
 
 pub returns : goal.returns
 returns c =
@@ -44,5 +44,5 @@ returns c =
     let is_last : ◌≡◌ {A = List ℕ} _ last = c.behind-2.ensures ∙ ap behind_word c.behind.ensures in
     line_good out _ (integer_line words text) _ typed_text (λ s. integer_of s c.in-At.place c.in-At.width) last text
     (integer_at words text c.in-At.width c.in-At.place (sym c.front-read.ensures ∙ c.in-At.is))
-    (c.bytes-last.ensures.1 ∙ ap (λ (w : List ℕ). over (pairs w) text) is_last)
-    _ _ _ (said (λ (w : List ℕ). hex_in w (length text)) _ last _ _ c.bytes-last.ensures.0 is_last c.in-Bytes.is) c.part.ensures c.integer-value.ensures c.read.ensures
+    (c.bytes-last.ensures.buf_after ∙ ap (λ (w : List ℕ). over (pairs w) text) is_last)
+    _ _ _ (said (λ (w : List ℕ). hex_in w (length text)) _ last _ _ c.bytes-last.ensures.value is_last c.in-Bytes.is) c.part.ensures c.integer-value.ensures c.read.ensures

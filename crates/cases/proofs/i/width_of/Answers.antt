@@ -36,4 +36,4 @@ returns-in-8 c = rw c.in-8.is
 
 pub returns-in_default : goal.returns-in_default
 unfolding width_of
-returns-in_default c = simp (ne_eqb _ _ c.in_default.not-8, ne_eqb _ _ c.in_default.not-7, ne_eqb _ _ c.in_default.not-6, ne_eqb _ _ c.in_default.not-5, ne_eqb _ _ c.in_default.not-4, ne_eqb _ _ c.in_default.not-3, ne_eqb _ _ c.in_default.not-2, ne_eqb _ _ c.in_default.not-1)
+returns-in_default c = simp (ne_eqb _ _ c.in_default.in_default-own.rest.1, ne_eqb _ _ c.in_default.in_default-own.rest.0.1, ne_eqb _ _ c.in_default.in_default-own.rest.0.0.1, ne_eqb _ _ c.in_default.in_default-own.rest.0.0.0.1, ne_eqb _ _ c.in_default.in_default-own.rest.0.0.0.0.1, ne_eqb _ _ c.in_default.in_default-own.rest.0.0.0.0.0.1, ne_eqb _ _ c.in_default.in_default-own.rest.0.0.0.0.0.0.1, ne_eqb _ _ c.in_default.in_default-own.rest.0.0.0.0.0.0.0.1)

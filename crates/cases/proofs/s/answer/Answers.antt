@@ -59,8 +59,8 @@ returns-in_default-last c =
     (skip_at words text c.in-Value.cursor c.in-Value-second.pre c.in-Value-third.len (said decimal_of _ (first_word words) _ _ c.decimal_of-first.ensures c.word.ensures c.in-Value.is)
     (said decimal_of _ (first_word (behind_word words)) _ _ c.decimal_of-second.ensures (c.word-2.ensures ∙ ap first_word c.behind-words.ensures) c.in-Value-second.is)
     (said length_of _ (first_word (behind_word (behind_word words))) _ _ c.length_of-third.ensures (c.word-3.ensures ∙ ap first_word (c.behind-words-2.ensures ∙ ap behind_word c.behind-words.ensures)) c.in-Value-third.is))
-    (c.bytes-last.ensures.1 ∙ ap (λ (w : List ℕ). over (pairs w) text) is_last)
-    (said (λ (w : List ℕ). hex_in w (length text)) _ last _ _ c.bytes-last.ensures.0 is_last c.in_default-last.is) c.bad-in_default-last.ensures
+    (c.bytes-last.ensures.buf_after ∙ ap (λ (w : List ℕ). over (pairs w) text) is_last)
+    (said (λ (w : List ℕ). hex_in w (length text)) _ last _ _ c.bytes-last.ensures.value is_last c.in_default-last.is) c.bad-in_default-last.ensures
 
 pub returns : goal.returns
 returns c =
@@ -73,5 +73,5 @@ returns c =
     (skip_at words text c.in-Value.cursor c.in-Value-second.pre c.in-Value-third.len (said decimal_of _ (first_word words) _ _ c.decimal_of-first.ensures c.word.ensures c.in-Value.is)
     (said decimal_of _ (first_word (behind_word words)) _ _ c.decimal_of-second.ensures (c.word-2.ensures ∙ ap first_word c.behind-words.ensures) c.in-Value-second.is)
     (said length_of _ (first_word (behind_word (behind_word words))) _ _ c.length_of-third.ensures (c.word-3.ensures ∙ ap first_word (c.behind-words-2.ensures ∙ ap behind_word c.behind-words.ensures)) c.in-Value-third.is))
-    (c.bytes-last.ensures.1 ∙ ap (λ (w : List ℕ). over (pairs w) text) is_last)
-    _ _ _ (said (λ (w : List ℕ). hex_in w (length text)) _ last _ _ c.bytes-last.ensures.0 is_last c.in-Bytes.is) c.part.ensures c.skip-skipped.ensures c.skipped.ensures
+    (c.bytes-last.ensures.buf_after ∙ ap (λ (w : List ℕ). over (pairs w) text) is_last)
+    _ _ _ (said (λ (w : List ℕ). hex_in w (length text)) _ last _ _ c.bytes-last.ensures.value is_last c.in-Bytes.is) c.part.ensures c.skip-skipped.ensures c.skipped.ensures

@@ -1,13 +1,9 @@
-use Prim.Native.Nat.{◌+◌, ◌-◌, ◌≤◌}
 use native.Mathlib.Nat.{zero-add}
 use native.Mathlib.Omega.{arith}
-use mathlib.Core.Path.{◌∙◌, ◌≡◌, sym}
-use lib.ListN.{drop, length}
+use mathlib.Core.Path.{◌∙◌, sym}
 use borrow.Author.Rules.{rules}
-use borrow.Author.Tests.{not-false, not-true}
 use Rattle.text.proofs.RunLaws.{run_end, run_more, run_out}
 use Rattle.text.specs.Classes.{int_char}
-use Rattle.text.specs.Runs.{run}
 use Rattle.digits.proofs.digit.run_len.Goals as goal
 
 pub loop-i-init : goal.loop-i-init

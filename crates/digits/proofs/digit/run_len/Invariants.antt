@@ -1,11 +1,6 @@
 use Prim.Native.Nat.{◌+◌, ◌-◌, ◌≤◌}
-use native.Mathlib.Nat.{zero-add}
-use native.Mathlib.Omega.{arith}
-use mathlib.Core.Path.{◌∙◌, ◌≡◌, sym}
+use mathlib.Core.Path.{◌≡◌}
 use lib.ListN.{drop, length}
-use borrow.Author.Rules.{rules}
-use borrow.Author.Tests.{not-false, not-true}
-use Rattle.text.proofs.RunLaws.{run_end, run_more, run_out}
 use Rattle.text.specs.Classes.{int_char}
 use Rattle.text.specs.Runs.{run}
 use Rattle.digits.proofs.digit.run_len.Given as goal

@@ -1,17 +1,15 @@
-use Prim.Native.Nat.{◌/◌, ◌-◌, ◌≤◌, ℕ}
+use Prim.Native.Nat.{◌/◌, ℕ}
 use native.Mathlib.Omega.{arith}
 use mathlib.Core.Path.{◌∙◌, ◌≡◌, ap, refl, sym}
-use lib.Ieee.{low}
 use lib.IntN.{nat_abs, pos, neg_ℤ, ℤ}
-use lib.ListN.{drop, get_or, length}
+use lib.ListN.{get_or}
 use lib.Signed.{nat_abs-le}
 use borrow.Author.Rules.{rules}
 use Rattle.digits.proofs.Laws.{from_end, from_next, from_not, from_over}
 use Rattle.digits.proofs.Neg.{down_next, down_not, down_over, nat_abs_neg, self}
-use Rattle.digits.specs.Digits.{digits_from, digits_of, turn_of}
+use Rattle.digits.specs.Digits.{turn_of}
 use Rattle.digits.specs.inner.Down.{down_of}
 use Rattle.digits.specs.declared.Run.TheVariants.{Value}
-use Rattle.text.specs.Runs.{run}
 use Rattle.digits.proofs.Neg as neg
 use mir.Syntax.{w64}
 use mir.Val.{to_z, of_z}
@@ -21,34 +19,34 @@ use Rattle.digits.proofs.down.digits_down.Goals as goal
 pub nonzero_div-least : goal.nonzero_div-least
 nonzero_div-least c =
     let bounds : neg.Negative c.args.low c.args.low c.args.base = record {
-  acc_fits = c.ranges.low;
-  low_fits = c.ranges.low;
-  acc_neg = c.requires.2;
-  low_neg = c.requires.2;
-  acc_le = nat_abs-le c.args.low c.ranges.low.sfits;
-  low_le = nat_abs-le c.args.low c.ranges.low.sfits;
-  base_le = c.requires.1;
-} in
+      acc_fits = c.ranges.low;
+      low_fits = c.ranges.low;
+      acc_neg = c.requires.2;
+      low_neg = c.requires.2;
+      acc_le = nat_abs-le c.args.low c.ranges.low.sfits;
+      low_le = nat_abs-le c.args.low c.ranges.low.sfits;
+      base_le = c.requires.1;
+    } in
     (c.requires.0, neg.quot_fits (bounds))
 
 pub loop-i-init : goal.loop-i-init
-loop-i-init c = (search rules, (0, (refl, refl)))
+loop-i-init c = (omega arith, (0, (refl, refl)))
 
 pub turn_down-t-requires : goal.turn_down-t-requires
 turn_down-t-requires c =
     let low_is : to_z w64 (of_z w64 c.args.low) ≡ c.args.low = to_z-of_z w64 c.args.low c.ranges.low in
     let bounds : neg.Negative c.args.low c.args.low c.args.base = record {
-  acc_fits = c.ranges.low;
-  low_fits = c.ranges.low;
-  acc_neg = c.requires.2;
-  low_neg = c.requires.2;
-  acc_le = nat_abs-le c.args.low c.ranges.low.sfits;
-  low_le = nat_abs-le c.args.low c.ranges.low.sfits;
-  base_le = c.requires.1;
-} in
+      acc_fits = c.ranges.low;
+      low_fits = c.ranges.low;
+      acc_neg = c.requires.2;
+      low_neg = c.requires.2;
+      acc_le = nat_abs-le c.args.low c.ranges.low.sfits;
+      low_le = nat_abs-le c.args.low c.ranges.low.sfits;
+      base_le = c.requires.1;
+    } in
     let l = c.loop-i in
     let p = c.requires in
-    (p.0, p.1, self _ l.invariant.1.0 l.invariant.1.1.0, self _ (nat_abs c.args.low) (low_is ∙ p.2), neg.quot-held (bounds) ∙ ap (λ (z : ℤ). neg_ℤ (pos (nat_abs z / c.args.base))) (sym (low_is)))
+    (p.0, p.1, self _ l.invariant.1.0 l.invariant.1.1.0, self _ (nat_abs c.args.low) (low_is ∙ p.2), neg.quot_held (bounds) ∙ ap (λ (z : ℤ). neg_ℤ (pos (nat_abs z / c.args.base))) (sym (low_is)))
 
 pub returns-in-Over : goal.returns-in-Over
 returns-in-Over c =

@@ -1,11 +1,7 @@
-use Prim.Native.Nat.{◌-◌, ◌≤◌}
 use native.Mathlib.Omega.{arith}
-use mathlib.Core.Path.{◌∙◌, ◌≡◌, refl, sym}
-use lib.ListN.{drop, length}
+use mathlib.Core.Path.{◌∙◌, refl, sym}
 use borrow.Author.Rules.{rules}
 use Rattle.digits.proofs.Laws.{from_end, from_next, from_not, from_over}
-use Rattle.digits.specs.Digits.{digits_from, digits_of}
-use Rattle.text.specs.Runs.{run}
 use Rattle.digits.proofs.up.digits.Goals as goal
 
 pub loop-i-init : goal.loop-i-init

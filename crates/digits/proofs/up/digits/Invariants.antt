@@ -1,11 +1,7 @@
 use Prim.Native.Nat.{◌-◌, ◌≤◌}
-use native.Mathlib.Omega.{arith}
-use mathlib.Core.Path.{◌∙◌, ◌≡◌, refl, sym}
+use mathlib.Core.Path.{◌≡◌}
 use lib.ListN.{drop, length}
-use borrow.Author.Rules.{rules}
-use Rattle.digits.proofs.Laws.{from_end, from_next, from_not, from_over}
 use Rattle.digits.specs.Digits.{digits_from, digits_of}
-use Rattle.text.specs.Runs.{run}
 use Rattle.digits.proofs.up.digits.Given as goal
 
 abbrev pub invariant-loop-i : goal.invariant-loop-i

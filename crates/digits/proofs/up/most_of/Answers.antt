@@ -1,6 +1,5 @@
 use Prim.Native.Nat.{◌/◌, ℕ}
 use mathlib.Core.Path.{ap, sym}
-use borrow.Author.Rules.{rules}
 use Rattle.digits.proofs.up.most_of.Goals as goal
 
 pub returns-then-base-eq10 : goal.returns-then-base-eq10

@@ -1,13 +1,12 @@
-use Prim.Native.Nat.{ℕ, ◌+◌, ◌-◌, ◌≤◌}
+use Prim.Native.Nat.{ℕ, ◌+◌}
 use native.Mathlib.Omega.{arith}
-use mathlib.Core.Logic.{⊎_elim}
 use mathlib.Core.Path.{◌∙◌, ◌≡◌, subst, sym}
-use borrow.Author.Rules.{rules}
 use Rattle.fields.proofs.EntryLaws.{named_at}
 use Rattle.fields.proofs.FirstLaws.{Least, Part, part_start, part_done, turn_other, turn_same}
 use Rattle.fields.specs.Names.{name_at}
 use Rattle.fields.specs.declared.again.Again.{Again}
 use Rattle.fields.proofs.again.against.Goals as goal
+use Rattle.fields.proofs.again.against.Goals.{then-same_name, else-same_name}
 
 pub loop-q-init : goal.loop-q-init
 loop-q-init c = (omega arith, part_start (name_at c.args.text.now c.args.tape.now) c.args.fields.now c.args.p c.args.known c.requires.2)
@@ -18,10 +17,10 @@ same_name-requires c = (named_at c.args.text.now c.args.tape.now c.args.fields.n
 pub loop-q-preserved : goal.loop-q-preserved
 loop-q-preserved c = (
   omega (arith, c.loop-q-test.true),
-  ⊎_elim
-      (λ w. subst (λ (a : Again). Least (Part (name_at c.args.text.now c.args.tape.now) c.args.fields.now c.args.p (c.loop-q.q + 1)) a) (sym (w.2 ∙ w.1.ensures)) (turn_same (name_at c.args.text.now c.args.tape.now) c.args.fields.now c.args.p c.loop-q.q c.loop-q.found (sym c.same_name.ensures ∙ w.0.taken) c.loop-q.invariant.1))
-      (λ w. subst (λ (a : Again). Least (Part (name_at c.args.text.now c.args.tape.now) c.args.fields.now c.args.p (c.loop-q.q + 1)) a) (sym w.1) (turn_other (name_at c.args.text.now c.args.tape.now) c.args.fields.now c.args.p c.loop-q.q c.loop-q.found (sym c.same_name.ensures ∙ w.0.left) c.loop-q.invariant.1))
-      c.if-same_name.branch,
+  elim c.if-same_name.branch [
+    | then-same_name w ↦ subst (λ (a : Again). Least (Part (name_at c.args.text.now c.args.tape.now) c.args.fields.now c.args.p (c.loop-q.q + 1)) a) (sym (w.found-is ∙ w.paired-found.ensures)) (turn_same (name_at c.args.text.now c.args.tape.now) c.args.fields.now c.args.p c.loop-q.q c.loop-q.found (sym c.same_name.ensures ∙ w.if-same_name.true) c.loop-q.invariant.1)
+    | else-same_name w ↦ subst (λ (a : Again). Least (Part (name_at c.args.text.now c.args.tape.now) c.args.fields.now c.args.p (c.loop-q.q + 1)) a) (sym w.found-is) (turn_other (name_at c.args.text.now c.args.tape.now) c.args.fields.now c.args.p c.loop-q.q c.loop-q.found (sym c.same_name.ensures ∙ w.if-same_name.false) c.loop-q.invariant.1)
+  ],
 )
 
 pub returns : goal.returns

@@ -1,12 +1,6 @@
-use Prim.Native.Nat.{ℕ, ◌+◌, ◌-◌, ◌≤◌}
-use native.Mathlib.Omega.{arith}
-use mathlib.Core.Logic.{⊎_elim}
-use mathlib.Core.Path.{◌∙◌, ◌≡◌, subst, sym}
-use borrow.Author.Rules.{rules}
-use Rattle.fields.proofs.EntryLaws.{named_at}
-use Rattle.fields.proofs.FirstLaws.{Least, Part, part_start, part_done, turn_other, turn_same}
+use Prim.Native.Nat.{◌-◌, ◌≤◌}
+use Rattle.fields.proofs.FirstLaws.{Least, Part}
 use Rattle.fields.specs.Names.{name_at}
-use Rattle.fields.specs.declared.again.Again.{Again}
 use Rattle.fields.proofs.again.against.Given as goal
 
 abbrev pub invariant-loop-q : goal.invariant-loop-q

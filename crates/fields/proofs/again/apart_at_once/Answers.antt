@@ -1,13 +1,11 @@
-use Prim.Native.Nat.{◌-◌}
 use native.Mathlib.Nat.{not-suc-le-zero}
 use native.Mathlib.Omega.{arith}
 use mathlib.Core.Bool.{true, true≢false}
-use mathlib.Core.Path.{◌∙◌, ◌≡◌, refl, sym}
-use lib.ListN.{length, length-set}
-use borrow.Author.Rules.{rules}
+use mathlib.Core.Path.{◌∙◌, refl, sym}
+use lib.ListN.{length-set}
 use Rattle.fields.proofs.EntryLaws.{named_at}
-use Rattle.fields.proofs.FirstLaws.{Apart, apart_nowhere}
-use Rattle.fields.proofs.SlotLaws.{Taken, apart_more, apart_none, taken_more}
+use Rattle.fields.proofs.FirstLaws.{apart_nowhere}
+use Rattle.fields.proofs.SlotLaws.{apart_more, apart_none, taken_more}
 use Rattle.fields.specs.Names.{name_at}
 use Rattle.fields.proofs.again.apart_at_once.Goals as goal
 

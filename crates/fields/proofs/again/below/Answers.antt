@@ -1,5 +1,4 @@
 use native.Mathlib.Omega.{arith}
-use borrow.Author.Rules.{rules}
 use Rattle.fields.proofs.EntryLaws.{named_at}
 use Rattle.fields.proofs.again.below.Goals as goal
 

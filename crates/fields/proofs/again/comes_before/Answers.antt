@@ -1,5 +1,4 @@
 use mathlib.Core.Path.{◌∙◌, ap, sym}
-use borrow.Author.Rules.{rules}
 use Rattle.fields.specs.declared.comparing.Order.{Order}
 use Rattle.fields.specs.inner.Order.{by_order}
 use Rattle.fields.proofs.again.comes_before.Goals as goal

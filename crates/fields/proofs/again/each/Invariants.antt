@@ -1,8 +1,5 @@
 use Prim.Native.Nat.{◌-◌, ◌≤◌}
-use native.Mathlib.Omega.{arith}
 use lib.ListN.{length, take}
-use borrow.Author.Rules.{rules}
-use Rattle.fields.proofs.FirstLaws.{first_all, first_start}
 use Rattle.fields.specs.inner.Again.{FirstIn}
 use Rattle.fields.specs.Names.{name_at}
 use Rattle.fields.proofs.again.each.Given as goal

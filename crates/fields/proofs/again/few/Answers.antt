@@ -1,4 +1,3 @@
-use borrow.Author.Rules.{rules}
 use Rattle.fields.proofs.again.few.Goals as goal
 
 pub returns-then-apart_at_once : goal.returns-then-apart_at_once

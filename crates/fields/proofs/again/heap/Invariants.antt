@@ -1,6 +1,3 @@
-use native.Mathlib.Omega.{arith}
-use borrow.Author.Rules.{rules}
-use Rattle.fields.proofs.EntryLaws.{entries_same, entries_twice, named_left}
 use Rattle.fields.specs.inner.Order.{SameEntries}
 use Rattle.fields.proofs.again.heap.Given as goal
 

@@ -1,16 +1,13 @@
-use Prim.Native.Nat.{◌+◌, ◌-◌, ◌≤◌}
+use Prim.Native.Nat.{◌+◌}
 use native.Mathlib.Omega.{arith}
-use mathlib.Core.Logic.{⊎_elim}
 use mathlib.Core.Path.{◌∙◌, subst, sym}
-use lib.ListN.{length}
-use borrow.Author.Rules.{rules}
-use borrow.Author.Tests.{not-false}
 use Rattle.fields.proofs.EntryLaws.{named_at}
-use Rattle.fields.proofs.FirstLaws.{Ascending, Least, Near, ascending_on, near_done, near_other, near_same, near_start, ascending_start}
+use Rattle.fields.proofs.FirstLaws.{Least, Near, ascending_on, near_done, near_other, near_same, near_start, ascending_start}
 use Rattle.fields.specs.Names.{name_at}
 use Rattle.fields.specs.declared.again.Again.{Again}
 use Rattle.fields.specs.inner.Order.{told, unsorted}
 use Rattle.fields.proofs.again.neighbours.Goals as goal
+use Rattle.fields.proofs.again.neighbours.Goals.{then-same_name, else-same_name}
 
 pub loop-p-init : goal.loop-p-init
 loop-p-init c = (omega arith, ascending_start (name_at c.args.text.now c.args.tape.now) c.args.fields.now, near_start (name_at c.args.text.now c.args.tape.now) c.args.fields.now)
@@ -25,16 +22,16 @@ pub same_name-requires : goal.same_name-requires
 same_name-requires c = (named_at c.args.text.now c.args.tape.now c.args.fields.now c.requires _ (omega (arith, c.loop-p-test.true)), named_at c.args.text.now c.args.tape.now c.args.fields.now c.requires _ (omega (arith, c.loop-p-test.true)))
 
 pub overflow_cast-y : goal.overflow_cast-y
-overflow_cast-y c = omega (arith, c.shared_slice_known-in-loop-p-2-1.given c.loop-p.p)
+overflow_cast-y c = omega (arith, c.type_inv.fields c.loop-p.p)
 
 pub loop-p-preserved : goal.loop-p-preserved
 loop-p-preserved c = (
   omega arith,
   ascending_on (name_at c.args.text.now c.args.tape.now) c.args.fields.now c.loop-p.p c.loop-p.invariant.0 (omega (arith, c.loop-p-test.true)) c.loop-p.invariant.1 (sym c.comes_before.ensures ∙ c.if-not-comes_before.false),
-  ⊎_elim
-      (λ w. subst (λ (a : Again). Least (Near (name_at c.args.text.now c.args.tape.now) c.args.fields.now (c.loop-p.p + 1)) a) (sym (w.2 ∙ w.1.ensures)) (near_same (name_at c.args.text.now c.args.tape.now) c.args.fields.now c.loop-p.p c.loop-p.invariant.0 (omega (arith, c.loop-p-test.true)) c.loop-p.found (sym c.same_name.ensures ∙ w.0.taken) c.loop-p.invariant.2))
-      (λ w. subst (λ (a : Again). Least (Near (name_at c.args.text.now c.args.tape.now) c.args.fields.now (c.loop-p.p + 1)) a) (sym w.1) (near_other (name_at c.args.text.now c.args.tape.now) c.args.fields.now c.loop-p.p c.loop-p.invariant.0 (omega (arith, c.loop-p-test.true)) c.loop-p.found (sym c.same_name.ensures ∙ w.0.left) c.loop-p.invariant.2))
-      c.if-same_name.branch,
+  elim c.if-same_name.branch [
+    | then-same_name w ↦ subst (λ (a : Again). Least (Near (name_at c.args.text.now c.args.tape.now) c.args.fields.now (c.loop-p.p + 1)) a) (sym (w.found-is ∙ w.earlier-found.ensures)) (near_same (name_at c.args.text.now c.args.tape.now) c.args.fields.now c.loop-p.p c.loop-p.invariant.0 (omega (arith, c.loop-p-test.true)) c.loop-p.found (sym c.same_name.ensures ∙ w.if-same_name.true) c.loop-p.invariant.2)
+    | else-same_name w ↦ subst (λ (a : Again). Least (Near (name_at c.args.text.now c.args.tape.now) c.args.fields.now (c.loop-p.p + 1)) a) (sym w.found-is) (near_other (name_at c.args.text.now c.args.tape.now) c.args.fields.now c.loop-p.p c.loop-p.invariant.0 (omega (arith, c.loop-p-test.true)) c.loop-p.found (sym c.same_name.ensures ∙ w.if-same_name.false) c.loop-p.invariant.2)
+  ],
 )
 
 pub returns : goal.returns

@@ -1,4 +1,3 @@
-use borrow.Author.Rules.{rules}
 use borrow.Author.Tests.{lt-ltb, le-ltb}
 use Rattle.fields.specs.inner.Order.{paired_of}
 use Rattle.fields.proofs.again.paired.Goals as goal

@@ -1,8 +1,5 @@
-use Prim.Native.Nat.{◌-◌}
 use native.Mathlib.Omega.{arith}
-use borrow.Author.Rules.{rules}
 use Rattle.fields.proofs.EntryLaws.{entries_same, entries_twice, named_at, named_left}
-use Rattle.fields.specs.inner.Order.{SameEntries}
 use Rattle.fields.proofs.again.sift.Goals as goal
 
 pub loop-p-init : goal.loop-p-init

@@ -1,10 +1,6 @@
-use Prim.Native.Nat.{◌≤◌}
 use native.Mathlib.Omega.{arith}
 use mathlib.Core.Path.{◌∙◌}
-use lib.ListN.{length}
-use borrow.Author.Rules.{rules}
 use Rattle.fields.proofs.EntryLaws.{entries_same, entries_twice, named_left}
-use Rattle.fields.specs.inner.Order.{SameEntries}
 use Rattle.fields.proofs.again.sort.Goals as goal
 
 pub loop-n-init : goal.loop-n-init

@@ -1,4 +1,3 @@
-use borrow.Author.Rules.{rules}
 use Rattle.fields.proofs.EntryLaws.{entries_swapped}
 use Rattle.fields.proofs.again.swap.Goals as goal
 

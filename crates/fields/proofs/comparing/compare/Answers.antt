@@ -1,7 +1,6 @@
 use mathlib.Core.Path.{◌∙◌, ap₂}
 use Rattle.fields.specs.inner.Order.{order_of}
 use Rattle.fields.proofs.NameLaws.{name_part, name_within}
-use borrow.Author.Rules.{rules}
 use Rattle.fields.proofs.comparing.compare.Goals as goal
 
 pub slice_bounds-ordered-count : goal.slice_bounds-ordered-count

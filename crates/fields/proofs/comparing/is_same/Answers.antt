@@ -1,10 +1,6 @@
-use Prim.Native.Nat.{◌-◌, ◌≤◌}
 use native.Mathlib.Omega.{arith}
-use mathlib.Core.Path.{◌∙◌, ◌≡◌, refl, sym}
-use lib.ListN.{drop, length}
-use Rattle.fields.specs.Fields.{same}
+use mathlib.Core.Path.{◌∙◌, refl, sym}
 use Rattle.fields.proofs.SameLaws.{same_differ, same_end, same_length, same_more}
-use borrow.Author.Rules.{rules}
 use Rattle.fields.proofs.comparing.is_same.Goals as goal
 
 pub returns-then-a-b : goal.returns-then-a-b

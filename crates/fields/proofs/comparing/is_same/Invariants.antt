@@ -1,10 +1,7 @@
 use Prim.Native.Nat.{◌-◌, ◌≤◌}
-use native.Mathlib.Omega.{arith}
-use mathlib.Core.Path.{◌∙◌, ◌≡◌, refl, sym}
+use mathlib.Core.Path.{◌≡◌}
 use lib.ListN.{drop, length}
 use Rattle.fields.specs.Fields.{same}
-use Rattle.fields.proofs.SameLaws.{same_differ, same_end, same_length, same_more}
-use borrow.Author.Rules.{rules}
 use Rattle.fields.proofs.comparing.is_same.Given as goal
 
 abbrev pub invariant-loop-i : goal.invariant-loop-i

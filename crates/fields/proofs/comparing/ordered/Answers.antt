@@ -1,10 +1,6 @@
-use Prim.Native.Nat.{◌-◌, ◌≤◌}
 use native.Mathlib.Omega.{arith}
-use mathlib.Core.Path.{◌∙◌, ◌≡◌, refl, sym}
-use lib.ListN.{drop, length}
-use Rattle.fields.specs.inner.Order.{order_of}
+use mathlib.Core.Path.{◌∙◌, refl, sym}
 use Rattle.fields.proofs.SameLaws.{order_above, order_below, order_end, order_long, order_more, order_short}
-use borrow.Author.Rules.{rules}
 use Rattle.fields.proofs.comparing.ordered.Goals as goal
 
 pub loop-i-init : goal.loop-i-init

@@ -1,10 +1,7 @@
 use Prim.Native.Nat.{◌-◌, ◌≤◌}
-use native.Mathlib.Omega.{arith}
-use mathlib.Core.Path.{◌∙◌, ◌≡◌, refl, sym}
+use mathlib.Core.Path.{◌≡◌}
 use lib.ListN.{drop, length}
 use Rattle.fields.specs.inner.Order.{order_of}
-use Rattle.fields.proofs.SameLaws.{order_above, order_below, order_end, order_long, order_more, order_short}
-use borrow.Author.Rules.{rules}
 use Rattle.fields.proofs.comparing.ordered.Given as goal
 
 abbrev pub invariant-loop-i : goal.invariant-loop-i

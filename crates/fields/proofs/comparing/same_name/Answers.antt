@@ -1,7 +1,6 @@
 use mathlib.Core.Path.{◌∙◌, ap₂}
 use Rattle.fields.specs.Fields.{same}
 use Rattle.fields.proofs.NameLaws.{name_part, name_within}
-use borrow.Author.Rules.{rules}
 use Rattle.fields.proofs.comparing.same_name.Goals as goal
 
 pub slice_bounds-is_same-count : goal.slice_bounds-is_same-count

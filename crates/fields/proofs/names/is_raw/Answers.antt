@@ -1,7 +1,6 @@
 use mathlib.Core.Path.{ap}
 use lib.Dec.{eqb}
 use Rattle.rows.specs.declared.Entry.{Entry}
-use borrow.Author.Rules.{rules}
 use Rattle.fields.proofs.names.is_raw.Goals as goal
 
 pub returns : goal.returns

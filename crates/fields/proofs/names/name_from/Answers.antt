@@ -1,6 +1,5 @@
 use native.Mathlib.Omega.{arith}
 use borrow.Author.Tests.{eq-eqb, ne_eqb}
-use borrow.Author.Rules.{rules}
 use Rattle.fields.proofs.names.name_from.Goals as goal
 
 pub returns-then-e-eq-RAW_NAME : goal.returns-then-e-eq-RAW_NAME

@@ -3,7 +3,6 @@ use native.Mathlib.Omega.{arith}
 use mathlib.Core.Path.{◌∙◌, ap, sym}
 use lib.Dec.{eqb}
 use Rattle.fields.proofs.RawLaws.{raw_first, raw_other, raw_second, raw_short}
-use borrow.Author.Rules.{rules}
 use Rattle.fields.proofs.names.raw_fits.Goals as goal
 
 pub returns-then-e-ne-RAW_NAME : goal.returns-then-e-ne-RAW_NAME

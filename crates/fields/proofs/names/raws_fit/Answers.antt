@@ -1,10 +1,8 @@
-use Prim.Native.Nat.{◌-◌, ◌≤◌}
 use native.Mathlib.Omega.{arith}
 use mathlib.Core.Path.{◌∙◌, sym}
 use Rattle.rows.specs.Rows.{entries_of}
 use Rattle.fields.specs.Names.{raws_fit}
-use Rattle.fields.proofs.RawLaws.{FitLeft, fit_eight, fit_starts}
-use borrow.Author.Rules.{rules}
+use Rattle.fields.proofs.RawLaws.{fit_eight, fit_starts}
 use Rattle.fields.proofs.names.raws_fit.Goals as goal
 
 pub loop-i-init : goal.loop-i-init

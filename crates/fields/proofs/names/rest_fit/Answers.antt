@@ -1,12 +1,10 @@
-use Prim.Native.Nat.{◌*◌, ◌-◌, ◌≤◌}
+use Prim.Native.Nat.{◌*◌, ◌-◌}
 use native.Mathlib.Omega.{arith}
 use mathlib.Core.Path.{◌∙◌, ap, refl, sym}
-use borrow.Author.Tests.{not-false, not-true}
 use lib.ListN.{drop}
 use Rattle.rows.specs.Rows.{entries_of, entry_at, width}
 use Rattle.fields.specs.Names.{raw_fits, raws_fit}
-use Rattle.fields.proofs.RawLaws.{FitLeft, fit_bad, fit_done, fit_on, row_at, row_fit}
-use borrow.Author.Rules.{rules}
+use Rattle.fields.proofs.RawLaws.{fit_bad, fit_done, fit_on, row_at, row_fit}
 use Rattle.fields.proofs.names.rest_fit.Goals as goal
 
 pub loop-i-init : goal.loop-i-init

@@ -1,12 +1,8 @@
 use Prim.Native.Nat.{◌*◌, ◌-◌, ◌≤◌}
-use native.Mathlib.Omega.{arith}
-use mathlib.Core.Path.{◌∙◌, ap, refl, sym}
-use borrow.Author.Tests.{not-false, not-true}
 use lib.ListN.{drop}
-use Rattle.rows.specs.Rows.{entries_of, entry_at, width}
-use Rattle.fields.specs.Names.{raw_fits, raws_fit}
-use Rattle.fields.proofs.RawLaws.{FitLeft, fit_bad, fit_done, fit_on, row_at, row_fit}
-use borrow.Author.Rules.{rules}
+use Rattle.rows.specs.Rows.{entries_of, width}
+use Rattle.fields.specs.Names.{raws_fit}
+use Rattle.fields.proofs.RawLaws.{FitLeft}
 use Rattle.fields.proofs.names.rest_fit.Given as goal
 
 abbrev pub invariant-loop-i : goal.invariant-loop-i

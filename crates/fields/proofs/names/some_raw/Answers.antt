@@ -1,5 +1,4 @@
 use mathlib.Core.Path.{◌∙◌, sym}
-use borrow.Author.Rules.{rules}
 use Rattle.fields.proofs.names.some_raw.Goals as goal
 
 pub returns-then-is_raw : goal.returns-then-is_raw

@@ -1,4 +1,3 @@
-use borrow.Author.Rules.{rules}
 use borrow.Author.Tests.{eq-eqb, ne_eqb}
 use Rattle.floats.specs.Classes.{float_goes}
 use Rattle.floats.proofs.class.float_goes.Goals as goal

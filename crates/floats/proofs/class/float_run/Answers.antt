@@ -1,9 +1,7 @@
-use Prim.Native.Nat.{◌+◌, ◌-◌, ◌≤◌}
 use native.Mathlib.Omega.{arith}
-use mathlib.Core.Path.{◌∙◌, ◌≡◌, ap, sym}
-use lib.ListN.{drop, get_or, length}
-use borrow.Author.Rules.{rules}
-use Rattle.floats.specs.Classes.{float_goes, float_run}
+use mathlib.Core.Path.{◌∙◌, ap, sym}
+use lib.ListN.{get_or}
+use Rattle.floats.specs.Classes.{float_goes}
 use Rattle.text.proofs.RunLaws.{run2_end, run2_more, run2_out}
 use Rattle.floats.proofs.class.float_run.Goals as goal
 

@@ -1,10 +1,7 @@
 use Prim.Native.Nat.{◌+◌, ◌-◌, ◌≤◌}
-use native.Mathlib.Omega.{arith}
-use mathlib.Core.Path.{◌∙◌, ◌≡◌, ap, sym}
-use lib.ListN.{drop, get_or, length}
-use borrow.Author.Rules.{rules}
-use Rattle.floats.specs.Classes.{float_goes, float_run}
-use Rattle.text.proofs.RunLaws.{run2_end, run2_more, run2_out}
+use mathlib.Core.Path.{◌≡◌}
+use lib.ListN.{drop, length}
+use Rattle.floats.specs.Classes.{float_run}
 use Rattle.floats.proofs.class.float_run.Given as goal
 
 abbrev pub invariant-loop-i : goal.invariant-loop-i

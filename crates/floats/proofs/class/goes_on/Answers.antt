@@ -1,5 +1,4 @@
 use mathlib.Core.Path.{sym}
-use borrow.Author.Rules.{rules}
 use Rattle.floats.proofs.class.goes_on.Goals as goal
 
 pub returns : goal.returns

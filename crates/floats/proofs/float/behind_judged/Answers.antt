@@ -1,4 +1,3 @@
-use borrow.Author.Rules.{rules}
 use Rattle.floats.proofs.float.behind_judged.Goals as goal
 
 pub returns-in-Misplaced : goal.returns-in-Misplaced

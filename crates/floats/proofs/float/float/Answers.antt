@@ -1,7 +1,6 @@
 use native.Mathlib.Omega.{arith}
-use mathlib.Core.Path.{◌∙◌, ap, sym}
+use mathlib.Core.Path.{◌∙◌, ap}
 use lib.ListN.{drop, length-drop}
-use borrow.Author.Rules.{rules}
 use Rattle.floats.proofs.Laws.{float_none, float_plain, float_signed}
 use Rattle.floats.specs.Float.{specials}
 use Rattle.integers.proofs.Fronts.{sign_le}

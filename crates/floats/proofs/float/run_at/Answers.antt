@@ -2,7 +2,6 @@ use native.Mathlib.Omega.{arith}
 use mathlib.Core.Path.{◌∙◌, ap, sym}
 use lib.ListN.{drop, length-drop}
 use lib.Seq.{length-take-le}
-use borrow.Author.Rules.{rules}
 use Rattle.floats.proofs.Laws.{float_run_le, run_judged, run_none}
 use Rattle.floats.specs.Float.{float_suffixes}
 use Rattle.integers.proofs.Words.{first_le}

@@ -1,13 +1,6 @@
-use Prim.Native.Nat.{◌+◌, ◌-◌, ◌≤◌}
 use native.Mathlib.Omega.{arith}
-use mathlib.Core.Bool.{false}
-use mathlib.Core.Path.{◌∙◌, ◌≡◌, refl, sym}
-use lib.ListN.{drop, length}
-use borrow.Author.Rules.{rules}
+use mathlib.Core.Path.{◌∙◌, refl, sym}
 use Rattle.floats.proofs.Laws.{judged_fine, judged_misplaced, judged_unfit, strip_end, strip_more, well_end, well_more, well_out}
-use Rattle.floats.specs.Grammar.{accepts}
-use Rattle.floats.specs.Judged.{stripped, well_to}
-use Rattle.floats.specs.declared.state.State.TheVariants.{Start}
 use Rattle.floats.proofs.judge.judge_run.Goals as goal
 
 pub loop-i-init : goal.loop-i-init

@@ -1,10 +1,7 @@
 use Prim.Native.Nat.{◌+◌, ◌-◌, ◌≤◌}
-use native.Mathlib.Omega.{arith}
 use mathlib.Core.Bool.{false}
-use mathlib.Core.Path.{◌∙◌, ◌≡◌, refl, sym}
+use mathlib.Core.Path.{◌≡◌}
 use lib.ListN.{drop, length}
-use borrow.Author.Rules.{rules}
-use Rattle.floats.proofs.Laws.{judged_fine, judged_misplaced, judged_unfit, strip_end, strip_more, well_end, well_more, well_out}
 use Rattle.floats.specs.Grammar.{accepts}
 use Rattle.floats.specs.Judged.{stripped, well_to}
 use Rattle.floats.specs.declared.state.State.TheVariants.{Start}

@@ -19,13 +19,13 @@ use Rattle.gaps.specs.declared.step.Step.TheVariants as step
 use Rattle.gaps.proofs.step.comment_step.Goals as goal
 
 pub returns-then-s-eq0 : goal.returns-then-s-eq0
-returns-then-s-eq0 c = ap (step_by _) (sym (comment_none _ c.if-s-eq0.true))
+returns-then-s-eq0 c = ap (step_by c.args.s.now) (sym (comment_none _ c.if-s-eq0.true))
 
 pub returns-then-s-ne47 : goal.returns-then-s-ne47
-returns-then-s-ne47 c = ap (step_by _) (sym (comment_other _ (search rules) c.if-s-ne47.true))
+returns-then-s-ne47 c = ap (step_by c.args.s.now) (sym (comment_other _ (search rules) c.if-s-ne47.true))
 
 pub returns-then-s-eq1 : goal.returns-then-s-eq1
-returns-then-s-eq1 c = ap (step_by _) (sym (comment_ended _ c.if-s-eq1.true c.if-s-ne47.false))
+returns-then-s-eq1 c = ap (step_by c.args.s.now) (sym (comment_ended _ c.if-s-eq1.true c.if-s-ne47.false))
 
 pub overflow_add-taken : goal.overflow_add-taken
 overflow_add-taken c =

@@ -1,7 +1,6 @@
 use native.Mathlib.Omega.{arith}
 use mathlib.Core.Path.{◌∙◌, ap}
 use lib.ListN.{drop, length-drop}
-use borrow.Author.Rules.{rules}
 use Rattle.integers.proofs.Fronts.{front_said, prefix_le, sign_le}
 use Rattle.integers.specs.Front.{prefix_of}
 use Rattle.integers.specs.declared.front.Prefix.{Prefix}

@@ -1,5 +1,4 @@
 use mathlib.Core.Path.{◌∙◌, sym}
-use borrow.Author.Rules.{rules}
 use borrow.Author.Tests.{eq-eqb, ne_eqb}
 use Rattle.integers.specs.Front.{sign_of}
 use Rattle.integers.proofs.front.sign_of.Goals as goal

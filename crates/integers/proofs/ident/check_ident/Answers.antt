@@ -5,7 +5,6 @@ use Rattle.integers.specs.Words.{ident_at}
 use Rattle.text.proofs.Lists.{on_part}
 use Rattle.text.proofs.WordLaws.{starts_le}
 use Rattle.text.specs.Ahead.{next_ahead}
-use borrow.Author.Rules.{rules}
 use Rattle.integers.proofs.ident.check_ident.Goals as goal
 
 pub slice_bounds-is_next_ahead-count : goal.slice_bounds-is_next_ahead-count

@@ -1,10 +1,7 @@
-use Prim.Native.Nat.{◌-◌, ◌≤◌}
 use native.Mathlib.Omega.{arith}
-use mathlib.Core.Path.{◌∙◌, ◌≡◌, refl, sym}
-use lib.ListN.{drop, length}
+use mathlib.Core.Path.{◌∙◌, refl, sym}
 use borrow.Author.Rules.{rules}
 use Rattle.text.proofs.WordLaws.{starts_differ, starts_end, starts_more, starts_out}
-use Rattle.text.specs.Words.{starts_with}
 use Rattle.integers.proofs.ident.check_str.Goals as goal
 
 pub loop-i-init : goal.loop-i-init

@@ -1,9 +1,6 @@
 use Prim.Native.Nat.{◌-◌, ◌≤◌}
-use native.Mathlib.Omega.{arith}
-use mathlib.Core.Path.{◌∙◌, ◌≡◌, refl, sym}
+use mathlib.Core.Path.{◌≡◌}
 use lib.ListN.{drop, length}
-use borrow.Author.Rules.{rules}
-use Rattle.text.proofs.WordLaws.{starts_differ, starts_end, starts_more, starts_out}
 use Rattle.text.specs.Words.{starts_with}
 use Rattle.integers.proofs.ident.check_str.Given as goal
 

@@ -1,4 +1,3 @@
-use borrow.Author.Rules.{rules}
 use Rattle.integers.proofs.integer.behind_run.Goals as goal
 
 pub returns-in-Value : goal.returns-in-Value

@@ -3,7 +3,6 @@ use native.Mathlib.Omega.{arith}
 use mathlib.Core.Path.{◌∙◌, ◌≡◌, ap, sym}
 use lib.ListN.{drop, length-drop, take}
 use lib.Seq.{length-take-le}
-use borrow.Author.Rules.{rules}
 use Rattle.digits.specs.Digits.{run_of}
 use Rattle.integers.proofs.Readings.{judged_said}
 use Rattle.integers.proofs.Suffixes.{suffix_le}

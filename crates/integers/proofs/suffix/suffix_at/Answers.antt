@@ -2,7 +2,6 @@ use Prim.Native.Nat.{ℕ}
 use mathlib.Core.List.{List}
 use mathlib.Core.Path.{◌≡◌, subst, sym}
 use Rattle.integers.specs.Words.{ident_at}
-use borrow.Author.Rules.{rules}
 use Rattle.integers.proofs.WidthRows.{last_word}
 use Rattle.integers.specs.Width.{suffix_word, width_at}
 use Rattle.integers.proofs.suffix.suffix_at.Goals as goal

@@ -1,11 +1,8 @@
-use Prim.Native.Nat.{◌-◌, ◌≤◌}
 use native.Mathlib.Omega.{arith}
-use mathlib.Core.Path.{◌∙◌, ◌≡◌, ap, sym}
+use mathlib.Core.Path.{◌∙◌, ap, sym}
 use borrow.Author.Rules.{rules}
-use borrow.Author.Tests.{not-true}
-use Rattle.integers.proofs.Suffixes.{from, from_all, from_here, from_more, from_none, no_suffix}
-use Rattle.integers.specs.Width.{suffix_first, suffix_of}
-use Rattle.integers.specs.Words.{first_of}
+use Rattle.integers.proofs.Suffixes.{from_all, from_here, from_more, from_none, no_suffix}
+use Rattle.integers.specs.Width.{suffix_first}
 use Rattle.integers.proofs.suffix.suffix_of.Goals as goal
 
 pub returns-then-not-is_suffix_first : goal.returns-then-not-is_suffix_first

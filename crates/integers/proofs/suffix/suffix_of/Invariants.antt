@@ -1,10 +1,7 @@
 use Prim.Native.Nat.{◌-◌, ◌≤◌}
-use native.Mathlib.Omega.{arith}
-use mathlib.Core.Path.{◌∙◌, ◌≡◌, ap, sym}
-use borrow.Author.Rules.{rules}
-use borrow.Author.Tests.{not-true}
-use Rattle.integers.proofs.Suffixes.{from, from_all, from_here, from_more, from_none, no_suffix}
-use Rattle.integers.specs.Width.{suffix_first, suffix_of}
+use mathlib.Core.Path.{◌≡◌}
+use Rattle.integers.proofs.Suffixes.{from}
+use Rattle.integers.specs.Width.{suffix_of}
 use Rattle.integers.specs.Words.{first_of}
 use Rattle.integers.proofs.suffix.suffix_of.Given as goal
 

@@ -1,6 +1,5 @@
 use mathlib.Core.Bool.{Bool}
 use mathlib.Core.Path.{◌∙◌, ap, sym}
-use borrow.Author.Rules.{rules}
 use borrow.Author.Tests.{le-leb, lt-leb}
 use Rattle.integers.specs.Width.{first_fit}
 use Rattle.integers.proofs.width.first_fit.Goals as goal

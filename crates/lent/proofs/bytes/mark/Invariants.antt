@@ -1,10 +1,8 @@
 use Prim.Native.Nat.{◌-◌, ◌≤◌}
-use native.Mathlib.Omega.{arith}
-use mathlib.Core.Path.{◌∙◌, ◌≡◌, refl}
-use lib.ListN.{length, length-set}
-use borrow.Author.Rules.{rules}
+use mathlib.Core.Path.{◌≡◌}
+use lib.ListN.{length}
 use Rattle.lent.specs.Marks.{byte_mark_at}
-use Rattle.lent.proofs.MarkLaws.{Marking, mark_starts, mark_on, mark_ends}
+use Rattle.lent.proofs.MarkLaws.{Marking}
 use Rattle.lent.proofs.bytes.mark.Given as goal
 
 abbrev pub invariant-loop-i : goal.invariant-loop-i

@@ -1,5 +1,4 @@
 use mathlib.Core.Path.{refl}
-use borrow.Author.Rules.{rules}
 use Rattle.lent.specs.Marks.{byte_mark_at}
 use Rattle.lent.proofs.bytes.mark_at.Goals as goal
 

@@ -1,11 +1,8 @@
-use Prim.Native.Nat.{◌-◌}
 use native.Mathlib.Numerals.{add-one}
 use native.Mathlib.Omega.{arith}
-use mathlib.Core.Path.{◌≡◌, refl, sym, ◌∙◌}
-use lib.ListN.{length}
+use mathlib.Core.Path.{refl, sym, ◌∙◌}
 use borrow.Author.Rules.{rules}
-use Rattle.lines.specs.Over.{over}
-use Rattle.lent.proofs.CopyLaws.{copying, copy_on, copy_all, copy_full}
+use Rattle.lent.proofs.CopyLaws.{copy_on, copy_all, copy_full}
 use Rattle.lent.proofs.copies.copy.Goals as goal
 
 pub loop-i-init : goal.loop-i-init

@@ -1,9 +1,6 @@
-use Prim.Native.Nat.{◌-◌}
 use native.Mathlib.Omega.{arith}
-use mathlib.Core.Path.{◌≡◌, refl}
-use lib.ListN.{length, drop}
+use mathlib.Core.Path.{refl}
 use borrow.Author.Rules.{rules}
-use Rattle.text.specs.Words.{starts_with}
 use Rattle.lent.proofs.CopyLaws.{same_short, same_off, same_on, same_ends}
 use Rattle.lent.proofs.copies.same.Goals as goal
 

@@ -1,10 +1,7 @@
 use Prim.Native.Nat.{◌-◌}
-use native.Mathlib.Omega.{arith}
-use mathlib.Core.Path.{◌≡◌, refl}
+use mathlib.Core.Path.{◌≡◌}
 use lib.ListN.{length, drop}
-use borrow.Author.Rules.{rules}
 use Rattle.text.specs.Words.{starts_with}
-use Rattle.lent.proofs.CopyLaws.{same_short, same_off, same_on, same_ends}
 use Rattle.lent.proofs.copies.same.Given as goal
 
 abbrev pub invariant-loop-i : goal.invariant-loop-i

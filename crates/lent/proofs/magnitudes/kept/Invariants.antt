@@ -1,10 +1,7 @@
 use Prim.Native.Nat.{◌-◌}
-use native.Mathlib.Omega.{arith}
-use mathlib.Core.Path.{◌≡◌, refl}
+use mathlib.Core.Path.{◌≡◌}
 use lib.ListN.{length, drop}
-use borrow.Author.Rules.{rules}
 use Rattle.lent.specs.Marks.{mark_at, kept_from}
-use Rattle.lent.proofs.MarkLaws.{kept_off, kept_on, kept_ends}
 use Rattle.lent.proofs.magnitudes.kept.Given as goal
 
 abbrev pub invariant-loop-i : goal.invariant-loop-i

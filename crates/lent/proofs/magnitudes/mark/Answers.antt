@@ -1,10 +1,9 @@
-use Prim.Native.Nat.{◌-◌, ◌≤◌}
 use native.Mathlib.Omega.{arith}
-use mathlib.Core.Path.{◌∙◌, ◌≡◌, refl}
-use lib.ListN.{length, length-set}
+use mathlib.Core.Path.{◌∙◌, refl}
+use lib.ListN.{length-set}
 use borrow.Author.Rules.{rules}
 use Rattle.lent.specs.Marks.{mark_at}
-use Rattle.lent.proofs.MarkLaws.{Marking, mark_starts, mark_on, mark_ends}
+use Rattle.lent.proofs.MarkLaws.{mark_starts, mark_on, mark_ends}
 use Rattle.lent.proofs.magnitudes.mark.Goals as goal
 
 pub loop-i-init : goal.loop-i-init

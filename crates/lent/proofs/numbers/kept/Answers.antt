@@ -1,9 +1,6 @@
-use Prim.Native.Nat.{◌-◌}
 use native.Mathlib.Omega.{arith}
-use mathlib.Core.Path.{◌≡◌, refl}
-use lib.ListN.{length, drop}
-use borrow.Author.Rules.{rules}
-use Rattle.lent.specs.Marks.{mark_at, kept_from}
+use mathlib.Core.Path.{refl}
+use Rattle.lent.specs.Marks.{mark_at}
 use Rattle.lent.proofs.MarkLaws.{kept_off, kept_on, kept_ends}
 use Rattle.lent.proofs.numbers.kept.Goals as goal
 

@@ -1,5 +1,4 @@
 use mathlib.Core.Path.{refl}
-use borrow.Author.Rules.{rules}
 use Rattle.lent.specs.Marks.{mark_at}
 use Rattle.lent.proofs.numbers.mark_at.Goals as goal
 

@@ -18,4 +18,9 @@ pub loop-i-preserved : goal.loop-i-preserved
 loop-i-preserved c = (search rules, c.loop-i.invariant.1, gather_on c.args.tape.now _ c.args.list.now c.loop-i.list c.loop-i.k c.loop-i.i c.loop-i.invariant.2 (omega arith) _ c.noted-k.ensures)
 
 pub returns : goal.returns
-returns c = gather_ends c.args.tape.now _ c.args.list.now c.loop-i.list c.loop-i.k c.loop-i.i c.loop-i.invariant.2 c.args.n c.loop-i.invariant.1 (omega arith)
+returns c =
+    let z = gather_ends c.args.tape.now _ c.args.list.now c.loop-i.list c.loop-i.k c.loop-i.i c.loop-i.invariant.2 c.args.n c.loop-i.invariant.1 (omega arith) in
+    record {
+      value = z.0;
+      list_after = z.1;
+    }

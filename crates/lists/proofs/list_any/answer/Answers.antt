@@ -32,8 +32,8 @@ returns-in_default-listed c =
     let out : List ℕ × ℕ = (c.args.o.now, c.args.at) in
     let fourth = c.word.ensures ∙ ap (λ (w : List ℕ). first_word w) (behinds words _ _ _ c.behind.ensures c.behind-2.ensures c.behind-words.ensures) in
     any_no_list words text tape links numbers spare out _ c.in-Asks.q (sym c.front-asked.ensures ∙ c.in-Asks.is)
-    _ (c.numbers-listed.ensures.1 ∙ ap (λ (w : List ℕ). over (numbers_of w) links) fourth)
-    (sym (c.numbers-listed.ensures.0 ∙ ap (λ (w : List ℕ). numbers_in w (length links)) fourth) ∙ c.in_default-listed.is) c.bad-in_default-listed.ensures
+    _ (c.numbers-listed.ensures.tape_after ∙ ap (λ (w : List ℕ). over (numbers_of w) links) fourth)
+    (sym (c.numbers-listed.ensures.value ∙ ap (λ (w : List ℕ). numbers_in w (length links)) fourth) ∙ c.in_default-listed.is) c.bad-in_default-listed.ensures
 
 pub returns-then-items-gt65536 : goal.returns-then-items-gt65536
 returns-then-items-gt65536 c =
@@ -46,8 +46,8 @@ returns-then-items-gt65536 c =
     let out : List ℕ × ℕ = (c.args.o.now, c.args.at) in
     let fourth = c.word.ensures ∙ ap (λ (w : List ℕ). first_word w) (behinds words _ _ _ c.behind.ensures c.behind-2.ensures c.behind-words.ensures) in
     any_long words text tape links numbers spare out _ c.in-Asks.q (sym c.front-asked.ensures ∙ c.in-Asks.is)
-    _ (c.numbers-listed.ensures.1 ∙ ap (λ (w : List ℕ). over (numbers_of w) links) fourth)
-    c.in-Stored.k (sym (c.numbers-listed.ensures.0 ∙ ap (λ (w : List ℕ). numbers_in w (length links)) fourth) ∙ c.in-Stored.is) _ c.first-items.ensures (omega arith) c.bad-then-items-gt65536.ensures
+    _ (c.numbers-listed.ensures.tape_after ∙ ap (λ (w : List ℕ). over (numbers_of w) links) fourth)
+    c.in-Stored.k (sym (c.numbers-listed.ensures.value ∙ ap (λ (w : List ℕ). numbers_in w (length links)) fourth) ∙ c.in-Stored.is) _ c.first-items.ensures (omega arith) c.bad-then-items-gt65536.ensures
 
 pub returns : goal.returns
 returns c =
@@ -60,6 +60,6 @@ returns c =
     let out : List ℕ × ℕ = (c.args.o.now, c.args.at) in
     let fourth = c.word.ensures ∙ ap (λ (w : List ℕ). first_word w) (behinds words _ _ _ c.behind.ensures c.behind-2.ensures c.behind-words.ensures) in
     any_goes words text tape links numbers spare out _ c.in-Asks.q (sym c.front-asked.ensures ∙ c.in-Asks.is)
-    _ (c.numbers-listed.ensures.1 ∙ ap (λ (w : List ℕ). over (numbers_of w) links) fourth)
-    c.in-Stored.k (sym (c.numbers-listed.ensures.0 ∙ ap (λ (w : List ℕ). numbers_in w (length links)) fourth) ∙ c.in-Stored.is) _ c.first-items.ensures (omega arith)
+    _ (c.numbers-listed.ensures.tape_after ∙ ap (λ (w : List ℕ). over (numbers_of w) links) fourth)
+    c.in-Stored.k (sym (c.numbers-listed.ensures.value ∙ ap (λ (w : List ℕ). numbers_in w (length links)) fourth) ∙ c.in-Stored.is) _ c.first-items.ensures (omega arith)
     _ (c.behind-3.ensures ∙ ap (λ (w : List ℕ). behind_word w) (behinds words _ _ _ c.behind.ensures c.behind-2.ensures c.behind-words.ensures)) _ _ _ _ c.over_tape.ensures

@@ -18,8 +18,8 @@ returns-in_default c =
     let numbers : List ℕ = c.args.numbers.now in
     let spare : List ℕ = c.args.spare.now in
     let out : List ℕ × ℕ = (c.args.o.now, c.args.at) in
-    over_no_text c.args.q items words text tape numbers spare out _ _ (c.bytes-bytes.ensures.1 ∙ ap (λ (w : List ℕ). over (pairs w) text) c.word.ensures)
-    (sym (c.bytes-bytes.ensures.0 ∙ ap (λ (w : List ℕ). hex_in w (length text)) c.word.ensures) ∙ c.in_default.is) c.bad.ensures
+    over_no_text c.args.q items words text tape numbers spare out _ _ (c.bytes-bytes.ensures.buf_after ∙ ap (λ (w : List ℕ). over (pairs w) text) c.word.ensures)
+    (sym (c.bytes-bytes.ensures.value ∙ ap (λ (w : List ℕ). hex_in w (length text)) c.word.ensures) ∙ c.in_default.is) c.bad.ensures
 
 pub returns-in_default-last : goal.returns-in_default-last
 returns-in_default-last c =
@@ -30,10 +30,10 @@ returns-in_default-last c =
     let numbers : List ℕ = c.args.numbers.now in
     let spare : List ℕ = c.args.spare.now in
     let out : List ℕ × ℕ = (c.args.o.now, c.args.at) in
-    over_no_tape c.args.q items words text tape numbers spare out _ _ (c.bytes-bytes.ensures.1 ∙ ap (λ (w : List ℕ). over (pairs w) text) c.word.ensures)
-    c.in-Bytes.n (sym (c.bytes-bytes.ensures.0 ∙ ap (λ (w : List ℕ). hex_in w (length text)) c.word.ensures) ∙ c.in-Bytes.is)
-    _ (c.numbers-last.ensures.1 ∙ ap (λ (w : List ℕ). over (numbers_of w) tape) c.behind.ensures)
-    (sym (c.numbers-last.ensures.0 ∙ ap (λ (w : List ℕ). numbers_in w (length tape)) c.behind.ensures) ∙ c.in_default-last.is) c.bad-in_default-last.ensures
+    over_no_tape c.args.q items words text tape numbers spare out _ _ (c.bytes-bytes.ensures.buf_after ∙ ap (λ (w : List ℕ). over (pairs w) text) c.word.ensures)
+    c.in-Bytes.n (sym (c.bytes-bytes.ensures.value ∙ ap (λ (w : List ℕ). hex_in w (length text)) c.word.ensures) ∙ c.in-Bytes.is)
+    _ (c.numbers-last.ensures.tape_after ∙ ap (λ (w : List ℕ). over (numbers_of w) tape) c.behind.ensures)
+    (sym (c.numbers-last.ensures.value ∙ ap (λ (w : List ℕ). numbers_in w (length tape)) c.behind.ensures) ∙ c.in_default-last.is) c.bad-in_default-last.ensures
 
 pub returns : goal.returns
 returns c =
@@ -44,8 +44,8 @@ returns c =
     let numbers : List ℕ = c.args.numbers.now in
     let spare : List ℕ = c.args.spare.now in
     let out : List ℕ × ℕ = (c.args.o.now, c.args.at) in
-    over_goes c.args.q items words text tape numbers spare out _ _ (c.bytes-bytes.ensures.1 ∙ ap (λ (w : List ℕ). over (pairs w) text) c.word.ensures)
-    c.in-Bytes.n (sym (c.bytes-bytes.ensures.0 ∙ ap (λ (w : List ℕ). hex_in w (length text)) c.word.ensures) ∙ c.in-Bytes.is)
-    _ (c.numbers-last.ensures.1 ∙ ap (λ (w : List ℕ). over (numbers_of w) tape) c.behind.ensures)
-    c.in-Stored.m (sym (c.numbers-last.ensures.0 ∙ ap (λ (w : List ℕ). numbers_in w (length tape)) c.behind.ensures) ∙ c.in-Stored.is)
-    _ _ c.part-s.ensures c.first-t.ensures _ _ c.answer.ensures.0 c.answer.ensures.1
+    over_goes c.args.q items words text tape numbers spare out _ _ (c.bytes-bytes.ensures.buf_after ∙ ap (λ (w : List ℕ). over (pairs w) text) c.word.ensures)
+    c.in-Bytes.n (sym (c.bytes-bytes.ensures.value ∙ ap (λ (w : List ℕ). hex_in w (length text)) c.word.ensures) ∙ c.in-Bytes.is)
+    _ (c.numbers-last.ensures.tape_after ∙ ap (λ (w : List ℕ). over (numbers_of w) tape) c.behind.ensures)
+    c.in-Stored.m (sym (c.numbers-last.ensures.value ∙ ap (λ (w : List ℕ). numbers_in w (length tape)) c.behind.ensures) ∙ c.in-Stored.is)
+    _ _ c.part-s.ensures c.first-t.ensures _ _ c.answer.ensures.result_after c.answer.ensures.spare_after

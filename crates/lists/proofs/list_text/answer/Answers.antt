@@ -14,7 +14,7 @@ returns-in_default c =
     let numbers : List ℕ = c.args.numbers.now in
     let spare : List ℕ = c.args.spare.now in
     let out : List ℕ × ℕ = (c.args.o.now, c.args.at) in
-    list_bad words text tape links numbers spare _ c.bytes-bytes.ensures.1 out _ (sym c.bytes-bytes.ensures.0 ∙ c.in_default.is) c.bad.ensures
+    list_bad words text tape links numbers spare _ c.bytes-bytes.ensures.buf_after out _ (sym c.bytes-bytes.ensures.value ∙ c.in_default.is) c.bad.ensures
 
 pub returns : goal.returns
 returns c =
@@ -25,5 +25,5 @@ returns c =
     let numbers : List ℕ = c.args.numbers.now in
     let spare : List ℕ = c.args.spare.now in
     let out : List ℕ × ℕ = (c.args.o.now, c.args.at) in
-    list_goes words text tape links numbers spare _ c.bytes-bytes.ensures.1 out _ c.in-Bytes.n (sym c.bytes-bytes.ensures.0 ∙ c.in-Bytes.is)
+    list_goes words text tape links numbers spare _ c.bytes-bytes.ensures.buf_after out _ c.in-Bytes.n (sym c.bytes-bytes.ensures.value ∙ c.in-Bytes.is)
     _ c.part.ensures _ _ _ _ c.read.ensures

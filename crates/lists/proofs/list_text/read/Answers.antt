@@ -18,7 +18,7 @@ returns-in-Accepted c =
     let out : List ℕ × ℕ = (c.args.o.now, c.args.at) in
     accepted_listed text tape links numbers spare _ c.read-r.ensures.1 out _
     c.in-Accepted.n (sym (ap (λ (a : ReadAnswer). told_read a) c.in-Accepted.is) ∙ c.read-r.ensures.0)
-    _ _ _ c.gather-k.ensures.0 c.gather-k.ensures.1 c.first-items.ensures _ c.asked-q.ensures _ _ c.answer.ensures
+    _ _ _ c.gather-k.ensures.value c.gather-k.ensures.list_after c.first-items.ensures _ c.asked-q.ensures _ _ c.answer.ensures
 
 pub returns-in-Refused : goal.returns-in-Refused
 returns-in-Refused c =

@@ -21,4 +21,4 @@ returns c =
     let items : List ℕ = c.args.items.now in
     let numbers : List ℕ = c.args.numbers.now in
     let spare : List ℕ = c.args.spare.now in
-    lent_both text tape q items numbers spare _ _ c.room-m.ensures c.room-k.ensures (c.args.o.now, c.args.at) _ _ _ c.listed.ensures.0 c.listed.ensures.1
+    lent_both text tape q items numbers spare _ _ c.room-m.ensures c.room-k.ensures (c.args.o.now, c.args.at) _ _ _ c.listed.ensures.result_after c.listed.ensures.codes_after

@@ -10,7 +10,8 @@ returns c =
     let tape : List ℕ = c.args.tape.now in
     let items : List ℕ = c.args.items.now in
     let magnitudes : List ℕ = c.args.magnitudes.now in
-    let codes : List ℕ = c.args.codes.now in (
-      call_told text tape c.args.count items magnitudes codes _ _ c.mark.ensures c.mark-2.ensures _ c.integers.ensures.0,
-      call_left text tape c.args.count items magnitudes codes _ _ c.mark.ensures c.mark-2.ensures _ _ c.integers.ensures.1.0 c.integers.ensures.1.1,
-    )
+    let codes : List ℕ = c.args.codes.now in
+    record {
+      result_value = call_told text tape c.args.count items magnitudes codes _ _ c.mark.ensures c.mark-2.ensures _ c.integers.ensures.answer;
+      codes_after = call_left text tape c.args.count items magnitudes codes _ _ c.mark.ensures c.mark-2.ensures _ _ c.integers.ensures.magnitudes c.integers.ensures.codes;
+    }

@@ -36,7 +36,7 @@ loop-i-smaller c = omega arith
 pub loop-i-preserved : goal.loop-i-preserved
 loop-i-preserved c = (
   omega arith,
-  c.write.auto.0 ∙ c.loop-i.invariant.1,
+  c.write.auto.tape ∙ c.loop-i.invariant.1,
   place_goes _ _ _ _ _ _ _ c.loop-i.invariant.2 (omega arith) c.entry-e.result c.entry-e.ensures _ (omega (arith, c.loop-i.invariant.1, c.requires.0)) c.write.ensures,
 )
 

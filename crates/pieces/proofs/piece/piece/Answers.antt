@@ -25,4 +25,4 @@ take_piece-requires c =
 pub returns : goal.returns
 returns c =
     let a = c.args in
-    piece_there a.state a.buffer.now a.n a.tape.now c.fits.result c.fits.ensures c.if-not-fits.false c.if-refusal-ne0.false c.if-n-eq0.false c.take_piece.result c.take_piece.new.1.0 c.take_piece.new.1.1.1.0 c.take_piece.ensures
+    piece_there a.state a.buffer.now a.n a.tape.now c.fits.result c.fits.ensures c.if-not-fits.false c.if-refusal-ne0.false c.if-n-eq0.false c.take_piece.result c.take_piece.new.tape.0 c.take_piece.new.tape.1.1.0 c.take_piece.ensures

@@ -105,7 +105,7 @@ returns-then-refusal-ne0 c =
     let a = c.args in
     let f = found a.state a.buffer.now a.n c.requires c.limit-most.result c.limit-most.ensures c.come-came.result c.come-came.ensures in
     stopped_there a.state a.buffer.now a.n c.limit-most.result c.come-came.result f a.tape.now (omega (arith, c.if-room-count.false, c.room.ensures)) c.stop-refusal.result c.stop-refusal.ensures
-    c.former_of-former.result c.former_of-former.ensures c.lay.new.1.1.0 c.lay.ensures c.if-refusal-ne0.true c.stopped.result c.stopped.ensures
+    c.former_of-former.result c.former_of-former.ensures c.lay.new.tape c.lay.ensures c.if-refusal-ne0.true c.stopped.result c.stopped.ensures
 
 pub overflow_sub-kept : goal.overflow_sub-kept
 overflow_sub-kept c =
@@ -137,5 +137,5 @@ returns c =
     let a = c.args in
     let f = found a.state a.buffer.now a.n c.requires c.limit-most.result c.limit-most.ensures c.come-came.result c.come-came.ensures in
     given_there a.state a.buffer.now a.n c.limit-most.result c.come-came.result f a.tape.now (omega (arith, c.if-room-count.false, c.room.ensures)) c.stop-refusal.result c.stop-refusal.ensures
-    c.former_of-former.result c.former_of-former.ensures c.lay.new.1.1.0 c.lay.ensures c.if-refusal-ne0.false c.open_in.result c.open_in.ensures c.kept_from-from.result c.kept_from-from.ensures
-    c.keep.new.0 c.keep.ensures
+    c.former_of-former.result c.former_of-former.ensures c.lay.new.tape c.lay.ensures c.if-refusal-ne0.false c.open_in.result c.open_in.ensures c.kept_from-from.result c.kept_from-from.ensures
+    c.keep.new.buffer c.keep.ensures

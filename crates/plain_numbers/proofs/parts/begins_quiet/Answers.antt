@@ -1,7 +1,6 @@
 use native.Mathlib.Omega.{arith}
 use mathlib.Core.Path.{ap, sym}
 use lib.ListN.{get_or-eq_default}
-use borrow.Author.Rules.{rules}
 use Rattle.reading.specs.Owed.{quiet_byte}
 use Rattle.plain_numbers.proofs.parts.begins_quiet.Goals as goal
 

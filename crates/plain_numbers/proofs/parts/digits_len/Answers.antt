@@ -1,8 +1,5 @@
-use Prim.Native.Nat.{◌+◌, ◌-◌, ◌≤◌}
 use native.Mathlib.Nat.{zero-add}
 use native.Mathlib.Omega.{arith}
-use mathlib.Core.Path.{◌≡◌}
-use lib.ListN.{drop, length}
 use borrow.Author.Rules.{rules}
 use Rattle.text.proofs.ClassLaws.{above, below, inside}
 use Rattle.text.proofs.RunLaws.{run_end, run_more, run_out}

@@ -6,7 +6,6 @@ use Rattle.text.proofs.RunLaws.{run_le}
 use Rattle.text.specs.Classes.{digit}
 use Rattle.text.specs.Runs.{run}
 use Rattle.plain_numbers.proofs.Said.{fraction_loud, fraction_none, fraction_other, fraction_past, fraction_said}
-use borrow.Author.Rules.{rules}
 use Rattle.plain_numbers.proofs.parts.fraction_len.Goals as goal
 
 pub returns-then-s-eq0 : goal.returns-then-s-eq0

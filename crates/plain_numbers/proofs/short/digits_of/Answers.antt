@@ -1,4 +1,3 @@
-use Prim.Native.Nat.{◌-◌}
 use native.Mathlib.Nat.{zero-add}
 use native.Mathlib.Omega.{arith}
 use mathlib.Core.Path.{refl}
@@ -8,8 +7,7 @@ use Rattle.text.proofs.RunLaws.{run_end, run_out}
 use Rattle.text.specs.Classes.{digit}
 use Rattle.text.specs.Runs.{run}
 use Rattle.digits.specs.Value.{value_from}
-use Rattle.plain_numbers.specs.inner.Shorts.{most}
-use Rattle.plain_numbers.proofs.ShortLaws.{Passed, full, next_fits, passed_next, stopped}
+use Rattle.plain_numbers.proofs.ShortLaws.{full, next_fits, passed_next, stopped}
 use Rattle.plain_numbers.proofs.short.digits_of.Goals as goal
 
 pub loop-i-init : goal.loop-i-init

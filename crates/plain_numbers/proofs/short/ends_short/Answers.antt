@@ -1,6 +1,5 @@
 use borrow.Author.Tests.{eq-eqb, ne_eqb}
 use Rattle.plain_numbers.specs.inner.Shorts.{ends_short}
-use borrow.Author.Rules.{rules}
 use Rattle.plain_numbers.proofs.short.ends_short.Goals as goal
 
 pub returns-then-byte-eq0 : goal.returns-then-byte-eq0

@@ -1,9 +1,7 @@
 use native.Mathlib.Omega.{arith}
 use mathlib.Core.Path.{◌∙◌, ap, sym}
-use borrow.Author.Tests.{not-false, not-true}
 use Rattle.plain_numbers.specs.inner.Shorts.{ends_short}
 use Rattle.plain_numbers.proofs.ShortLaws.{short_loud, short_none, short_over, short_said}
-use borrow.Author.Rules.{rules}
 use Rattle.plain_numbers.proofs.short.short_integer.Goals as goal
 
 pub returns-then-len-eq0 : goal.returns-then-len-eq0

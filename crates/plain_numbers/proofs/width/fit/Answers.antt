@@ -3,7 +3,6 @@ use mathlib.Core.Path.{ap, ◌∙◌}
 use Rattle.integers.specs.Width.{code_of, first_fit}
 use Rattle.plain_numbers.proofs.Said.{four_said, two_said}
 use Rattle.plain_numbers.proofs.Values.{all_only}
-use borrow.Author.Rules.{rules}
 use Rattle.plain_numbers.proofs.width.fit.Goals as goal
 
 pub returns-then-s-lt3 : goal.returns-then-s-lt3

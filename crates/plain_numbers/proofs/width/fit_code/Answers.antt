@@ -1,5 +1,4 @@
 use mathlib.Core.Path.{ap, ◌∙◌}
-use borrow.Author.Rules.{rules}
 use Rattle.integers.specs.Width.{code_of}
 use Rattle.plain_numbers.proofs.width.fit_code.Goals as goal
 

@@ -1,10 +1,7 @@
 use Prim.Native.Nat.{◌-◌, ◌≤◌}
-use native.Mathlib.Omega.{arith}
-use mathlib.Core.Path.{◌≡◌, refl}
-use lib.ListN.{drop, drop_of_length-le, length}
-use borrow.Author.Rules.{rules}
+use mathlib.Core.Path.{◌≡◌}
+use lib.ListN.{drop, length}
 use Rattle.digits.specs.Value.{value_from, value_of}
-use Rattle.plain_numbers.proofs.Values.{digit_least, turned, turned_fits}
 use Rattle.plain_numbers.proofs.width.value.Given as goal
 
 abbrev pub invariant-loop-i : goal.invariant-loop-i

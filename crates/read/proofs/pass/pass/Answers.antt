@@ -46,7 +46,7 @@ pub loop-i-smaller-then-p-gt0 : goal.loop-i-smaller-then-p-gt0
 loop-i-smaller-then-p-gt0 c = omega (arith, c.loop-i-test.true)
 
 pub loop-i-preserved-then-p-gt0 : goal.loop-i-preserved-then-p-gt0
-loop-i-preserved-then-p-gt0 c = let w = plain_within c.args.text.now c.behind_blanks-front.result _ c.plain-p.ensures c.if-p-gt0.true in (w.0, omega (arith, c.loop-i-test.true), c.put.auto.0 ∙ c.loop-i.invariant.2, left_entry c.args.on c.args.n c.args.from (read_from ron_token c.args.text.now c.args.from) c.args.tape.now c.loop-i.i c.loop-i.at c.loop-i.before (read_from ron_token c.args.text.now c.loop-i.at) c.loop-i.tape c.loop-i.invariant.3 _ _ _ c.loop-i-test.true (blanks_entry c.args.text.now c.loop-i.at c.behind_blanks-front.result c.behind_blanks-front.ensures _ _ (omega arith) (step_plain c.args.text.now c.behind_blanks-front.result _ c.plain-p.ensures c.if-p-gt0.true)) (c.put.ensures ∙ ap (λ (e : Entry). cond c.args.on (written c.loop-i.tape c.loop-i.i e) c.loop-i.tape) c.entry_of.ensures))
+loop-i-preserved-then-p-gt0 c = let w = plain_within c.args.text.now c.behind_blanks-front.result _ c.plain-p.ensures c.if-p-gt0.true in (w.0, omega (arith, c.loop-i-test.true), c.put.auto.tape ∙ c.loop-i.invariant.2, left_entry c.args.on c.args.n c.args.from (read_from ron_token c.args.text.now c.args.from) c.args.tape.now c.loop-i.i c.loop-i.at c.loop-i.before (read_from ron_token c.args.text.now c.loop-i.at) c.loop-i.tape c.loop-i.invariant.3 _ _ _ c.loop-i-test.true (blanks_entry c.args.text.now c.loop-i.at c.behind_blanks-front.result c.behind_blanks-front.ensures _ _ (omega arith) (step_plain c.args.text.now c.behind_blanks-front.result _ c.plain-p.ensures c.if-p-gt0.true)) (c.put.ensures ∙ ap (λ (e : Entry). cond c.args.on (written c.loop-i.tape c.loop-i.i e) c.loop-i.tape) c.entry_of.ensures))
 
 pub slice_bounds-next_token-count : goal.slice_bounds-next_token-count
 slice_bounds-next_token-count c = let f = blanks_within c.args.text.now c.loop-i.at c.behind_blanks-front.result c.behind_blanks-front.ensures c.loop-i.invariant.0 in omega (arith, f)
@@ -73,7 +73,7 @@ pub loop-i-smaller : goal.loop-i-smaller
 loop-i-smaller c = omega (arith, c.loop-i-test.true)
 
 pub loop-i-preserved : goal.loop-i-preserved
-loop-i-preserved c = let w = step_within c.args.text.now c.behind_blanks-front.result _ c.next_token-found.ensures _ _ c.in-Token.is in (w.1, omega (arith, c.loop-i-test.true), c.put-in-Token.auto.0 ∙ c.loop-i.invariant.2, left_entry c.args.on c.args.n c.args.from (read_from ron_token c.args.text.now c.args.from) c.args.tape.now c.loop-i.i c.loop-i.at c.loop-i.before (read_from ron_token c.args.text.now c.loop-i.at) c.loop-i.tape c.loop-i.invariant.3 _ _ _ c.loop-i-test.true (blanks_entry c.args.text.now c.loop-i.at c.behind_blanks-front.result c.behind_blanks-front.ensures _ _ refl (step_token c.args.text.now c.behind_blanks-front.result _ c.next_token-found.ensures _ _ c.in-Token.is)) (c.put-in-Token.ensures ∙ ap (λ (e : Entry). cond c.args.on (written c.loop-i.tape c.loop-i.i e) c.loop-i.tape) c.entry_of-in-Token.ensures))
+loop-i-preserved c = let w = step_within c.args.text.now c.behind_blanks-front.result _ c.next_token-found.ensures _ _ c.in-Token.is in (w.1, omega (arith, c.loop-i-test.true), c.put-in-Token.auto.tape ∙ c.loop-i.invariant.2, left_entry c.args.on c.args.n c.args.from (read_from ron_token c.args.text.now c.args.from) c.args.tape.now c.loop-i.i c.loop-i.at c.loop-i.before (read_from ron_token c.args.text.now c.loop-i.at) c.loop-i.tape c.loop-i.invariant.3 _ _ _ c.loop-i-test.true (blanks_entry c.args.text.now c.loop-i.at c.behind_blanks-front.result c.behind_blanks-front.ensures _ _ refl (step_token c.args.text.now c.behind_blanks-front.result _ c.next_token-found.ensures _ _ c.in-Token.is)) (c.put-in-Token.ensures ∙ ap (λ (e : Entry). cond c.args.on (written c.loop-i.tape c.loop-i.i e) c.loop-i.tape) c.entry_of-in-Token.ensures))
 
 pub shape_of-tape-in-End : goal.shape_of-tape-in-End
 shape_of-tape-in-End c = c.loop-i.invariant.2

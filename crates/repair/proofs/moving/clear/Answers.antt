@@ -15,7 +15,7 @@ pub write-requires : goal.write-requires
 write-requires c = omega (arith, c.loop-i.invariant.2, c.requires)
 
 pub loop-i-preserved : goal.loop-i-preserved
-loop-i-preserved c = (omega (arith, c.loop-i.invariant.0), omega (arith, c.loop-i.invariant.0), c.write.auto.0 ∙ c.loop-i.invariant.2, c.loop-i.invariant.3, clear_goes c.args.x c.args.y c.args.tape.now c.loop-i.i _ _ c.loop-i.invariant.0 (omega (arith, c.requires)) c.loop-i.invariant.4 c.write.ensures)
+loop-i-preserved c = (omega (arith, c.loop-i.invariant.0), omega (arith, c.loop-i.invariant.0), c.write.auto.tape ∙ c.loop-i.invariant.2, c.loop-i.invariant.3, clear_goes c.args.x c.args.y c.args.tape.now c.loop-i.i _ _ c.loop-i.invariant.0 (omega (arith, c.requires)) c.loop-i.invariant.4 c.write.ensures)
 
 pub shape_of-tape : goal.shape_of-tape
 shape_of-tape c = c.loop-i.invariant.2

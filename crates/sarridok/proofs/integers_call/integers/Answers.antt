@@ -6,7 +6,13 @@ use borrow.Author.Rules.{rules}
 use Rattle.sarridok.proofs.integers_call.integers.Goals as goal
 
 pub returns-in-Refused : goal.returns-in-Refused
-returns-in-Refused c = all_refused c.args.text.now c.args.tape.now c.args.count c.args.items.now c.args.magnitudes.now c.args.codes.now _ (by_judged c.args.text.now c.args.tape.now c.args.count c.args.items.now (length c.args.magnitudes.now) (length c.args.codes.now) _ (sym c.judge-judged.ensures ∙ c.in-Refused.is))
+returns-in-Refused c =
+    let z = all_refused c.args.text.now c.args.tape.now c.args.count c.args.items.now c.args.magnitudes.now c.args.codes.now _ (by_judged c.args.text.now c.args.tape.now c.args.count c.args.items.now (length c.args.magnitudes.now) (length c.args.codes.now) _ (sym c.judge-judged.ensures ∙ c.in-Refused.is)) in
+    record {
+      answer = z.0;
+      magnitudes = z.1.0;
+      codes = z.1.1;
+    }
 
 pub returns-then-room-count : goal.returns-then-room-count
 returns-then-room-count c = rw c.not_in_order.ensures (all_refused c.args.text.now c.args.tape.now c.args.count c.args.items.now c.args.magnitudes.now c.args.codes.now _ (by-count c.args.text.now c.args.tape.now c.args.count c.args.items.now (length c.args.magnitudes.now) (length c.args.codes.now) (sym c.judge-judged.ensures ∙ c.in_default.is) (omega (arith, c.room.ensures, c.if-room-count.true))))
@@ -15,7 +21,13 @@ pub judge_items-read-requires : goal.judge_items-read-requires
 judge_items-read-requires c = ((sym c.judge-judged.ensures ∙ c.in_default.is), (omega (arith, c.room.ensures, c.if-room-count.false)))
 
 pub returns-in-Refused-read : goal.returns-in-Refused-read
-returns-in-Refused-read c = all_refused c.args.text.now c.args.tape.now c.args.count c.args.items.now c.args.magnitudes.now c.args.codes.now _ (by-item c.args.text.now c.args.tape.now c.args.count c.args.items.now (length c.args.magnitudes.now) (length c.args.codes.now) (sym c.judge-judged.ensures ∙ c.in_default.is) (omega (arith, c.room.ensures, c.if-room-count.false)) _ (sym c.judge_items-read.ensures ∙ c.in-Refused-read.is))
+returns-in-Refused-read c =
+    let z = all_refused c.args.text.now c.args.tape.now c.args.count c.args.items.now c.args.magnitudes.now c.args.codes.now _ (by-item c.args.text.now c.args.tape.now c.args.count c.args.items.now (length c.args.magnitudes.now) (length c.args.codes.now) (sym c.judge-judged.ensures ∙ c.in_default.is) (omega (arith, c.room.ensures, c.if-room-count.false)) _ (sym c.judge_items-read.ensures ∙ c.in-Refused-read.is)) in
+    record {
+      answer = z.0;
+      magnitudes = z.1.0;
+      codes = z.1.1;
+    }
 
 pub returns-then-magnitudes-items : goal.returns-then-magnitudes-items
 returns-then-magnitudes-items c = rw c.no_room.ensures (all_refused c.args.text.now c.args.tape.now c.args.count c.args.items.now c.args.magnitudes.now c.args.codes.now _ (by_magnitudes c.args.text.now c.args.tape.now c.args.count c.args.items.now (length c.args.magnitudes.now) (length c.args.codes.now) (sym c.judge-judged.ensures ∙ c.in_default.is) (omega (arith, c.room.ensures, c.if-room-count.false)) (sym c.judge_items-read.ensures ∙ c.in_default-read.is) c.if-magnitudes-items.true))
@@ -27,4 +39,10 @@ pub write_items-requires : goal.write_items-requires
 write_items-requires c = ((sym c.judge-judged.ensures ∙ c.in_default.is), (omega (arith, c.room.ensures, c.if-room-count.false)), (sym c.judge_items-read.ensures ∙ c.in_default-read.is), c.if-magnitudes-items.false, c.if-codes-items.false)
 
 pub returns : goal.returns
-returns c = all_written c.args.text.now c.args.tape.now c.args.count c.args.items.now c.args.magnitudes.now c.args.codes.now _ _ _ (sym c.judge_items-read.ensures ∙ c.in_default-read.is) (by-room c.args.text.now c.args.tape.now c.args.count c.args.items.now (length c.args.magnitudes.now) (length c.args.codes.now) (sym c.judge-judged.ensures ∙ c.in_default.is) (omega (arith, c.room.ensures, c.if-room-count.false)) (sym c.judge_items-read.ensures ∙ c.in_default-read.is) c.if-magnitudes-items.false c.if-codes-items.false) c.write_items.ensures.0 c.write_items.ensures.1
+returns c =
+    let z = all_written c.args.text.now c.args.tape.now c.args.count c.args.items.now c.args.magnitudes.now c.args.codes.now _ _ _ (sym c.judge_items-read.ensures ∙ c.in_default-read.is) (by-room c.args.text.now c.args.tape.now c.args.count c.args.items.now (length c.args.magnitudes.now) (length c.args.codes.now) (sym c.judge-judged.ensures ∙ c.in_default.is) (omega (arith, c.room.ensures, c.if-room-count.false)) (sym c.judge_items-read.ensures ∙ c.in_default-read.is) c.if-magnitudes-items.false c.if-codes-items.false) c.write_items.ensures.magnitudes c.write_items.ensures.codes in
+    record {
+      answer = z.0;
+      magnitudes = z.1.0;
+      codes = z.1.1;
+    }

@@ -12,7 +12,12 @@ pub loop-k-init : goal.loop-k-init
 loop-k-init c = (search rules, refl, refl, refl, refl)
 
 pub returns-in_default : goal.returns-in_default
-returns-in_default c = absurd (never_refused c.args.text.now c.args.tape.now c.args.count c.args.items.now c.requires.2 c.loop-k.k _ c.loop-k-test.true (ap told_item (sym c.in_default.is) ∙ c.item_at-read.ensures))
+returns-in_default c =
+    let z = absurd (never_refused c.args.text.now c.args.tape.now c.args.count c.args.items.now c.requires.2 c.loop-k.k _ c.loop-k-test.true (ap told_item (sym c.in_default.is) ∙ c.item_at-read.ensures)) in
+    record {
+      magnitudes = z.0;
+      codes = z.1;
+    }
 
 pub loop-k-preserved : goal.loop-k-preserved
 loop-k-preserved c =
@@ -25,4 +30,8 @@ loop-k-preserved c =
     )
 
 pub returns : goal.returns
-returns c = (all_stored c.args.text.now c.args.tape.now c.args.count c.args.items.now c.requires.2 (λ (v : Coded). v.magnitude) c.loop-k.k c.args.magnitudes.now _ c.loop-k.invariant.0 c.loop-k-test.false c.loop-k.invariant.3, all_stored c.args.text.now c.args.tape.now c.args.count c.args.items.now c.requires.2 (λ (v : Coded). v.code) c.loop-k.k c.args.codes.now _ c.loop-k.invariant.0 c.loop-k-test.false c.loop-k.invariant.4)
+returns c =
+    record {
+      magnitudes = all_stored c.args.text.now c.args.tape.now c.args.count c.args.items.now c.requires.2 (λ (v : Coded). v.magnitude) c.loop-k.k c.args.magnitudes.now _ c.loop-k.invariant.0 c.loop-k-test.false c.loop-k.invariant.3;
+      codes = all_stored c.args.text.now c.args.tape.now c.args.count c.args.items.now c.requires.2 (λ (v : Coded). v.code) c.loop-k.k c.args.codes.now _ c.loop-k.invariant.0 c.loop-k-test.false c.loop-k.invariant.4;
+    }

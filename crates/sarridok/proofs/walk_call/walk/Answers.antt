@@ -16,36 +16,76 @@ use borrow.Author.Rules.{rules}
 use Rattle.sarridok.proofs.walk_call.walk.Goals as goal
 
 pub returns-in-Refused : goal.returns-in-Refused
-returns-in-Refused c = refused_meets c.args.text.now c.args.tape.now c.args.count c.args.limit c.args.links.now _ _ refl (walk_unread c.args.text.now c.args.tape.now c.args.count c.args.limit (length c.args.links.now) _ (sym c.judge-judged.ensures ∙ c.in-Refused.is))
+returns-in-Refused c =
+    let z = refused_meets c.args.text.now c.args.tape.now c.args.count c.args.limit c.args.links.now _ _ refl (walk_unread c.args.text.now c.args.tape.now c.args.count c.args.limit (length c.args.links.now) _ (sym c.judge-judged.ensures ∙ c.in-Refused.is)) in
+    record {
+      answer = z.0;
+      left = z.1;
+    }
 
 pub returns-then-limit-gt128 : goal.returns-then-limit-gt128
-returns-then-limit-gt128 c = refused_meets c.args.text.now c.args.tape.now c.args.count c.args.limit c.args.links.now _ _ c.unfit.ensures (walk_28 c.args.text.now c.args.tape.now c.args.count c.args.limit (length c.args.links.now) (sym c.judge-judged.ensures ∙ c.in_default.is) (omega arith))
+returns-then-limit-gt128 c =
+    let z = refused_meets c.args.text.now c.args.tape.now c.args.count c.args.limit c.args.links.now _ _ c.unfit.ensures (walk_28 c.args.text.now c.args.tape.now c.args.count c.args.limit (length c.args.links.now) (sym c.judge-judged.ensures ∙ c.in_default.is) (omega arith)) in
+    record {
+      answer = z.0;
+      left = z.1;
+    }
 
 pub returns-then-room-count : goal.returns-then-room-count
-returns-then-room-count c = refused_meets c.args.text.now c.args.tape.now c.args.count c.args.limit c.args.links.now _ _ c.not_in_order.ensures (walk_23 c.args.text.now c.args.tape.now c.args.count c.args.limit (length c.args.links.now) (sym c.judge-judged.ensures ∙ c.in_default.is) (omega arith) (omega (arith, c.room.ensures)))
+returns-then-room-count c =
+    let z = refused_meets c.args.text.now c.args.tape.now c.args.count c.args.limit c.args.links.now _ _ c.not_in_order.ensures (walk_23 c.args.text.now c.args.tape.now c.args.count c.args.limit (length c.args.links.now) (sym c.judge-judged.ensures ∙ c.in_default.is) (omega arith) (omega (arith, c.room.ensures))) in
+    record {
+      answer = z.0;
+      left = z.1;
+    }
 
 pub returns-then-not-in_order : goal.returns-then-not-in_order
-returns-then-not-in_order c = refused_meets c.args.text.now c.args.tape.now c.args.count c.args.limit c.args.links.now _ _ c.not_in_order-then-not-in_order.ensures (walk_23_order c.args.text.now c.args.tape.now c.args.count c.args.limit (length c.args.links.now) (sym c.judge-judged.ensures ∙ c.in_default.is) (omega arith) (omega (arith, c.room.ensures)) (sym c.in_order.ensures ∙ c.if-not-in_order.true))
+returns-then-not-in_order c =
+    let z = refused_meets c.args.text.now c.args.tape.now c.args.count c.args.limit c.args.links.now _ _ c.not_in_order-then-not-in_order.ensures (walk_23_order c.args.text.now c.args.tape.now c.args.count c.args.limit (length c.args.links.now) (sym c.judge-judged.ensures ∙ c.in_default.is) (omega arith) (omega (arith, c.room.ensures)) (sym c.in_order.ensures ∙ c.if-not-in_order.true)) in
+    record {
+      answer = z.0;
+      left = z.1;
+    }
 
 pub raws_fit-requires : goal.raws_fit-requires
 raws_fit-requires c = (omega (arith, c.room.ensures), (sym c.in_order.ensures ∙ c.if-not-in_order.false))
 
 pub returns-then-not-raws_fit : goal.returns-then-not-raws_fit
-returns-then-not-raws_fit c = refused_meets c.args.text.now c.args.tape.now c.args.count c.args.limit c.args.links.now _ _ c.not_in_order-then-not-raws_fit.ensures (walk_23_raws c.args.text.now c.args.tape.now c.args.count c.args.limit (length c.args.links.now) (sym c.judge-judged.ensures ∙ c.in_default.is) (omega arith) (omega (arith, c.room.ensures)) (sym c.in_order.ensures ∙ c.if-not-in_order.false) (sym c.raws_fit.ensures ∙ c.if-not-raws_fit.true))
+returns-then-not-raws_fit c =
+    let z = refused_meets c.args.text.now c.args.tape.now c.args.count c.args.limit c.args.links.now _ _ c.not_in_order-then-not-raws_fit.ensures (walk_23_raws c.args.text.now c.args.tape.now c.args.count c.args.limit (length c.args.links.now) (sym c.judge-judged.ensures ∙ c.in_default.is) (omega arith) (omega (arith, c.room.ensures)) (sym c.in_order.ensures ∙ c.if-not-in_order.false) (sym c.raws_fit.ensures ∙ c.if-not-raws_fit.true)) in
+    record {
+      answer = z.0;
+      left = z.1;
+    }
 
 pub returns-then-links-count : goal.returns-then-links-count
-returns-then-links-count c = refused_meets c.args.text.now c.args.tape.now c.args.count c.args.limit c.args.links.now _ _ c.no_room.ensures (walk_22 c.args.text.now c.args.tape.now c.args.count c.args.limit (length c.args.links.now) (sym c.judge-judged.ensures ∙ c.in_default.is) (omega arith) (omega (arith, c.room.ensures)) (sym c.in_order.ensures ∙ c.if-not-in_order.false) (sym c.raws_fit.ensures ∙ c.if-not-raws_fit.false) (omega arith))
+returns-then-links-count c =
+    let z = refused_meets c.args.text.now c.args.tape.now c.args.count c.args.limit c.args.links.now _ _ c.no_room.ensures (walk_22 c.args.text.now c.args.tape.now c.args.count c.args.limit (length c.args.links.now) (sym c.judge-judged.ensures ∙ c.in_default.is) (omega arith) (omega (arith, c.room.ensures)) (sym c.in_order.ensures ∙ c.if-not-in_order.false) (sym c.raws_fit.ensures ∙ c.if-not-raws_fit.false) (omega arith)) in
+    record {
+      answer = z.0;
+      left = z.1;
+    }
 
 pub judge-verdict-requires : goal.judge-verdict-requires
 unfolding in_order
 judge-verdict-requires c = (omega (arith, c.room.ensures), omega arith, omega (arith, in_order_short (entries_of c.args.count c.args.tape.now) 0 (length c.args.text.now) (sym c.in_order.ensures ∙ c.if-not-in_order.false), length_entries c.args.count c.args.tape.now, fit_short c.args.text.now (sym c.judge-judged.ensures ∙ c.in_default.is)), (sym c.in_order.ensures ∙ c.if-not-in_order.false), (sym c.raws_fit.ensures ∙ c.if-not-raws_fit.false))
 
 pub returns-in-Refused-verdict : goal.returns-in-Refused-verdict
-returns-in-Refused-verdict c = refused_meets c.args.text.now c.args.tape.now c.args.count c.args.limit c.args.links.now _ _ refl (walk_judged c.args.text.now c.args.tape.now c.args.count c.args.limit (length c.args.links.now) (sym c.judge-judged.ensures ∙ c.in_default.is) (omega arith) (omega (arith, c.room.ensures)) (sym c.in_order.ensures ∙ c.if-not-in_order.false) (sym c.raws_fit.ensures ∙ c.if-not-raws_fit.false) (omega arith) _ (sym c.in-Refused-verdict.is ∙ c.judge-verdict.ensures))
+returns-in-Refused-verdict c =
+    let z = refused_meets c.args.text.now c.args.tape.now c.args.count c.args.limit c.args.links.now _ _ refl (walk_judged c.args.text.now c.args.tape.now c.args.count c.args.limit (length c.args.links.now) (sym c.judge-judged.ensures ∙ c.in_default.is) (omega arith) (omega (arith, c.room.ensures)) (sym c.in_order.ensures ∙ c.if-not-in_order.false) (sym c.raws_fit.ensures ∙ c.if-not-raws_fit.false) (omega arith) _ (sym c.in-Refused-verdict.is ∙ c.judge-verdict.ensures)) in
+    record {
+      answer = z.0;
+      left = z.1;
+    }
 
 pub join-requires : goal.join-requires
 unfolding in_order
 join-requires c = (omega (arith, c.room.ensures), omega arith, omega (arith, in_order_short (entries_of c.args.count c.args.tape.now) 0 (length c.args.text.now) (sym c.in_order.ensures ∙ c.if-not-in_order.false), length_entries c.args.count c.args.tape.now, fit_short c.args.text.now (sym c.judge-judged.ensures ∙ c.in_default.is)), accepted_higher (kinds_of (entries_of c.args.count c.args.tape.now)) c.args.limit 128 (omega arith) (named_plain (name_at c.args.text.now c.args.tape.now) (kinds_of (entries_of c.args.count c.args.tape.now)) c.args.limit (sym c.judge-verdict.ensures ∙ c.in_default-verdict.is)))
 
 pub returns : goal.returns
-returns c = accepted_meets c.args.text.now c.args.tape.now c.args.count c.args.limit c.args.links.now _ c.join.ensures (walk_judged c.args.text.now c.args.tape.now c.args.count c.args.limit (length c.args.links.now) (sym c.judge-judged.ensures ∙ c.in_default.is) (omega arith) (omega (arith, c.room.ensures)) (sym c.in_order.ensures ∙ c.if-not-in_order.false) (sym c.raws_fit.ensures ∙ c.if-not-raws_fit.false) (omega arith) _ (sym c.in_default-verdict.is ∙ c.judge-verdict.ensures))
+returns c =
+    let z = accepted_meets c.args.text.now c.args.tape.now c.args.count c.args.limit c.args.links.now _ c.join.ensures (walk_judged c.args.text.now c.args.tape.now c.args.count c.args.limit (length c.args.links.now) (sym c.judge-judged.ensures ∙ c.in_default.is) (omega arith) (omega (arith, c.room.ensures)) (sym c.in_order.ensures ∙ c.if-not-in_order.false) (sym c.raws_fit.ensures ∙ c.if-not-raws_fit.false) (omega arith) _ (sym c.in_default-verdict.is ∙ c.judge-verdict.ensures)) in
+    record {
+      answer = z.0;
+      left = z.1;
+    }

@@ -16,7 +16,7 @@ pub returns-then-room-i : goal.returns-then-room-i
 returns-then-room-i c = put_skipped (c.args.o.now, c.args.at) c.args.i (room_of (length c.args.tape.now)) _ (omega (arith, c.room.ensures, c.if-room-i.true))
 
 pub shape_of-o : goal.shape_of-o
-shape_of-o c = c.word.auto.0 ∙ c.word-f.auto.0 ∙ c.word-d.auto.0 ∙ c.word-c.auto.0 ∙ c.number-b.auto.0 ∙ c.byte-a.auto.0
+shape_of-o c = c.word.auto.out ∙ c.word-f.auto.out ∙ c.word-d.auto.out ∙ c.word-c.auto.out ∙ c.number-b.auto.out ∙ c.byte-a.auto.out
 
 pub returns : goal.returns
 unfolding entry_text

@@ -21,20 +21,20 @@ use Rattle.text.specs.Utf8.{char_len}
 use Rattle.strings.proofs.chars.byte_literal.Goals as goal
 
 pub returns-then-not-begun : goal.returns-then-not-begun
-returns-then-not-begun c = c.no_byte.ensures ∙ byte_unnamed c.args.s.now (lost_here c.args.s.now (cursor_at 0) 0x62 (omega arith) c.consume_char-begun.result (c.consume_char-begun.ensures ∙ ap (λ (k : ParserCursor). consumed_of c.args.s.now k 0x62) c.at.ensures) c.if-not-begun.true)
+returns-then-not-begun c = c.no_byte.ensures ∙ byte_unnamed c.args.s.now (lost_here c.args.s.now (cursor_at 0) 0x62 (omega arith) c.consume_char-begun.result (c.consume_char-begun.ensures ∙ ap (λ (k : ParserCursor). consumed_of c.args.s.now k 0x62) c.at.ensures) (not-true _ c.if-not-begun.true))
 
 pub returns-then-not-opened : goal.returns-then-not-opened
 returns-then-not-opened c =
     let begun : (c.consume_char-begun.result.cursor ≡ moved_by 1 (cursor_at 0)) × (eqb (get_or c.args.s.now 0 0) 0x62 ≡ true) = let s = c.args.s.now in
-    found_here s (cursor_at 0) 0x62 (omega arith) c.consume_char-begun.result (c.consume_char-begun.ensures ∙ ap (λ (k : ParserCursor). consumed_of s k 0x62) c.at.ensures) c.if-not-begun.false in
-    c.no_byte-then-not-opened.ensures ∙ byte_unquoted c.args.s.now (begun).1 (lost_here c.args.s.now (moved_by 1 (cursor_at 0)) 0x27 (omega arith) c.consume_char-opened.result (c.consume_char-opened.ensures ∙ ap (λ (k : ParserCursor). consumed_of c.args.s.now k 0x27) (begun).0) c.if-not-opened.true)
+    found_here s (cursor_at 0) 0x62 (omega arith) c.consume_char-begun.result (c.consume_char-begun.ensures ∙ ap (λ (k : ParserCursor). consumed_of s k 0x62) c.at.ensures) (not-false _ c.if-not-begun.false) in
+    c.no_byte-then-not-opened.ensures ∙ byte_unquoted c.args.s.now (begun).1 (lost_here c.args.s.now (moved_by 1 (cursor_at 0)) 0x27 (omega arith) c.consume_char-opened.result (c.consume_char-opened.ensures ∙ ap (λ (k : ParserCursor). consumed_of c.args.s.now k 0x27) (begun).0) (not-true _ c.if-not-opened.true))
 
 pub escaped_byte-requires : goal.escaped_byte-requires
 escaped_byte-requires c =
     let begun : (c.consume_char-begun.result.cursor ≡ moved_by 1 (cursor_at 0)) × (eqb (get_or c.args.s.now 0 0) 0x62 ≡ true) = let s = c.args.s.now in
-    found_here s (cursor_at 0) 0x62 (omega arith) c.consume_char-begun.result (c.consume_char-begun.ensures ∙ ap (λ (k : ParserCursor). consumed_of s k 0x62) c.at.ensures) c.if-not-begun.false in
+    found_here s (cursor_at 0) 0x62 (omega arith) c.consume_char-begun.result (c.consume_char-begun.ensures ∙ ap (λ (k : ParserCursor). consumed_of s k 0x62) c.at.ensures) (not-false _ c.if-not-begun.false) in
     let opened : (c.consume_char-opened.result.cursor ≡ moved_by 1 (moved_by 1 (cursor_at 0))) × (eqb (get_or c.args.s.now 1 0) 0x27 ≡ true) = let s = c.args.s.now in
-    found_here s (moved_by 1 (cursor_at 0)) 0x27 (omega arith) c.consume_char-opened.result (c.consume_char-opened.ensures ∙ ap (λ (k : ParserCursor). consumed_of s k 0x27) (begun).0) c.if-not-opened.false in
+    found_here s (moved_by 1 (cursor_at 0)) 0x27 (omega arith) c.consume_char-opened.result (c.consume_char-opened.ensures ∙ ap (λ (k : ParserCursor). consumed_of s k 0x27) (begun).0) (not-false _ c.if-not-opened.false) in
     let marked : (c.consume_char-mark.result.cursor ≡ moved_by 1 (moved_by 1 (moved_by 1 (cursor_at 0)))) × (eqb (get_or c.args.s.now 2 0) 0x5C ≡ true) = let s = c.args.s.now in
     found_here s (moved_by 1 (moved_by 1 (cursor_at 0))) 0x5C (omega arith) c.consume_char-mark.result (c.consume_char-mark.ensures ∙ ap (λ (k : ParserCursor). consumed_of s k 0x5C) (opened).0) c.if-mark.true in
     ap (λ (k : ParserCursor). k.cursor) (marked).0
@@ -42,9 +42,9 @@ escaped_byte-requires c =
 pub returns-then-mark : goal.returns-then-mark
 returns-then-mark c =
     let begun : (c.consume_char-begun.result.cursor ≡ moved_by 1 (cursor_at 0)) × (eqb (get_or c.args.s.now 0 0) 0x62 ≡ true) = let s = c.args.s.now in
-    found_here s (cursor_at 0) 0x62 (omega arith) c.consume_char-begun.result (c.consume_char-begun.ensures ∙ ap (λ (k : ParserCursor). consumed_of s k 0x62) c.at.ensures) c.if-not-begun.false in
+    found_here s (cursor_at 0) 0x62 (omega arith) c.consume_char-begun.result (c.consume_char-begun.ensures ∙ ap (λ (k : ParserCursor). consumed_of s k 0x62) c.at.ensures) (not-false _ c.if-not-begun.false) in
     let opened : (c.consume_char-opened.result.cursor ≡ moved_by 1 (moved_by 1 (cursor_at 0))) × (eqb (get_or c.args.s.now 1 0) 0x27 ≡ true) = let s = c.args.s.now in
-    found_here s (moved_by 1 (cursor_at 0)) 0x27 (omega arith) c.consume_char-opened.result (c.consume_char-opened.ensures ∙ ap (λ (k : ParserCursor). consumed_of s k 0x27) (begun).0) c.if-not-opened.false in
+    found_here s (moved_by 1 (cursor_at 0)) 0x27 (omega arith) c.consume_char-opened.result (c.consume_char-opened.ensures ∙ ap (λ (k : ParserCursor). consumed_of s k 0x27) (begun).0) (not-false _ c.if-not-opened.false) in
     let marked : (c.consume_char-mark.result.cursor ≡ moved_by 1 (moved_by 1 (moved_by 1 (cursor_at 0)))) × (eqb (get_or c.args.s.now 2 0) 0x5C ≡ true) = let s = c.args.s.now in
     found_here s (moved_by 1 (moved_by 1 (cursor_at 0))) 0x5C (omega arith) c.consume_char-mark.result (c.consume_char-mark.ensures ∙ ap (λ (k : ParserCursor). consumed_of s k 0x5C) (opened).0) c.if-mark.true in
     c.escaped_byte.ensures ∙ byte_marked c.args.s.now (begun).1 (opened).1 (marked).1
@@ -52,9 +52,9 @@ returns-then-mark c =
 pub slice_bounds-char_len-count : goal.slice_bounds-char_len-count
 slice_bounds-char_len-count c =
     let begun : (c.consume_char-begun.result.cursor ≡ moved_by 1 (cursor_at 0)) × (eqb (get_or c.args.s.now 0 0) 0x62 ≡ true) = let s = c.args.s.now in
-    found_here s (cursor_at 0) 0x62 (omega arith) c.consume_char-begun.result (c.consume_char-begun.ensures ∙ ap (λ (k : ParserCursor). consumed_of s k 0x62) c.at.ensures) c.if-not-begun.false in
+    found_here s (cursor_at 0) 0x62 (omega arith) c.consume_char-begun.result (c.consume_char-begun.ensures ∙ ap (λ (k : ParserCursor). consumed_of s k 0x62) c.at.ensures) (not-false _ c.if-not-begun.false) in
     let opened : (c.consume_char-opened.result.cursor ≡ moved_by 1 (moved_by 1 (cursor_at 0))) × (eqb (get_or c.args.s.now 1 0) 0x27 ≡ true) = let s = c.args.s.now in
-    found_here s (moved_by 1 (cursor_at 0)) 0x27 (omega arith) c.consume_char-opened.result (c.consume_char-opened.ensures ∙ ap (λ (k : ParserCursor). consumed_of s k 0x27) (begun).0) c.if-not-opened.false in
+    found_here s (moved_by 1 (cursor_at 0)) 0x27 (omega arith) c.consume_char-opened.result (c.consume_char-opened.ensures ∙ ap (λ (k : ParserCursor). consumed_of s k 0x27) (begun).0) (not-false _ c.if-not-opened.false) in
     let place : c.consume_char-opened.result.cursor.cursor ≡ 2 = ap (λ (k : ParserCursor). k.cursor) (opened).0 in
     let peeked : c.peek.result ≡ get_or c.args.s.now 2 0 = c.peek.ensures ∙ ap (λ (n : ℕ). get_or c.args.s.now n 0) (place) in
     let wide : 0x80 ≤ get_or c.args.s.now 2 0 = omega (arith, c.if-peek-ge128.true, peeked) in
@@ -63,9 +63,9 @@ slice_bounds-char_len-count c =
 pub slice_bounds-char_len-start : goal.slice_bounds-char_len-start
 slice_bounds-char_len-start c =
     let begun : (c.consume_char-begun.result.cursor ≡ moved_by 1 (cursor_at 0)) × (eqb (get_or c.args.s.now 0 0) 0x62 ≡ true) = let s = c.args.s.now in
-    found_here s (cursor_at 0) 0x62 (omega arith) c.consume_char-begun.result (c.consume_char-begun.ensures ∙ ap (λ (k : ParserCursor). consumed_of s k 0x62) c.at.ensures) c.if-not-begun.false in
+    found_here s (cursor_at 0) 0x62 (omega arith) c.consume_char-begun.result (c.consume_char-begun.ensures ∙ ap (λ (k : ParserCursor). consumed_of s k 0x62) c.at.ensures) (not-false _ c.if-not-begun.false) in
     let opened : (c.consume_char-opened.result.cursor ≡ moved_by 1 (moved_by 1 (cursor_at 0))) × (eqb (get_or c.args.s.now 1 0) 0x27 ≡ true) = let s = c.args.s.now in
-    found_here s (moved_by 1 (cursor_at 0)) 0x27 (omega arith) c.consume_char-opened.result (c.consume_char-opened.ensures ∙ ap (λ (k : ParserCursor). consumed_of s k 0x27) (begun).0) c.if-not-opened.false in
+    found_here s (moved_by 1 (cursor_at 0)) 0x27 (omega arith) c.consume_char-opened.result (c.consume_char-opened.ensures ∙ ap (λ (k : ParserCursor). consumed_of s k 0x27) (begun).0) (not-false _ c.if-not-opened.false) in
     let place : c.consume_char-opened.result.cursor.cursor ≡ 2 = ap (λ (k : ParserCursor). k.cursor) (opened).0 in
     let peeked : c.peek.result ≡ get_or c.args.s.now 2 0 = c.peek.ensures ∙ ap (λ (n : ℕ). get_or c.args.s.now n 0) (place) in
     let wide : 0x80 ≤ get_or c.args.s.now 2 0 = omega (arith, c.if-peek-ge128.true, peeked) in
@@ -74,9 +74,9 @@ slice_bounds-char_len-start c =
 pub overflow_add-at : goal.overflow_add-at
 overflow_add-at c =
     let begun : (c.consume_char-begun.result.cursor ≡ moved_by 1 (cursor_at 0)) × (eqb (get_or c.args.s.now 0 0) 0x62 ≡ true) = let s = c.args.s.now in
-    found_here s (cursor_at 0) 0x62 (omega arith) c.consume_char-begun.result (c.consume_char-begun.ensures ∙ ap (λ (k : ParserCursor). consumed_of s k 0x62) c.at.ensures) c.if-not-begun.false in
+    found_here s (cursor_at 0) 0x62 (omega arith) c.consume_char-begun.result (c.consume_char-begun.ensures ∙ ap (λ (k : ParserCursor). consumed_of s k 0x62) c.at.ensures) (not-false _ c.if-not-begun.false) in
     let opened : (c.consume_char-opened.result.cursor ≡ moved_by 1 (moved_by 1 (cursor_at 0))) × (eqb (get_or c.args.s.now 1 0) 0x27 ≡ true) = let s = c.args.s.now in
-    found_here s (moved_by 1 (cursor_at 0)) 0x27 (omega arith) c.consume_char-opened.result (c.consume_char-opened.ensures ∙ ap (λ (k : ParserCursor). consumed_of s k 0x27) (begun).0) c.if-not-opened.false in
+    found_here s (moved_by 1 (cursor_at 0)) 0x27 (omega arith) c.consume_char-opened.result (c.consume_char-opened.ensures ∙ ap (λ (k : ParserCursor). consumed_of s k 0x27) (begun).0) (not-false _ c.if-not-opened.false) in
     let place : c.consume_char-opened.result.cursor.cursor ≡ 2 = ap (λ (k : ParserCursor). k.cursor) (opened).0 in
     let peeked : c.peek.result ≡ get_or c.args.s.now 2 0 = c.peek.ensures ∙ ap (λ (n : ℕ). get_or c.args.s.now n 0) (place) in
     let wide : 0x80 ≤ get_or c.args.s.now 2 0 = omega (arith, c.if-peek-ge128.true, peeked) in
@@ -85,9 +85,9 @@ overflow_add-at c =
 pub returns-then-peek-ge128 : goal.returns-then-peek-ge128
 returns-then-peek-ge128 c =
     let begun : (c.consume_char-begun.result.cursor ≡ moved_by 1 (cursor_at 0)) × (eqb (get_or c.args.s.now 0 0) 0x62 ≡ true) = let s = c.args.s.now in
-    found_here s (cursor_at 0) 0x62 (omega arith) c.consume_char-begun.result (c.consume_char-begun.ensures ∙ ap (λ (k : ParserCursor). consumed_of s k 0x62) c.at.ensures) c.if-not-begun.false in
+    found_here s (cursor_at 0) 0x62 (omega arith) c.consume_char-begun.result (c.consume_char-begun.ensures ∙ ap (λ (k : ParserCursor). consumed_of s k 0x62) c.at.ensures) (not-false _ c.if-not-begun.false) in
     let opened : (c.consume_char-opened.result.cursor ≡ moved_by 1 (moved_by 1 (cursor_at 0))) × (eqb (get_or c.args.s.now 1 0) 0x27 ≡ true) = let s = c.args.s.now in
-    found_here s (moved_by 1 (cursor_at 0)) 0x27 (omega arith) c.consume_char-opened.result (c.consume_char-opened.ensures ∙ ap (λ (k : ParserCursor). consumed_of s k 0x27) (begun).0) c.if-not-opened.false in
+    found_here s (moved_by 1 (cursor_at 0)) 0x27 (omega arith) c.consume_char-opened.result (c.consume_char-opened.ensures ∙ ap (λ (k : ParserCursor). consumed_of s k 0x27) (begun).0) (not-false _ c.if-not-opened.false) in
     let unmarked : eqb (get_or c.args.s.now 2 0) 0x5C ≡ false = let s = c.args.s.now in
     lost_here s (moved_by 1 (moved_by 1 (cursor_at 0))) 0x5C (omega arith) c.consume_char-mark.result (c.consume_char-mark.ensures ∙ ap (λ (k : ParserCursor). consumed_of s k 0x5C) (opened).0) c.if-mark.false in
     let place : c.consume_char-opened.result.cursor.cursor ≡ 2 = ap (λ (k : ParserCursor). k.cursor) (opened).0 in
@@ -103,9 +103,9 @@ returns-then-peek-ge128 c =
 pub overflow_cast-code : goal.overflow_cast-code
 overflow_cast-code c =
     let begun : (c.consume_char-begun.result.cursor ≡ moved_by 1 (cursor_at 0)) × (eqb (get_or c.args.s.now 0 0) 0x62 ≡ true) = let s = c.args.s.now in
-    found_here s (cursor_at 0) 0x62 (omega arith) c.consume_char-begun.result (c.consume_char-begun.ensures ∙ ap (λ (k : ParserCursor). consumed_of s k 0x62) c.at.ensures) c.if-not-begun.false in
+    found_here s (cursor_at 0) 0x62 (omega arith) c.consume_char-begun.result (c.consume_char-begun.ensures ∙ ap (λ (k : ParserCursor). consumed_of s k 0x62) c.at.ensures) (not-false _ c.if-not-begun.false) in
     let opened : (c.consume_char-opened.result.cursor ≡ moved_by 1 (moved_by 1 (cursor_at 0))) × (eqb (get_or c.args.s.now 1 0) 0x27 ≡ true) = let s = c.args.s.now in
-    found_here s (moved_by 1 (cursor_at 0)) 0x27 (omega arith) c.consume_char-opened.result (c.consume_char-opened.ensures ∙ ap (λ (k : ParserCursor). consumed_of s k 0x27) (begun).0) c.if-not-opened.false in
+    found_here s (moved_by 1 (cursor_at 0)) 0x27 (omega arith) c.consume_char-opened.result (c.consume_char-opened.ensures ∙ ap (λ (k : ParserCursor). consumed_of s k 0x27) (begun).0) (not-false _ c.if-not-opened.false) in
     let place : c.consume_char-opened.result.cursor.cursor ≡ 2 = ap (λ (k : ParserCursor). k.cursor) (opened).0 in
     let peeked : c.peek.result ≡ get_or c.args.s.now 2 0 = c.peek.ensures ∙ ap (λ (n : ℕ). get_or c.args.s.now n 0) (place) in
     let low : get_or c.args.s.now 2 0 < 0x80 = omega (arith, c.if-peek-ge128.false, peeked) in
@@ -116,9 +116,9 @@ overflow_cast-code c =
 pub returns-in-Char : goal.returns-in-Char
 returns-in-Char c =
     let begun : (c.consume_char-begun.result.cursor ≡ moved_by 1 (cursor_at 0)) × (eqb (get_or c.args.s.now 0 0) 0x62 ≡ true) = let s = c.args.s.now in
-    found_here s (cursor_at 0) 0x62 (omega arith) c.consume_char-begun.result (c.consume_char-begun.ensures ∙ ap (λ (k : ParserCursor). consumed_of s k 0x62) c.at.ensures) c.if-not-begun.false in
+    found_here s (cursor_at 0) 0x62 (omega arith) c.consume_char-begun.result (c.consume_char-begun.ensures ∙ ap (λ (k : ParserCursor). consumed_of s k 0x62) c.at.ensures) (not-false _ c.if-not-begun.false) in
     let opened : (c.consume_char-opened.result.cursor ≡ moved_by 1 (moved_by 1 (cursor_at 0))) × (eqb (get_or c.args.s.now 1 0) 0x27 ≡ true) = let s = c.args.s.now in
-    found_here s (moved_by 1 (cursor_at 0)) 0x27 (omega arith) c.consume_char-opened.result (c.consume_char-opened.ensures ∙ ap (λ (k : ParserCursor). consumed_of s k 0x27) (begun).0) c.if-not-opened.false in
+    found_here s (moved_by 1 (cursor_at 0)) 0x27 (omega arith) c.consume_char-opened.result (c.consume_char-opened.ensures ∙ ap (λ (k : ParserCursor). consumed_of s k 0x27) (begun).0) (not-false _ c.if-not-opened.false) in
     let unmarked : eqb (get_or c.args.s.now 2 0) 0x5C ≡ false = let s = c.args.s.now in
     lost_here s (moved_by 1 (moved_by 1 (cursor_at 0))) 0x5C (omega arith) c.consume_char-mark.result (c.consume_char-mark.ensures ∙ ap (λ (k : ParserCursor). consumed_of s k 0x5C) (opened).0) c.if-mark.false in
     let place : c.consume_char-opened.result.cursor.cursor ≡ 2 = ap (λ (k : ParserCursor). k.cursor) (opened).0 in
@@ -132,9 +132,9 @@ returns-in-Char c =
 pub returns-in-Refused : goal.returns-in-Refused
 returns-in-Refused c =
     let begun : (c.consume_char-begun.result.cursor ≡ moved_by 1 (cursor_at 0)) × (eqb (get_or c.args.s.now 0 0) 0x62 ≡ true) = let s = c.args.s.now in
-    found_here s (cursor_at 0) 0x62 (omega arith) c.consume_char-begun.result (c.consume_char-begun.ensures ∙ ap (λ (k : ParserCursor). consumed_of s k 0x62) c.at.ensures) c.if-not-begun.false in
+    found_here s (cursor_at 0) 0x62 (omega arith) c.consume_char-begun.result (c.consume_char-begun.ensures ∙ ap (λ (k : ParserCursor). consumed_of s k 0x62) c.at.ensures) (not-false _ c.if-not-begun.false) in
     let opened : (c.consume_char-opened.result.cursor ≡ moved_by 1 (moved_by 1 (cursor_at 0))) × (eqb (get_or c.args.s.now 1 0) 0x27 ≡ true) = let s = c.args.s.now in
-    found_here s (moved_by 1 (cursor_at 0)) 0x27 (omega arith) c.consume_char-opened.result (c.consume_char-opened.ensures ∙ ap (λ (k : ParserCursor). consumed_of s k 0x27) (begun).0) c.if-not-opened.false in
+    found_here s (moved_by 1 (cursor_at 0)) 0x27 (omega arith) c.consume_char-opened.result (c.consume_char-opened.ensures ∙ ap (λ (k : ParserCursor). consumed_of s k 0x27) (begun).0) (not-false _ c.if-not-opened.false) in
     let unmarked : eqb (get_or c.args.s.now 2 0) 0x5C ≡ false = let s = c.args.s.now in
     lost_here s (moved_by 1 (moved_by 1 (cursor_at 0))) 0x5C (omega arith) c.consume_char-mark.result (c.consume_char-mark.ensures ∙ ap (λ (k : ParserCursor). consumed_of s k 0x5C) (opened).0) c.if-mark.false in
     let place : c.consume_char-opened.result.cursor.cursor ≡ 2 = ap (λ (k : ParserCursor). k.cursor) (opened).0 in

@@ -49,7 +49,7 @@ pub loop-at-preserved-in-Plain : goal.loop-at-preserved-in-Plain
 loop-at-preserved-in-Plain c = let z = plain_room c.loop-at.invariant.1 c.loop-at-test.true c.in-Plain.k (simp tail_part at (sym c.in-Plain.is ∙ c.next_piece-p.ensures)) in
     let e : c.loop-at.at + c.in-Plain.k - c.loop-at.at ≡ c.in-Plain.k = omega arith in
     let l : length (take c.in-Plain.k (drop c.loop-at.at c.args.s.now)) ≡ c.in-Plain.k = length-take-le c.in-Plain.k (drop c.loop-at.at c.args.s.now) (omega (arith, z.1, length-drop c.loop-at.at c.args.s.now)) in
-    let g = go_on c.loop-at.invariant.1 (take c.in-Plain.k (drop c.loop-at.at c.args.s.now)) c.copy.new.1.0 c.in-Plain.k z.1 (decoded_plain c.args.m c.args.s.now c.loop-at.at c.loop-at-test.true c.in-Plain.k (simp tail_part at (sym c.in-Plain.is ∙ c.next_piece-p.ensures))) (omega (arith, l, z.2)) (simp (e, tail_part) at c.copy.ensures) in
+    let g = go_on c.loop-at.invariant.1 (take c.in-Plain.k (drop c.loop-at.at c.args.s.now)) c.copy.new.out c.in-Plain.k z.1 (decoded_plain c.args.m c.args.s.now c.loop-at.at c.loop-at-test.true c.in-Plain.k (simp tail_part at (sym c.in-Plain.is ∙ c.next_piece-p.ensures))) (omega (arith, l, z.2)) (simp (e, tail_part) at c.copy.ensures) in
     (c.out-1.given.1 ∙ c.loop-at.invariant.0, rw l at g)
 
 pub slice_bounds-put-count : goal.slice_bounds-put-count
@@ -73,7 +73,7 @@ loop-at-smaller c = let z = backslash_room c.loop-at.invariant.1 c.loop-at-test.
 pub loop-at-preserved : goal.loop-at-preserved
 loop-at-preserved c = let z = backslash_room c.loop-at.invariant.1 c.loop-at-test.true c.in-Backslash.k c.in-Backslash.d (simp tail_part at (sym c.in-Backslash.is ∙ c.next_piece-p.ensures)) in
     let l : length (bytes_of c.in-Backslash.d) ≡ c.decoded_len-n.result = sym (c.decoded_len-n.ensures ∙ decoded_length c.in-Backslash.d) in
-    let g = go_on c.loop-at.invariant.1 (bytes_of c.in-Backslash.d) c.put.new.1.0 c.in-Backslash.k z.1 (decoded_backslash c.args.m c.args.s.now c.loop-at.at c.loop-at-test.true c.in-Backslash.k c.in-Backslash.d (simp tail_part at (sym c.in-Backslash.is ∙ c.next_piece-p.ensures))) z.2 (simp tail_part at c.put.ensures) in
+    let g = go_on c.loop-at.invariant.1 (bytes_of c.in-Backslash.d) c.put.new.out c.in-Backslash.k z.1 (decoded_backslash c.args.m c.args.s.now c.loop-at.at c.loop-at-test.true c.in-Backslash.k c.in-Backslash.d (simp tail_part at (sym c.in-Backslash.is ∙ c.next_piece-p.ensures))) z.2 (simp tail_part at c.put.ensures) in
     (c.out-in-Backslash-1.given.1 ∙ c.loop-at.invariant.0, rw l at g)
 
 pub shape_of-out-in-Refused : goal.shape_of-out-in-Refused

@@ -18,3 +18,9 @@ behind_literal-requires c = rw (c.byte_string_no_base64.ensures ∙ ap byte_stri
 
 pub returns : goal.returns
 returns c = c.behind_literal.ensures ∙ sym (past-byte-string c.args.s.now c.args.from _ c.in-To.is _ (sym (c.byte_string_no_base64.ensures ∙ ap byte_string_of (tail_part c.args.s.now c.in-To.at))))
+
+pub returns-in_default : goal.returns-in_default
+unfolding past_byte_string
+returns-in_default c = search rules
+
+

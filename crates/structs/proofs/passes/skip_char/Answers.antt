@@ -35,3 +35,9 @@ returns-in-Refused c =
     let char_is : (r : CharAnswer) → c.char_literal-read.result ≡ r → char_of (drop (c.in-To.at) (c.args.s.now)) ≡ r = λ r e. on_part char_of (c.args.s.now) (c.in-To.at) _ r c.char_literal-read.ensures e in
     let past : (r : CharAnswer) → c.char_literal-read.result ≡ r → behind_char (c.in-To.at) r ≡ past_char (c.args.s.now) c.args.from = λ r e. sym (past-char (c.args.s.now) _ (c.in-To.at) c.in-To.is r (char_is r e)) in
     past (char.Refused _) c.in-Refused.is
+
+pub returns-in_default : goal.returns-in_default
+unfolding past_char
+returns-in_default c = search rules
+
+

@@ -18,3 +18,9 @@ behind_literal-requires c = rw (c.string.ensures ∙ ap string_of (tail_part c.a
 
 pub returns : goal.returns
 returns c = c.behind_literal.ensures ∙ sym (past-string c.args.s.now c.args.from _ c.in-To.is _ (sym (c.string.ensures ∙ ap string_of (tail_part c.args.s.now c.in-To.at))))
+
+pub returns-in_default : goal.returns-in_default
+unfolding past_string
+returns-in_default c = search rules
+
+

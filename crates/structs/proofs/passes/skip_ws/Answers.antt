@@ -54,3 +54,9 @@ returns-in-Refused c =
     let gap_is : (g : Gap) → c.skip_gap-gap.result ≡ g → gap_of (drop (c.in-To.at) (c.args.s.now)) ≡ g = λ g e. on_part gap_of (c.args.s.now) (c.in-To.at) _ g c.skip_gap-gap.ensures e in
     let past : (g : Gap) → c.skip_gap-gap.result ≡ g → behind_gap (c.in-To.at) g ≡ past_gap (c.args.s.now) c.args.from = λ g e. sym (past-gap (c.args.s.now) _ (c.in-To.at) c.in-To.is g (gap_is g e)) in
     ap Refused c.placed_behind.ensures ∙ past (gap.Refused _) c.in-Refused.is
+
+pub returns-in_default : goal.returns-in_default
+unfolding past_gap
+returns-in_default c = search rules
+
+

@@ -28,13 +28,13 @@ returns-in_default-bytes c =
     let tape : List ℕ = c.args.tape.now in
     line3 (c.args.o.now, c.args.at) _ bad_text _ _ (over (pairs (behind_word words)) text) tape (any_line words text tape)
     (any_bad words text tape c.in-Value.numbers (sym (c.decimal_of-first.ensures ∙ ap decimal_of c.word.ensures) ∙ c.in-Value.is)
-    (sym (c.bytes-bytes.ensures.0 ∙ ap (λ (w : List ℕ). hex_in w (length text)) c.behind.ensures) ∙ c.in_default-bytes.is))
-    c.bad-in_default-bytes.ensures (c.bytes-bytes.ensures.1 ∙ ap (λ (w : List ℕ). over (pairs w) text) c.behind.ensures) refl
+    (sym (c.bytes-bytes.ensures.value ∙ ap (λ (w : List ℕ). hex_in w (length text)) c.behind.ensures) ∙ c.in_default-bytes.is))
+    c.bad-in_default-bytes.ensures (c.bytes-bytes.ensures.buf_after ∙ ap (λ (w : List ℕ). over (pairs w) text) c.behind.ensures) refl
 
 pub returns : goal.returns
 returns c =
     let words : List ℕ = c.args.words.now in
     let text : List ℕ = c.args.text.now in
     any_goes words text c.args.tape.now c.in-Value.numbers (sym (c.decimal_of-first.ensures ∙ ap decimal_of c.word.ensures) ∙ c.in-Value.is)
-    c.in-Bytes.n (sym (c.bytes-bytes.ensures.0 ∙ ap (λ (w : List ℕ). hex_in w (length text)) c.behind.ensures) ∙ c.in-Bytes.is)
-    _ _ _ (c.args.o.now, c.args.at) _ (c.bytes-bytes.ensures.1 ∙ ap (λ (w : List ℕ). over (pairs w) text) c.behind.ensures) c.part.ensures c.answer.ensures
+    c.in-Bytes.n (sym (c.bytes-bytes.ensures.value ∙ ap (λ (w : List ℕ). hex_in w (length text)) c.behind.ensures) ∙ c.in-Bytes.is)
+    _ _ _ (c.args.o.now, c.args.at) _ (c.bytes-bytes.ensures.buf_after ∙ ap (λ (w : List ℕ). over (pairs w) text) c.behind.ensures) c.part.ensures c.answer.ensures

@@ -13,3 +13,9 @@ returns-then-n-le65536 c =
 pub returns-else-n-le65536 : goal.returns-else-n-le65536
 returns-else-n-le65536 c =
     written_many c.in-Accepted.n c.if-n-le65536.false ∙ ap (λ (a : ReadAnswer). written_of (told_read a)) (sym c.in-Accepted.is)
+
+pub returns-in-Refused : goal.returns-in-Refused
+unfolding written_of
+returns-in-Refused c = search rules
+
+

@@ -31,8 +31,8 @@ returns-in_default-bytes c =
     let fourth = c.word.ensures ∙ ap (λ (w : List ℕ). first_word w) (behinds words _ _ _ c.behind.ensures c.behind-2.ensures c.behind-words.ensures) in
     line4 (c.args.o.now, c.args.at) _ bad_text _ _ _ (over (pairs (word4 words)) text) tape links (any_line words text tape links)
     (any_no_text words text tape links c.in-Asks.q (sym c.front-asked.ensures ∙ c.in-Asks.is)
-    (sym (c.bytes-bytes.ensures.0 ∙ ap (λ (w : List ℕ). hex_in w (length text)) fourth) ∙ c.in_default-bytes.is))
-    c.bad-in_default-bytes.ensures (c.bytes-bytes.ensures.1 ∙ ap (λ (w : List ℕ). over (pairs w) text) fourth) refl refl
+    (sym (c.bytes-bytes.ensures.value ∙ ap (λ (w : List ℕ). hex_in w (length text)) fourth) ∙ c.in_default-bytes.is))
+    c.bad-in_default-bytes.ensures (c.bytes-bytes.ensures.buf_after ∙ ap (λ (w : List ℕ). over (pairs w) text) fourth) refl refl
 
 pub returns-in_default-last : goal.returns-in_default-last
 returns-in_default-last c =
@@ -43,9 +43,9 @@ returns-in_default-last c =
     let fourth = c.word.ensures ∙ ap (λ (w : List ℕ). first_word w) (behinds words _ _ _ c.behind.ensures c.behind-2.ensures c.behind-words.ensures) in
     let fifth = c.behind-3.ensures ∙ ap (λ (w : List ℕ). behind_word w) (behinds words _ _ _ c.behind.ensures c.behind-2.ensures c.behind-words.ensures) in
     line4 (c.args.o.now, c.args.at) _ bad_text _ _ _ (over (pairs (word4 words)) text) (over (numbers_of (behind4 words)) tape) links (any_line words text tape links)
-    (any_no_tape words text tape links c.in-Asks.q (sym c.front-asked.ensures ∙ c.in-Asks.is) c.in-Bytes.n (sym (c.bytes-bytes.ensures.0 ∙ ap (λ (w : List ℕ). hex_in w (length text)) fourth) ∙ c.in-Bytes.is)
-    (sym (c.numbers-last.ensures.0 ∙ ap (λ (w : List ℕ). numbers_in w (length tape)) fifth) ∙ c.in_default-last.is))
-    c.bad-in_default-last.ensures (c.bytes-bytes.ensures.1 ∙ ap (λ (w : List ℕ). over (pairs w) text) fourth) (c.numbers-last.ensures.1 ∙ ap (λ (w : List ℕ). over (numbers_of w) tape) fifth) refl
+    (any_no_tape words text tape links c.in-Asks.q (sym c.front-asked.ensures ∙ c.in-Asks.is) c.in-Bytes.n (sym (c.bytes-bytes.ensures.value ∙ ap (λ (w : List ℕ). hex_in w (length text)) fourth) ∙ c.in-Bytes.is)
+    (sym (c.numbers-last.ensures.value ∙ ap (λ (w : List ℕ). numbers_in w (length tape)) fifth) ∙ c.in_default-last.is))
+    c.bad-in_default-last.ensures (c.bytes-bytes.ensures.buf_after ∙ ap (λ (w : List ℕ). over (pairs w) text) fourth) (c.numbers-last.ensures.tape_after ∙ ap (λ (w : List ℕ). over (numbers_of w) tape) fifth) refl
 
 pub returns : goal.returns
 returns c =
@@ -55,6 +55,6 @@ returns c =
     let links : List ℕ = c.args.links.now in
     let fourth = c.word.ensures ∙ ap (λ (w : List ℕ). first_word w) (behinds words _ _ _ c.behind.ensures c.behind-2.ensures c.behind-words.ensures) in
     let fifth = c.behind-3.ensures ∙ ap (λ (w : List ℕ). behind_word w) (behinds words _ _ _ c.behind.ensures c.behind-2.ensures c.behind-words.ensures) in
-    any_goes words text tape links c.in-Asks.q (sym c.front-asked.ensures ∙ c.in-Asks.is) c.in-Bytes.n (sym (c.bytes-bytes.ensures.0 ∙ ap (λ (w : List ℕ). hex_in w (length text)) fourth) ∙ c.in-Bytes.is)
-    c.in-Stored.m (sym (c.numbers-last.ensures.0 ∙ ap (λ (w : List ℕ). numbers_in w (length tape)) fifth) ∙ c.in-Stored.is)
-    _ _ _ _ _ (c.args.o.now, c.args.at) _ (c.bytes-bytes.ensures.1 ∙ ap (λ (w : List ℕ). over (pairs w) text) fourth) c.part.ensures (c.numbers-last.ensures.1 ∙ ap (λ (w : List ℕ). over (numbers_of w) tape) fifth) c.first.ensures c.answer.ensures
+    any_goes words text tape links c.in-Asks.q (sym c.front-asked.ensures ∙ c.in-Asks.is) c.in-Bytes.n (sym (c.bytes-bytes.ensures.value ∙ ap (λ (w : List ℕ). hex_in w (length text)) fourth) ∙ c.in-Bytes.is)
+    c.in-Stored.m (sym (c.numbers-last.ensures.value ∙ ap (λ (w : List ℕ). numbers_in w (length tape)) fifth) ∙ c.in-Stored.is)
+    _ _ _ _ _ (c.args.o.now, c.args.at) _ (c.bytes-bytes.ensures.buf_after ∙ ap (λ (w : List ℕ). over (pairs w) text) fourth) c.part.ensures (c.numbers-last.ensures.tape_after ∙ ap (λ (w : List ℕ). over (numbers_of w) tape) fifth) c.first.ensures c.answer.ensures

@@ -30,8 +30,8 @@ returns-in_default-bytes c =
     let links : List ℕ = c.args.links.now in
     line4 (c.args.o.now, c.args.at) _ bad_text _ _ _ (over (pairs (behind_word words)) text) tape links (walk_line words text tape links)
     (walk_bad words text tape links c.in-Value.limit (sym (c.decimal_of-first.ensures ∙ ap decimal_of c.word.ensures) ∙ c.in-Value.is)
-    (sym (c.bytes-bytes.ensures.0 ∙ ap (λ (w : List ℕ). hex_in w (length text)) c.behind.ensures) ∙ c.in_default-bytes.is))
-    c.bad-in_default-bytes.ensures (c.bytes-bytes.ensures.1 ∙ ap (λ (w : List ℕ). over (pairs w) text) c.behind.ensures) refl refl
+    (sym (c.bytes-bytes.ensures.value ∙ ap (λ (w : List ℕ). hex_in w (length text)) c.behind.ensures) ∙ c.in_default-bytes.is))
+    c.bad-in_default-bytes.ensures (c.bytes-bytes.ensures.buf_after ∙ ap (λ (w : List ℕ). over (pairs w) text) c.behind.ensures) refl refl
 
 pub returns : goal.returns
 returns c =
@@ -40,5 +40,5 @@ returns c =
     let tape : List ℕ = c.args.tape.now in
     let links : List ℕ = c.args.links.now in
     walk_goes words text tape links c.in-Value.limit (sym (c.decimal_of-first.ensures ∙ ap decimal_of c.word.ensures) ∙ c.in-Value.is)
-    c.in-Bytes.n (sym (c.bytes-bytes.ensures.0 ∙ ap (λ (w : List ℕ). hex_in w (length text)) c.behind.ensures) ∙ c.in-Bytes.is)
-    _ _ _ _ (c.args.o.now, c.args.at) _ (c.bytes-bytes.ensures.1 ∙ ap (λ (w : List ℕ). over (pairs w) text) c.behind.ensures) c.part.ensures c.walked.ensures
+    c.in-Bytes.n (sym (c.bytes-bytes.ensures.value ∙ ap (λ (w : List ℕ). hex_in w (length text)) c.behind.ensures) ∙ c.in-Bytes.is)
+    _ _ _ _ (c.args.o.now, c.args.at) _ (c.bytes-bytes.ensures.buf_after ∙ ap (λ (w : List ℕ). over (pairs w) text) c.behind.ensures) c.part.ensures c.walked.ensures

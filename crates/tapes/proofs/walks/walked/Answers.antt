@@ -9,9 +9,9 @@ returns-in-Walked c =
     let text : List ℕ = c.args.text.now in
     let tape : List ℕ = c.args.tape.now in
     let links : List ℕ = c.args.links.now in (
-      walked_said text tape c.args.q links _ _ c.mark.ensures c.walk-answer.ensures.1 (c.args.o.now, c.args.at) _ _ _ c.clean.ensures
-          _ c.walk-answer.ensures.0 c.in-Walked.is _ c.first.ensures c.links-a.ensures c.kept.ensures,
-      links-left text tape c.args.q links _ _ c.mark.ensures c.walk-answer.ensures.1,
+      walked_said text tape c.args.q links _ _ c.mark.ensures c.walk-answer.ensures.left (c.args.o.now, c.args.at) _ _ _ c.clean.ensures
+          _ c.walk-answer.ensures.answer c.in-Walked.is _ c.first.ensures c.links-a.ensures c.kept.ensures,
+      links-left text tape c.args.q links _ _ c.mark.ensures c.walk-answer.ensures.left,
     )
 
 pub returns-in-Refused : goal.returns-in-Refused
@@ -19,7 +19,7 @@ returns-in-Refused c =
     let text : List ℕ = c.args.text.now in
     let tape : List ℕ = c.args.tape.now in
     let links : List ℕ = c.args.links.now in (
-      refused_said text tape c.args.q links _ _ c.mark.ensures c.walk-answer.ensures.1 (c.args.o.now, c.args.at) _ _ _ c.clean-in-Refused.ensures
-          _ c.walk-answer.ensures.0 c.in-Refused.r c.in-Refused.is c.refused-a.ensures c.kept-in-Refused.ensures,
-      links-left text tape c.args.q links _ _ c.mark.ensures c.walk-answer.ensures.1,
+      refused_said text tape c.args.q links _ _ c.mark.ensures c.walk-answer.ensures.left (c.args.o.now, c.args.at) _ _ _ c.clean-in-Refused.ensures
+          _ c.walk-answer.ensures.answer c.in-Refused.r c.in-Refused.is c.refused-a.ensures c.kept-in-Refused.ensures,
+      links-left text tape c.args.q links _ _ c.mark.ensures c.walk-answer.ensures.left,
     )

@@ -1,11 +1,11 @@
-use Prim.Native.Nat.{◌-◌, ◌<◌, ◌≤◌}
+use Prim.Native.Nat.{◌-◌, ◌<◌}
 use native.Mathlib.Omega.{arith}
-use mathlib.Core.Path.{◌∙◌, ◌≡◌, ap, refl, sym}
-use lib.ListN.{length, length-set, get_or}
+use mathlib.Core.Path.{◌∙◌, ap, refl, sym}
+use lib.ListN.{length-set, get_or}
 use borrow.Author.Rules.{rules}
 use Rattle.rows.specs.declared.Entry.{Entry}
 use Rattle.grammar.specs.Kinds.{kind_of}
-use Rattle.walk.proofs.JoinLaws.{Joining, joins_start, joins_end, open-fits, join_opens, close_fits, join_closes, join_passes}
+use Rattle.walk.proofs.JoinLaws.{joins_start, joins_end, open-fits, join_opens, close_fits, join_closes, join_passes}
 use Rattle.walk.proofs.joining.join.Goals as goal
 
 pub loop-i-init : goal.loop-i-init

@@ -1,11 +1,7 @@
-use Prim.Native.Nat.{◌-◌, ◌<◌, ◌≤◌}
-use native.Mathlib.Omega.{arith}
-use mathlib.Core.Path.{◌∙◌, ◌≡◌, ap, refl, sym}
-use lib.ListN.{length, length-set, get_or}
-use borrow.Author.Rules.{rules}
-use Rattle.rows.specs.declared.Entry.{Entry}
-use Rattle.grammar.specs.Kinds.{kind_of}
-use Rattle.walk.proofs.JoinLaws.{Joining, joins_start, joins_end, open-fits, join_opens, close_fits, join_closes, join_passes}
+use Prim.Native.Nat.{◌-◌, ◌≤◌}
+use mathlib.Core.Path.{◌≡◌}
+use lib.ListN.{length}
+use Rattle.walk.proofs.JoinLaws.{Joining}
 use Rattle.walk.proofs.joining.join.Given as goal
 
 abbrev pub invariant-loop-i : goal.invariant-loop-i

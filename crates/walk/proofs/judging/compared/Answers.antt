@@ -1,10 +1,8 @@
 use native.Mathlib.Omega.{arith}
-use mathlib.Core.Path.{◌∙◌, ap, subst, sym}
-use Prim.Native.Nat.{ℕ, ◌+◌, ◌-◌, ◌≤◌}
-use borrow.Author.Rules.{rules}
+use mathlib.Core.Path.{◌∙◌, ap, subst}
+use Prim.Native.Nat.{◌+◌, ◌-◌}
 use Rattle.fields.specs.inner.Again.{earlier}
 use Rattle.fields.specs.Names.{HasName, name_at}
-use Rattle.fields.specs.declared.again.Again.{Again}
 use Rattle.walk.proofs.ClosedLaws.{lent_length, lent_lies, search_tells, lent_back}
 use Rattle.walk.proofs.judging.compared.Goals as goal
 
@@ -23,8 +21,8 @@ first_again-requires c =
 
 pub returns : goal.returns
 returns c =
-    let r = c.requires.1.room in (
-      c.earlier.ensures ∙ ap (earlier c.args.found) (search_tells c.args.fields.now c.args.from (c.args.to - c.args.from) (omega arith) (name_at c.args.text.now c.args.tape.now) _
-          (λ p q h l. c.requires.1.rise (c.args.from + p) (c.args.from + q) (omega arith) (omega arith)) c.first_again.ensures.0),
-      lent_back c.args.fields.now c.args.from (c.args.to - c.args.from) (omega arith) c.first_again.new.1.1.0 c.first_again.ensures.1.as_many,
-    )
+    let r = c.requires.1.room in record {
+      told = c.earlier.ensures ∙ ap (earlier c.args.found) (search_tells c.args.fields.now c.args.from (c.args.to - c.args.from) (omega arith) (name_at c.args.text.now c.args.tape.now) _
+          (λ p q h l. c.requires.1.rise (c.args.from + p) (c.args.from + q) (omega arith) (omega arith)) c.first_again.ensures.first);
+      kept = lent_back c.args.fields.now c.args.from (c.args.to - c.args.from) (omega arith) c.first_again.new.fields c.first_again.ensures.left.as_many;
+    }

@@ -1,14 +1,14 @@
-use Prim.Native.Nat.{◌-◌, ◌≤◌}
+use Prim.Native.Nat.{◌-◌}
 use native.Mathlib.Omega.{arith}
-use mathlib.Core.Path.{◌∙◌, ◌≡◌, ap, refl, subst}
-use lib.ListN.{length, length-set}
+use mathlib.Core.Path.{◌∙◌, ap, refl, subst}
+use lib.ListN.{length-set}
 use Rattle.rows.specs.Rows.{entry_at}
 use Rattle.grammar.specs.Kinds.{kind_of}
 use Rattle.fields.specs.declared.again.Again.{Again}
 use Rattle.fields.proofs.Readable.{has_name}
 use Rattle.walk.specs.inner.Gathered.{told_by}
 use Rattle.walk.specs.inner.Turns.{Comes}
-use Rattle.walk.proofs.JudgeTurns.{Turning, turn_starts, turn_noted, room-for, turn_pushes, turn_pops, stop_with}
+use Rattle.walk.proofs.JudgeTurns.{turn_starts, turn_noted, room-for, turn_pushes, turn_pops, stop_with}
 use Rattle.walk.proofs.OpenLaws.{rising_next}
 use borrow.Author.Rules.{rules}
 use Rattle.walk.proofs.judging.judge_in.Goals as goal
@@ -23,7 +23,7 @@ pub loop-w-smaller-in-Stay : goal.loop-w-smaller-in-Stay
 loop-w-smaller-in-Stay c = let s = subst (Comes c.args.tape.now c.args.count c.args.limit c.loop-w.next c.loop-w.depth c.loop-w.want c.loop-w.inside) c.in-Stay.is c.comes_to.ensures in omega (arith, s.there)
 
 pub loop-w-preserved-in-Stay : goal.loop-w-preserved-in-Stay
-loop-w-preserved-in-Stay c = let s = subst (Comes c.args.tape.now c.args.count c.args.limit c.loop-w.next c.loop-w.depth c.loop-w.want c.loop-w.inside) c.in-Stay.is c.comes_to.ensures in let n = turn_noted c.args.text.now c.args.tape.now c.args.count c.args.limit c.loop-w.fields c.loop-w.outer c.loop-w.bases c.loop-w.depth c.loop-w.top c.loop-w.want c.loop-w.inside c.loop-w.found c.loop-w.next c.loop-w.invariant.5 (kind_of (entry_at c.args.tape.now c.loop-w.next).kind) s.there refl _ _ s.does (has_name c.args.text.now c.args.tape.now c.args.count c.requires.0 c.requires.3 c.requires.4 c.loop-w.next s.there) (omega (arith, c.loop-w.invariant.4, c.requires.5)) (omega (arith, c.loop-w.invariant.4, c.requires.6)) c.noted-top.new.0 c.noted-top.result c.noted-top.ensures.0 c.noted-top.ensures.1 in (omega (arith, s.there), search rules, search rules, search rules, n.0 ∙ c.loop-w.invariant.4, n.1)
+loop-w-preserved-in-Stay c = let s = subst (Comes c.args.tape.now c.args.count c.args.limit c.loop-w.next c.loop-w.depth c.loop-w.want c.loop-w.inside) c.in-Stay.is c.comes_to.ensures in let n = turn_noted c.args.text.now c.args.tape.now c.args.count c.args.limit c.loop-w.fields c.loop-w.outer c.loop-w.bases c.loop-w.depth c.loop-w.top c.loop-w.want c.loop-w.inside c.loop-w.found c.loop-w.next c.loop-w.invariant.5 (kind_of (entry_at c.args.tape.now c.loop-w.next).kind) s.there refl _ _ s.does (has_name c.args.text.now c.args.tape.now c.args.count c.requires.0 c.requires.3 c.requires.4 c.loop-w.next s.there) (omega (arith, c.loop-w.invariant.4, c.requires.5)) (omega (arith, c.loop-w.invariant.4, c.requires.6)) c.noted-top.new.fields c.noted-top.result c.noted-top.ensures.counted c.noted-top.ensures.put in (omega (arith, s.there), search rules, search rules, search rules, n.0 ∙ c.loop-w.invariant.4, n.1)
 
 pub bounds-outer-depth : goal.bounds-outer-depth
 bounds-outer-depth c = let s = subst (Comes c.args.tape.now c.args.count c.args.limit c.loop-w.next c.loop-w.depth c.loop-w.want c.loop-w.inside) c.in-Push.is c.comes_to.ensures in omega (arith, s.1, c.requires.1, c.loop-w.invariant.2, c.loop-w.invariant.3)
@@ -68,13 +68,13 @@ pub loop-w-smaller : goal.loop-w-smaller
 loop-w-smaller c = let s = subst (Comes c.args.tape.now c.args.count c.args.limit c.loop-w.next c.loop-w.depth c.loop-w.want c.loop-w.inside) c.in-Pop.is c.comes_to.ensures in omega (arith, s.0.there)
 
 pub loop-w-preserved : goal.loop-w-preserved
-loop-w-preserved c = let s = subst (Comes c.args.tape.now c.args.count c.args.limit c.loop-w.next c.loop-w.depth c.loop-w.want c.loop-w.inside) c.in-Pop.is c.comes_to.ensures in (omega (arith, s.0.there), omega arith, search rules, search rules, c.closed-found.ensures.1.as_long ∙ c.loop-w.invariant.4, turn_pops c.args.text.now c.args.tape.now c.args.count c.args.limit c.loop-w.fields c.loop-w.outer c.loop-w.bases c.loop-w.depth c.loop-w.top c.loop-w.want c.loop-w.inside c.loop-w.found c.loop-w.next c.loop-w.invariant.5 (kind_of (entry_at c.args.tape.now c.loop-w.next).kind) s.0.there refl c.closed-found.new.1.1.0 c.closed-found.result s.0.does s.1 c.closed-found.ensures.1 c.closed-found.ensures.0)
+loop-w-preserved c = let s = subst (Comes c.args.tape.now c.args.count c.args.limit c.loop-w.next c.loop-w.depth c.loop-w.want c.loop-w.inside) c.in-Pop.is c.comes_to.ensures in (omega (arith, s.0.there), omega arith, search rules, search rules, c.closed-found.ensures.kept.as_long ∙ c.loop-w.invariant.4, turn_pops c.args.text.now c.args.tape.now c.args.count c.args.limit c.loop-w.fields c.loop-w.outer c.loop-w.bases c.loop-w.depth c.loop-w.top c.loop-w.want c.loop-w.inside c.loop-w.found c.loop-w.next c.loop-w.invariant.5 (kind_of (entry_at c.args.tape.now c.loop-w.next).kind) s.0.there refl c.closed-found.new.fields c.closed-found.result s.0.does s.1 c.closed-found.ensures.kept c.closed-found.ensures.told)
 
 pub still_open-again-requires : goal.still_open-again-requires
 still_open-again-requires c = (omega (arith, c.requires.1), c.loop-w.invariant.5.rising, c.loop-w.invariant.5.held)
 
 pub shape_of-fields : goal.shape_of-fields
-shape_of-fields c = c.still_open-again.auto.1.1.0 ∙ c.loop-w.invariant.4
+shape_of-fields c = c.still_open-again.auto.fields ∙ c.loop-w.invariant.4
 
 pub returns : goal.returns
 returns c = c.told.ensures ∙ ap (λ (a : Again). told_by a c.in-Stop.v) c.still_open-again.ensures ∙ stop_with c.args.text.now c.args.tape.now c.args.count c.args.limit c.loop-w.fields c.loop-w.outer c.loop-w.bases c.loop-w.depth c.loop-w.top c.loop-w.want c.loop-w.inside c.loop-w.found c.loop-w.next c.loop-w.invariant.5 _ (subst (Comes c.args.tape.now c.args.count c.args.limit c.loop-w.next c.loop-w.depth c.loop-w.want c.loop-w.inside) c.in-Stop.is c.comes_to.ensures)

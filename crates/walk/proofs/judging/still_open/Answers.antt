@@ -1,13 +1,8 @@
-use Prim.Native.Nat.{ℕ, suc, ◌-◌, ◌≤◌}
+use Prim.Native.Nat.{◌-◌}
 use native.Mathlib.Omega.{arith}
-use mathlib.Core.List.{◌∷◌}
-use mathlib.Core.Path.{◌≡◌, ◌∙◌, refl, sym}
-use lib.ListN.{length, get_or}
-use Rattle.fields.specs.inner.Again.{earlier}
+use mathlib.Core.Path.{◌∙◌, refl}
 use Rattle.fields.specs.Names.{name_at}
-use Rattle.walk.specs.inner.Gathered.{inner_of, outers_of, Rising, Fields, first_of}
 use Rattle.walk.proofs.OpenLaws.{fields_under, rising_next, open_next, open_last}
-use borrow.Author.Rules.{rules}
 use Rattle.walk.proofs.judging.still_open.Goals as goal
 
 pub loop-d-init : goal.loop-d-init
@@ -23,9 +18,9 @@ loop-d-preserved c =
     let n = rising_next c.args.bases.now c.loop-d.d (c.loop-d.d - 1) c.loop-d.to (omega arith) c.loop-d.invariant.1 in (
       omega arith,
       n.1,
-      fields_under c.args.text.now c.args.tape.now c.loop-d.fields c.closed-found.new.1.1.0 c.loop-d.to _ c.loop-d.invariant.2 c.closed-found.ensures.1 n.0,
-      c.closed-found.ensures.1.as_long ∙ c.loop-d.invariant.3,
-      open_next (name_at c.args.text.now c.args.tape.now) c.loop-d.fields c.closed-found.new.1.1.0 c.args.bases.now c.loop-d.d (c.loop-d.d - 1) c.loop-d.to c.loop-d.found _ (omega arith) c.loop-d.invariant.1 c.closed-found.ensures.1 c.closed-found.ensures.0
+      fields_under c.args.text.now c.args.tape.now c.loop-d.fields c.closed-found.new.fields c.loop-d.to _ c.loop-d.invariant.2 c.closed-found.ensures.kept n.0,
+      c.closed-found.ensures.kept.as_long ∙ c.loop-d.invariant.3,
+      open_next (name_at c.args.text.now c.args.tape.now) c.loop-d.fields c.closed-found.new.fields c.args.bases.now c.loop-d.d (c.loop-d.d - 1) c.loop-d.to c.loop-d.found _ (omega arith) c.loop-d.invariant.1 c.closed-found.ensures.kept c.closed-found.ensures.told
           ∙ c.loop-d.invariant.4,
     )
 
@@ -33,4 +28,4 @@ pub compared-requires : goal.compared-requires
 compared-requires c = (omega arith, c.loop-d.invariant.2)
 
 pub returns : goal.returns
-returns c = c.compared.ensures.0 ∙ open_last (name_at c.args.text.now c.args.tape.now) c.loop-d.fields c.args.bases.now c.loop-d.d c.loop-d.to c.loop-d.found (omega arith) ∙ c.loop-d.invariant.4
+returns c = c.compared.ensures.told ∙ open_last (name_at c.args.text.now c.args.tape.now) c.loop-d.fields c.args.bases.now c.loop-d.d c.loop-d.to c.loop-d.found (omega arith) ∙ c.loop-d.invariant.4

@@ -1,13 +1,10 @@
-use Prim.Native.Nat.{ℕ, suc, ◌-◌, ◌≤◌}
-use native.Mathlib.Omega.{arith}
+use Prim.Native.Nat.{◌≤◌}
 use mathlib.Core.List.{◌∷◌}
-use mathlib.Core.Path.{◌≡◌, ◌∙◌, refl, sym}
-use lib.ListN.{length, get_or}
+use mathlib.Core.Path.{◌≡◌}
+use lib.ListN.{length}
 use Rattle.fields.specs.inner.Again.{earlier}
 use Rattle.fields.specs.Names.{name_at}
 use Rattle.walk.specs.inner.Gathered.{inner_of, outers_of, Rising, Fields, first_of}
-use Rattle.walk.proofs.OpenLaws.{fields_under, rising_next, open_next, open_last}
-use borrow.Author.Rules.{rules}
 use Rattle.walk.proofs.judging.still_open.Given as goal
 
 abbrev pub invariant-loop-d : goal.invariant-loop-d

@@ -3,7 +3,6 @@ use mathlib.Core.Path.{◌≡◌, sym, ap, ◌∙◌}
 use mathlib.Core.Bool.{true, false}
 use lib.ListN.{length}
 use Rattle.words.specs.Dash.{is_dash}
-use borrow.Author.Rules.{rules}
 use borrow.Author.Tests.{eq-eqb, ne_eqb}
 use Rattle.words.specs.Hex.{hex_in}
 use Rattle.words.proofs.Dashes.{dash_is}
@@ -14,16 +13,16 @@ pub returns-then-is_dash : goal.returns-then-is_dash
 unfolding hex_in
 returns-then-is_dash c =
     let dash : is_dash c.args.s.now ≡ true = sym c.is_dash.ensures ∙ c.if-is_dash.true in
-    (rw dash, over_short _ _ (omega (arith, ap length (dash_is _ dash))))
+    record { value = rw dash; buf_after = over_short _ _ (omega (arith, ap length (dash_is _ dash))) }
 
 pub returns-then-s-eq0 : goal.returns-then-s-eq0
 unfolding hex_in
 returns-then-s-eq0 c =
     let other : is_dash c.args.s.now ≡ false = sym c.is_dash.ensures ∙ c.if-is_dash.false in
-    (rw (other, eq-eqb _ _ c.if-s-eq0.true), over_short _ _ (omega arith))
+    record { value = rw (other, eq-eqb _ _ c.if-s-eq0.true); buf_after = over_short _ _ (omega arith) }
 
 pub returns : goal.returns
 unfolding hex_in
 returns c =
     let other : is_dash c.args.s.now ≡ false = sym c.is_dash.ensures ∙ c.if-is_dash.false in
-    (rw (other, ne_eqb _ _ c.if-s-eq0.false) c.pairs.ensures.0, c.pairs.ensures.1)
+    record { value = rw (other, ne_eqb _ _ c.if-s-eq0.false) c.pairs.ensures.value; buf_after = c.pairs.ensures.buf_after }

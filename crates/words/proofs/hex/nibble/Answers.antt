@@ -1,5 +1,4 @@
 use native.Mathlib.Omega.{arith}
-use borrow.Author.Rules.{rules}
 use Rattle.words.specs.Digit.{nibble_of}
 use Rattle.text.proofs.ClassLaws.{inside, below, above}
 use Rattle.words.proofs.hex.nibble.Goals as goal

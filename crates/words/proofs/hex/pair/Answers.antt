@@ -1,6 +1,5 @@
 use native.Mathlib.Omega.{arith}
 use mathlib.Core.Path.{sym}
-use borrow.Author.Rules.{rules}
 use Rattle.words.proofs.Pairs.{pair_first, pair_second, pair_both}
 use Rattle.words.proofs.hex.pair.Goals as goal
 

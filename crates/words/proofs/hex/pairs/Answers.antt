@@ -1,4 +1,4 @@
-use Prim.Native.Nat.{ℕ, ◌+◌, ◌*◌, ◌-◌, ◌/◌, ◌≤◌, ◌<◌}
+use Prim.Native.Nat.{ℕ, ◌/◌, ◌≤◌, ◌<◌}
 use native.Mathlib.Omega.{arith}
 use mathlib.Core.List.{List}
 use mathlib.Core.Path.{◌≡◌, refl, sym, ap, ◌∙◌}
@@ -19,7 +19,7 @@ pub returns-then-b-gt255 : goal.returns-then-b-gt255
 returns-then-b-gt255 c =
     let s : List ℕ = c.args.s.now in
     let n : length (pairs s) ≡ c.loop-i.i = pairs_other _ _ c.loop-i.invariant.1 (omega arith) (omega arith) in
-    (sym (in_more _ _ λ e. omega arith), c.loop-i.invariant.4 ∙ over_all _ _ _ n)
+    record { value = sym (in_more _ _ λ e. omega arith); buf_after = c.loop-i.invariant.4 ∙ over_all _ _ _ n }
 
 pub returns-then-buf-i : goal.returns-then-buf-i
 returns-then-buf-i c =
@@ -27,7 +27,7 @@ returns-then-buf-i c =
     let i : ℕ = c.loop-i.i in
     let more : i < length (pairs s) = (pairs_next _ _ c.loop-i.invariant.1 (omega arith) (omega arith)).0 in
     let full : length c.args.buf.now ≤ i = omega arith in
-    (sym (in_full _ _ (omega arith)), c.loop-i.invariant.4 ∙ over_full _ _ _ full)
+    record { value = sym (in_full _ _ (omega arith)); buf_after = c.loop-i.invariant.4 ∙ over_full _ _ _ full }
 
 pub loop-i-preserved : goal.loop-i-preserved
 loop-i-preserved c =
@@ -48,11 +48,11 @@ pub returns-then-s-eq1 : goal.returns-then-s-eq1
 returns-then-s-eq1 c =
     let s : List ℕ = c.args.s.now in
     let n : length (pairs s) ≡ c.loop-i.i = pairs_end _ _ c.loop-i.invariant.1 (omega arith) in
-    (sym (in_more _ _ λ e. omega arith), c.loop-i.invariant.4 ∙ over_all _ _ _ n)
+    record { value = sym (in_more _ _ λ e. omega arith); buf_after = c.loop-i.invariant.4 ∙ over_all _ _ _ n }
 
 pub returns : goal.returns
 returns c =
     let s : List ℕ = c.args.s.now in
     let n : length (pairs s) ≡ c.loop-i.i = pairs_end _ _ c.loop-i.invariant.1 (omega arith) in
     let half : length s / 2 ≡ length (pairs s) = omega arith in
-    (ap Bytes half ∙ sym (in_whole _ _ (omega arith) (omega arith)), c.loop-i.invariant.4 ∙ over_all _ _ _ n)
+    record { value = ap Bytes half ∙ sym (in_whole _ _ (omega arith) (omega arith)); buf_after = c.loop-i.invariant.4 ∙ over_all _ _ _ n }

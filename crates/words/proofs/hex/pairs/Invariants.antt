@@ -1,14 +1,8 @@
-use Prim.Native.Nat.{ℕ, ◌+◌, ◌*◌, ◌-◌, ◌/◌, ◌≤◌, ◌<◌}
-use native.Mathlib.Omega.{arith}
-use mathlib.Core.List.{List}
-use mathlib.Core.Path.{◌≡◌, refl, sym, ap, ◌∙◌}
-use lib.ListN.{length, get_or, take, set}
-use borrow.Author.Rules.{rules}
-use Rattle.lines.proofs.Laws.{over_more, over_all, over_full}
+use Prim.Native.Nat.{◌-◌, ◌≤◌}
+use mathlib.Core.Path.{◌≡◌}
+use lib.ListN.{length, take}
 use Rattle.lines.specs.Over.{over}
 use Rattle.words.specs.Hex.{pairs}
-use Rattle.words.specs.declared.hex.Hex.TheVariants.{Bytes}
-use Rattle.words.proofs.Pairs.{pairs_next, pairs_other, pairs_end, in_more, in_full, in_whole}
 use Rattle.words.proofs.hex.pairs.Given as goal
 
 abbrev pub invariant-loop-i : goal.invariant-loop-i

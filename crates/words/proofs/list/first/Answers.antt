@@ -1,12 +1,8 @@
 use native.Mathlib.Omega.{arith}
 use Prim.Native.Nat.{ℕ, ◌-◌, ◌≤◌}
 use mathlib.Core.Path.{◌≡◌, sym, ap}
-use mathlib.Core.List.{List}
 use lib.Seq.{take_all}
 use lib.ListN.{length, take}
-use borrow.Author.Rules.{rules}
-use Rattle.words.proofs.list.first.Reads as reads
-use Rattle.words.proofs.list.first.Lts as lts
 use Rattle.words.proofs.list.first.Goals as goal
 
 pub returns-then-k-tape : goal.returns-then-k-tape

@@ -1,8 +1,8 @@
-use Prim.Native.Nat.{ℕ, ◌+◌, ◌-◌, ◌≤◌, ◌<◌}
+use Prim.Native.Nat.{ℕ, ◌+◌, ◌≤◌, ◌<◌}
 use mathlib.Core.Path.{◌≡◌, refl, sym, ap, ◌∙◌}
 use mathlib.Core.List.{List, []}
 use lib.Seq.{drop-drop}
-use lib.ListN.{length, get_or, take, drop, set, length-drop}
+use lib.ListN.{length, take, drop, set, length-drop}
 use native.Mathlib.Omega.{arith}
 use Rattle.words.specs.declared.list.Count.TheVariants.{Stored}
 use Rattle.words.specs.Numbers.{items, numbers_of}
@@ -14,11 +14,6 @@ use Rattle.lines.proofs.Laws.{drop_some, drop_none, over_more, over_all, over_fu
 use Rattle.words.proofs.Items.{read_at, numbers_bad, numbers_some, numbers_last, numbers_more, count_more, count_full, count_whole}
 use borrow.Author.Rules.{rules}
 use Rattle.text.proofs.Lists.{tail_part}
-use Rattle.words.proofs.list.items.Reads as reads
-use Rattle.words.proofs.list.items.Lts as lts
-use Rattle.lines.proofs.find.Reads as find-reads
-use Rattle.lines.proofs.until.Reads as until-reads
-use Rattle.words.proofs.small.small_of.Reads as small-of-reads
 use Rattle.words.proofs.list.items.Goals as goal
 
 pub loop-n-init : goal.loop-n-init
@@ -32,7 +27,7 @@ returns-in_default c =
     read_at s c.loop-n.at c.small_of-r.ensures c.until.ensures c.in_default.is in
     let none : (numbers_of (drop c.loop-n.at s) ≡ []) × (0 < length (items (drop c.loop-n.at s))) = numbers_bad (drop c.loop-n.at s) read in
     let n : length (numbers_of s) ≡ c.loop-n.k = drop_none (numbers_of s) c.loop-n.k c.loop-n.invariant.1 (c.loop-n.invariant.2 ∙ none.0) in
-    (sym (count_more s _ λ e. omega arith), c.loop-n.invariant.6 ∙ over_all _ _ _ n)
+    record { value = sym (count_more s _ λ e. omega arith); tape_after = c.loop-n.invariant.6 ∙ over_all _ _ _ n }
 
 pub returns-then-tape-k : goal.returns-then-tape-k
 returns-then-tape-k c =
@@ -42,7 +37,7 @@ returns-then-tape-k c =
     read_at s c.loop-n.at c.small_of-r.ensures c.until.ensures c.in-Value.is in
     let more = drop_some (numbers_of s) c.loop-n.k _ _ (c.loop-n.invariant.2 ∙ (numbers_some rest _ read).1) in
     let full : length c.args.tape.now ≤ c.loop-n.k = omega arith in
-    (sym (count_full s _ (omega (arith, more.0))), c.loop-n.invariant.6 ∙ over_full _ _ _ full)
+    record { value = sym (count_full s _ (omega (arith, more.0))); tape_after = c.loop-n.invariant.6 ∙ over_full _ _ _ full }
 
 pub returns-then-rest-e : goal.returns-then-rest-e
 returns-then-rest-e c =
@@ -55,12 +50,12 @@ returns-then-rest-e c =
     let end : c.find-e.result ≡ find_of 44 rest = c.find-e.ensures ∙ ap (find_of 44) (tail_part s c.loop-n.at) in
     let last = numbers_last rest n read (omega (arith, length-drop c.loop-n.at s)) in
     let more = drop_some (numbers_of s) k n [] (c.loop-n.invariant.2 ∙ last.0) in
-    let all : length (numbers_of s) ≡ k + 1 = drop_none (numbers_of s) (k + 1) (omega (arith, more.0)) more.2 in (
-      ap Stored (sym all) ∙ sym (count_whole s _ (omega (arith, last.1)) (omega arith)),
-      ap (λ (l : List ℕ). set l k n) c.loop-n.invariant.6 ∙ ap (λ (v : ℕ). set (over (take k (numbers_of s)) d) k v) (sym more.1)
+    let all : length (numbers_of s) ≡ k + 1 = drop_none (numbers_of s) (k + 1) (omega (arith, more.0)) more.2 in record {
+      value = ap Stored (sym all) ∙ sym (count_whole s _ (omega (arith, last.1)) (omega arith));
+      tape_after = ap (λ (l : List ℕ). set l k n) c.loop-n.invariant.6 ∙ ap (λ (v : ℕ). set (over (take k (numbers_of s)) d) k v) (sym more.1)
           ∙ over_more _ _ _ more.0
-          ∙ over_all _ _ _ all,
-    )
+          ∙ over_all _ _ _ all;
+    }
 
 pub loop-n-preserved : goal.loop-n-preserved
 loop-n-preserved c =

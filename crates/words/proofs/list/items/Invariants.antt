@@ -1,24 +1,8 @@
-use Prim.Native.Nat.{ℕ, ◌+◌, ◌-◌, ◌≤◌, ◌<◌}
-use mathlib.Core.Path.{◌≡◌, refl, sym, ap, ◌∙◌}
-use mathlib.Core.List.{List, []}
-use lib.Seq.{drop-drop}
-use lib.ListN.{length, get_or, take, drop, set, length-drop}
-use native.Mathlib.Omega.{arith}
-use Rattle.words.specs.declared.list.Count.TheVariants.{Stored}
+use Prim.Native.Nat.{◌+◌, ◌-◌, ◌≤◌}
+use mathlib.Core.Path.{◌≡◌}
+use lib.ListN.{length, take, drop}
 use Rattle.words.specs.Numbers.{items, numbers_of}
-use Rattle.words.specs.Small.{small_of}
-use Rattle.words.specs.declared.small.Small.TheVariants.{Bad, Value}
-use Rattle.lines.specs.Find.{find_of}
 use Rattle.lines.specs.Over.{over}
-use Rattle.lines.proofs.Laws.{drop_some, drop_none, over_more, over_all, over_full}
-use Rattle.words.proofs.Items.{read_at, numbers_bad, numbers_some, numbers_last, numbers_more, count_more, count_full, count_whole}
-use borrow.Author.Rules.{rules}
-use Rattle.text.proofs.Lists.{tail_part}
-use Rattle.words.proofs.list.items.Reads as reads
-use Rattle.words.proofs.list.items.Lts as lts
-use Rattle.lines.proofs.find.Reads as find-reads
-use Rattle.lines.proofs.until.Reads as until-reads
-use Rattle.words.proofs.small.small_of.Reads as small-of-reads
 use Rattle.words.proofs.list.items.Given as goal
 
 abbrev pub invariant-loop-n : goal.invariant-loop-n

@@ -6,21 +6,16 @@ use mathlib.Core.Path.{◌≡◌, sym, ap, ◌∙◌}
 use mathlib.Core.List.{List}
 use mathlib.Core.Bool.{true, false}
 use Prim.Native.Nat.{ℕ}
-use borrow.Author.Rules.{rules}
-use Rattle.words.proofs.list.numbers.Reads as reads
-use Rattle.words.proofs.list.numbers.Lts as lts
-use Rattle.words.proofs.is_dash.Reads as is-dash-reads
-use Rattle.words.proofs.list.items.Reads as items-reads
 use Rattle.words.proofs.list.numbers.Goals as goal
 
 pub returns-then-is_dash : goal.returns-then-is_dash
 unfolding numbers_in over
 returns-then-is_dash c =
     let dash : is_dash c.args.s.now ≡ true = sym c.is_dash.ensures ∙ c.if-is_dash.true in
-    (rw dash, ap (λ (l : List ℕ). over l c.args.tape.now) (sym (numbers_dash _ dash)))
+    record { value = rw dash; tape_after = ap (λ (l : List ℕ). over l c.args.tape.now) (sym (numbers_dash _ dash)) }
 
 pub returns : goal.returns
 unfolding numbers_in
 returns c =
     let other : is_dash c.args.s.now ≡ false = sym c.is_dash.ensures ∙ c.if-is_dash.false in
-    (rw other c.items.ensures.0, c.items.ensures.1)
+    record { value = rw other c.items.ensures.value; tape_after = c.items.ensures.tape_after }

@@ -1,9 +1,6 @@
-use Prim.Native.Nat.{◌-◌, ◌^◌, ◌≤◌, ◌<◌}
 use native.Mathlib.Omega.{arith}
-use mathlib.Core.Path.{◌≡◌, refl, sym, ◌∙◌}
-use lib.ListN.{length, drop}
+use mathlib.Core.Path.{refl, sym, ◌∙◌}
 use borrow.Author.Rules.{rules}
-use Rattle.words.specs.Number.{decimal_from}
 use Rattle.words.proofs.Decimals.{decimal_none, decimal_some, decimal_next, decimal_bad, decimal_last}
 use Rattle.words.proofs.number.decimal_of.Goals as goal
 
@@ -22,7 +19,7 @@ returns-in-Bad c =
 pub loop-i-preserved : goal.loop-i-preserved
 loop-i-preserved c = (
   search rules,
-  omega (arith, c.known_told-1.given),
+  omega arith,
   sym (decimal_next _ _ _ _ c.loop-i-test.true (sym c.with_digit-r.ensures ∙ c.in-Value.is)) ∙ c.loop-i.invariant.2,
 )
 

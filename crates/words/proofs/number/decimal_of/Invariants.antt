@@ -1,10 +1,7 @@
 use Prim.Native.Nat.{◌-◌, ◌^◌, ◌≤◌, ◌<◌}
-use native.Mathlib.Omega.{arith}
-use mathlib.Core.Path.{◌≡◌, refl, sym, ◌∙◌}
+use mathlib.Core.Path.{◌≡◌}
 use lib.ListN.{length, drop}
-use borrow.Author.Rules.{rules}
 use Rattle.words.specs.Number.{decimal_from}
-use Rattle.words.proofs.Decimals.{decimal_none, decimal_some, decimal_next, decimal_bad, decimal_last}
 use Rattle.words.proofs.number.decimal_of.Given as goal
 
 abbrev pub invariant-loop-i : goal.invariant-loop-i

@@ -1,7 +1,6 @@
 use native.Mathlib.Omega.{arith}
 use mathlib.Core.List.{[]}
 use mathlib.Core.Path.{sym, ◌∙◌}
-use borrow.Author.Rules.{rules}
 use Rattle.words.proofs.Decimals.{decimal_digit, decimal_other, decimal_end, decimal_large}
 use Rattle.text.proofs.ClassLaws.{inside, below, above}
 use Rattle.words.proofs.number.with_digit.Goals as goal

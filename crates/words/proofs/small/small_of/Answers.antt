@@ -3,10 +3,6 @@ use borrow.Author.Tests.{lt-ltb, le-ltb}
 use mathlib.Core.Path.{sym, ◌∙◌}
 use Prim.Native.Nat.{◌^◌}
 use native.Mathlib.Omega.{arith}
-use borrow.Author.Rules.{rules}
-use Rattle.words.proofs.small.small_of.Reads as reads
-use Rattle.words.proofs.small.small_of.Lts as lts
-use Rattle.words.proofs.number.decimal_of.Reads as decimal-of-reads
 use Rattle.words.proofs.small.small_of.Goals as goal
 
 pub returns-in_default : goal.returns-in_default

@@ -1,15 +1,5 @@
-use Prim.Native.Nat.{ℕ, ◌+◌, ◌-◌, ◌*◌, ◌/◌, ◌≤◌, ◌<◌}
-use native.Mathlib.Omega.{arith}
-use mathlib.Core.Path.{◌≡◌, refl, sym, ap, ◌∙◌, subst}
-use mathlib.Core.List.{List}
-use mathlib.Core.Bool.{true}
-use lib.ListN.{length}
-use Rattle.xid.specs.Table.{table}
-use Rattle.xid.specs.Xid.{class_of, in_order}
+use Prim.Native.Nat.{ℕ, ◌-◌, ◌≤◌, ◌<◌}
 use Rattle.xid.specs.Rows.{Row, first_at, last_at}
-use Rattle.xid.proofs.RowLaws.{found, none, below_row, above_row}
-use Rattle.xid.proofs.TableLaws.{table_in_order, table_long}
-use borrow.Author.Rules.{rules}
 use Rattle.xid.proofs.search.class_in.Given as goal
 
 abbrev pub invariant-loop-low : goal.invariant-loop-low

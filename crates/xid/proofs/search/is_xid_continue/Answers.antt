@@ -1,5 +1,4 @@
 use mathlib.Core.Path.{◌∙◌, ap, sym}
-use borrow.Author.Rules.{rules}
 use Rattle.xid.proofs.TableLaws.{continue_class}
 use Rattle.xid.specs.Xid.{continues}
 use Rattle.xid.proofs.search.is_xid_continue.Goals as goal

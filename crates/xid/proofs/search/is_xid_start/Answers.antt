@@ -1,5 +1,4 @@
 use mathlib.Core.Path.{◌∙◌, ap, sym}
-use borrow.Author.Rules.{rules}
 use Rattle.xid.proofs.TableLaws.{start_class}
 use Rattle.xid.specs.Xid.{starts}
 use Rattle.xid.proofs.search.is_xid_start.Goals as goal

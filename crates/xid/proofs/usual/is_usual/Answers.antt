@@ -1,5 +1,4 @@
-use native.Mathlib.Omega.{arith}
-use mathlib.Core.Path.{◌∙◌, refl, sym}
+use mathlib.Core.Path.{◌∙◌, sym}
 use borrow.Author.Tests.{eq-eqb, ne_eqb}
 use Rattle.xid.proofs.UsualLaws.{below_greek, below_han, below_hangul, below_latin, in_greek, in_han, in_hangul, in_latin}
 use Rattle.xid.proofs.usual.is_usual.Goals as goal

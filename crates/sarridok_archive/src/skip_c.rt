@@ -1,0 +1,32 @@
+// `skip`: the cursor's place; its two other numbers go into lent ones.
+ghost use Rattle.std.specs.Prelude.{◌≡◌};
+ghost use Rattle.cursor.specs.Cursor.{cursor as cursorOf};
+ghost use Rattle.sarridok.specs.Skip.{skip_of};
+ghost use Rattle.sarridok_c.specs.Packed.{packed, lent_after};
+ghost use Rattle.sarridok_c.specs.Words.{cursor_word, pre_of, length_of};
+
+// Moves a cursor of three numbers behind the whitespace and comments at it. Its answer is the place; the two others are written.
+#[unsafe(no_mangle)]
+pub extern "C" fn sarridok_skip(
+    text: &[u8],
+    cursor: usize,
+    pre_ws_cursor: usize,
+    last_ws_len: usize,
+    new_pre_ws_cursor: &mut u64,
+    new_last_ws_len: &mut u64,
+) -> u64
+    ensures answer { result ≡ packed cursor_word (skip_of text.now (cursorOf cursor pre_ws_cursor last_ws_len)) }
+    ensures pre { new_pre_ws_cursor.new ≡
+        lent_after pre_of (skip_of text.now (cursorOf cursor pre_ws_cursor last_ws_len)) new_pre_ws_cursor.old }
+    ensures len { new_last_ws_len.new ≡
+        lent_after length_of (skip_of text.now (cursorOf cursor pre_ws_cursor last_ws_len)) new_last_ws_len.old }
+{
+    sarridok_c::sarridok_skip(
+        text,
+        cursor,
+        pre_ws_cursor,
+        last_ws_len,
+        new_pre_ws_cursor,
+        new_last_ws_len,
+    )
+}
