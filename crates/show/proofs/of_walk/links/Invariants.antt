@@ -9,7 +9,7 @@ use Rattle.lines.proofs.OutLaws.{then}
 use Rattle.show.specs.Walks.{words_text, links_text}
 use Rattle.show.proofs.ShownLaws.{put_turn, put_done, words_front, words_end}
 use borrow.Author.Rules.{rules}
-use Rattle.show.proofs.walk.links.Given as goal
+use Rattle.show.proofs.of_walk.links.Given as goal
 
 abbrev pub invariant-loop-i : goal.invariant-loop-i
 invariant-loop-i l = (l.i-end ≡ length l.s) × (length l.o ≡ length l.initial.o) × (put (l.o, l.to) (words_text (drop l.i l.s)) ≡ put (l.initial.o, l.initial.to) (words_text l.s))
