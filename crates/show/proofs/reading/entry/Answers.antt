@@ -9,7 +9,6 @@ use Rattle.rows.specs.Rows.{room_of, entry_at}
 use Rattle.rows.specs.declared.Entry.{Entry}
 use Rattle.show.specs.Readings.{entry_text}
 use Rattle.show.proofs.ShownLaws.{put_skipped, put_chosen}
-use borrow.Author.Rules.{rules}
 use Rattle.show.proofs.reading.entry.Goals as goal
 
 pub returns-then-room-i : goal.returns-then-room-i

@@ -4,7 +4,6 @@ use Rattle.read.specs.Read.{told_read}
 use Rattle.read.specs.declared.measure.ReadAnswer.{ReadAnswer}
 use Rattle.show.specs.Answers.{answer_text}
 use Rattle.show.specs.Readings.{read_text}
-use borrow.Author.Rules.{rules}
 use Rattle.show.proofs.reading.read.Goals as goal
 
 pub returns-in-Accepted : goal.returns-in-Accepted

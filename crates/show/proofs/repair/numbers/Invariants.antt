@@ -1,14 +1,9 @@
 use Prim.Native.Nat.{◌-◌}
-use native.Mathlib.Omega.{arith}
-use mathlib.Core.List.{◌∷◌}
-use mathlib.Core.Path.{◌≡◌, refl, ap}
-use lib.ListN.{length, get_or, drop}
-use Rattle.lines.specs.Decimal.{decimal}
+use mathlib.Core.Path.{◌≡◌}
+use lib.ListN.{length, drop}
 use Rattle.lines.specs.Out.{put}
-use Rattle.lines.proofs.OutLaws.{put_behind}
 use Rattle.show.specs.Repairs.{numbers_text}
-use Rattle.show.proofs.ShownLaws.{put_turn, put_done, numbers_behind, numbers-behind, numbers_front, numbers_end}
-use borrow.Author.Rules.{rules}
+use Rattle.show.proofs.ShownLaws.{numbers_behind}
 use Rattle.show.proofs.repair.numbers.Given as goal
 
 abbrev pub invariant-loop-i : goal.invariant-loop-i
