@@ -1,12 +1,10 @@
-use Prim.Native.Nat.{◌-◌}
 use native.Mathlib.Omega.{arith}
 use mathlib.Core.List.{◌∷◌}
-use mathlib.Core.Path.{◌≡◌, refl, ap}
-use lib.ListN.{length, get_or, drop}
+use mathlib.Core.Path.{refl, ap}
+use lib.ListN.{get_or, drop}
 use Rattle.lines.specs.Decimal.{decimal}
 use Rattle.lines.specs.Out.{put}
 use Rattle.lines.proofs.OutLaws.{put_behind}
-use Rattle.show.specs.Repairs.{numbers_text}
 use Rattle.show.proofs.ShownLaws.{put_turn, put_done, numbers_behind, numbers-behind, numbers_front, numbers_end}
 use borrow.Author.Rules.{rules}
 use Rattle.show.proofs.of_repair.numbers.Goals as goal

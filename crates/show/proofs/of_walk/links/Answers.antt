@@ -1,10 +1,8 @@
-use Prim.Native.Nat.{◌-◌}
 use native.Mathlib.Omega.{arith}
-use mathlib.Core.Path.{◌≡◌, refl}
-use lib.ListN.{length, get_or, drop}
+use mathlib.Core.Path.{refl}
+use lib.ListN.{get_or, drop}
 use Rattle.lines.specs.Ascii.{ascii}
 use Rattle.lines.specs.Decimal.{word_of}
-use Rattle.lines.specs.Out.{put}
 use Rattle.lines.proofs.OutLaws.{then}
 use Rattle.show.specs.Walks.{words_text, links_text}
 use Rattle.show.proofs.ShownLaws.{put_turn, put_done, words_front, words_end}
