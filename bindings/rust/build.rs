@@ -1,4 +1,4 @@
-//! Finds the archive: `SARRIDOK_ARCHIVE`, or where `rt staticlib sarridok_c` writes it.
+//! Finds the archive: `SARRIDOK_ARCHIVE`, or where `bindings/archive` writes it.
 use std::env;
 use std::path::{Path, PathBuf};
 
@@ -14,11 +14,7 @@ fn main() {
         Some(path) => PathBuf::from(path),
         None => Path::new(env!("CARGO_MANIFEST_DIR")).join("../../target/staticlib/libsarridok_c.a"),
     };
-    assert!(
-        archive.is_file(),
-        "{} is missing: run bindings/archive, or rt staticlib sarridok_c",
-        archive.display()
-    );
+    assert!(archive.is_file(), "{} is missing: run bindings/archive", archive.display());
     println!("cargo:rerun-if-changed={}", archive.display());
     println!(
         "cargo:rustc-link-search=native={}",

@@ -1,6 +1,5 @@
 use native.Mathlib.Omega.{arith}
 use mathlib.Core.Path.{sym, ap, ◌∙◌}
-use borrow.Author.Rules.{rules}
 use Rattle.text.proofs.Utf8Agree.{bad_means}
 use Rattle.octets.specs.Octets.{allowed_of, by_place}
 use Rattle.octets.proofs.front.allowed.Goals as goal

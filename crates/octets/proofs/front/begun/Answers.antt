@@ -1,4 +1,3 @@
-use borrow.Author.Rules.{rules}
 use Rattle.octets.specs.Octets.{begun_of}
 use Rattle.octets.proofs.front.begun.Goals as goal
 

@@ -1,6 +1,5 @@
 use native.Mathlib.Omega.{arith}
 use mathlib.Core.Path.{sym, ◌∙◌}
-use borrow.Author.Rules.{rules}
 use Rattle.octets.proofs.BegunLaws.{begun_two, begun_low, begun_high, begun_of_three, begun_of_four, begun_one}
 use Rattle.octets.proofs.front.begun_by.Goals as goal
 

@@ -1,5 +1,4 @@
 use mathlib.Core.Path.{sym, ◌∙◌}
-use borrow.Author.Rules.{rules}
 use Rattle.octets.proofs.BegunLaws.{second_off, second_on}
 use Rattle.octets.proofs.front.is_second.Goals as goal
 
