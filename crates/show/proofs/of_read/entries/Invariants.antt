@@ -11,7 +11,7 @@ use Rattle.show.proofs.of_read.entries.Given as goal
 =======
 use Rattle.show.specs.Readings.{tape_text}
 use Rattle.show.proofs.ShownLaws.{tape_left}
-use Rattle.show.proofs.reading.entries.Given as goal
+use Rattle.show.proofs.of_read.entries.Given as goal
 >>>>>>> babded5504e838eae2cedf7c55fc129ab9db6ca9:crates/show/proofs/reading/entries/Invariants.antt
 
 abbrev pub invariant-loop-i : goal.invariant-loop-i

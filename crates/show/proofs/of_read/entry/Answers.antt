@@ -13,7 +13,7 @@ use Rattle.show.proofs.ShownLaws.{put_skipped, put_chosen}
 use borrow.Author.Rules.{rules}
 use Rattle.show.proofs.of_read.entry.Goals as goal
 =======
-use Rattle.show.proofs.reading.entry.Goals as goal
+use Rattle.show.proofs.of_read.entry.Goals as goal
 >>>>>>> babded5504e838eae2cedf7c55fc129ab9db6ca9:crates/show/proofs/reading/entry/Answers.antt
 
 pub returns-then-room-i : goal.returns-then-room-i

@@ -8,7 +8,7 @@ use Rattle.show.specs.Readings.{read_text}
 use borrow.Author.Rules.{rules}
 use Rattle.show.proofs.of_read.read.Goals as goal
 =======
-use Rattle.show.proofs.reading.read.Goals as goal
+use Rattle.show.proofs.of_read.read.Goals as goal
 >>>>>>> babded5504e838eae2cedf7c55fc129ab9db6ca9:crates/show/proofs/reading/read/Answers.antt
 
 pub returns-in-Accepted : goal.returns-in-Accepted

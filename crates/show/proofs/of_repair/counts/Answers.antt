@@ -7,7 +7,7 @@ use Rattle.show.specs.Repairs.{counts_text}
 use borrow.Author.Rules.{rules}
 use Rattle.show.proofs.of_repair.counts.Goals as goal
 =======
-use Rattle.show.proofs.repair.counts.Goals as goal
+use Rattle.show.proofs.of_repair.counts.Goals as goal
 >>>>>>> babded5504e838eae2cedf7c55fc129ab9db6ca9:crates/show/proofs/repair/counts/Answers.antt
 
 pub returns : goal.returns

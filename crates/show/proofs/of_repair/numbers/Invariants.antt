@@ -9,7 +9,7 @@ use borrow.Author.Rules.{rules}
 use Rattle.show.proofs.of_repair.numbers.Given as goal
 =======
 use Rattle.show.proofs.ShownLaws.{numbers_behind}
-use Rattle.show.proofs.repair.numbers.Given as goal
+use Rattle.show.proofs.of_repair.numbers.Given as goal
 >>>>>>> babded5504e838eae2cedf7c55fc129ab9db6ca9:crates/show/proofs/repair/numbers/Invariants.antt
 
 abbrev pub invariant-loop-i : goal.invariant-loop-i
