@@ -9,12 +9,7 @@ use Rattle.rows.specs.Rows.{room_of, entry_at}
 use Rattle.rows.specs.declared.Entry.{Entry}
 use Rattle.show.specs.Readings.{entry_text}
 use Rattle.show.proofs.ShownLaws.{put_skipped, put_chosen}
-<<<<<<< HEAD:crates/show/proofs/of_read/entry/Answers.antt
-use borrow.Author.Rules.{rules}
 use Rattle.show.proofs.of_read.entry.Goals as goal
-=======
-use Rattle.show.proofs.of_read.entry.Goals as goal
->>>>>>> babded5504e838eae2cedf7c55fc129ab9db6ca9:crates/show/proofs/reading/entry/Answers.antt
 
 pub returns-then-room-i : goal.returns-then-room-i
 returns-then-room-i c = put_skipped (c.args.o.now, c.args.at) c.args.i (room_of (length c.args.tape.now)) _ (omega (arith, c.room.ensures, c.if-room-i.true))

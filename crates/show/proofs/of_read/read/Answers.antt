@@ -4,12 +4,7 @@ use Rattle.read.specs.Read.{told_read}
 use Rattle.read.specs.declared.measure.ReadAnswer.{ReadAnswer}
 use Rattle.show.specs.Answers.{answer_text}
 use Rattle.show.specs.Readings.{read_text}
-<<<<<<< HEAD:crates/show/proofs/of_read/read/Answers.antt
-use borrow.Author.Rules.{rules}
 use Rattle.show.proofs.of_read.read.Goals as goal
-=======
-use Rattle.show.proofs.of_read.read.Goals as goal
->>>>>>> babded5504e838eae2cedf7c55fc129ab9db6ca9:crates/show/proofs/reading/read/Answers.antt
 
 pub returns-in-Accepted : goal.returns-in-Accepted
 returns-in-Accepted c = c.accepted.ensures ∙ sym (ap (λ (x : ReadAnswer). put (c.args.o.now, c.args.at) (answer_text (read_text c.args.between c.args.tape.now) (told_read x))) c.in-Accepted.is)

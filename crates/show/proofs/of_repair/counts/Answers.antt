@@ -3,12 +3,7 @@ use Rattle.lines.specs.Ascii.{ascii}
 use Rattle.lines.specs.Decimal.{word_of}
 use Rattle.lines.proofs.OutLaws.{then}
 use Rattle.show.specs.Repairs.{counts_text}
-<<<<<<< HEAD:crates/show/proofs/of_repair/counts/Answers.antt
-use borrow.Author.Rules.{rules}
 use Rattle.show.proofs.of_repair.counts.Goals as goal
-=======
-use Rattle.show.proofs.of_repair.counts.Goals as goal
->>>>>>> babded5504e838eae2cedf7c55fc129ab9db6ca9:crates/show/proofs/repair/counts/Answers.antt
 
 pub returns : goal.returns
 unfolding counts_text
