@@ -1,7 +1,6 @@
 use mathlib.Core.Path.{sym, ap}
 use Rattle.pieces.specs.declared.state.Arrived.{Arrived}
 use Rattle.arrive.specs.inner.Said.{next_by}
-use borrow.Author.Rules.{rules}
 use Rattle.arrive.proofs.behind.Goals as goal
 
 pub returns-in-Given : goal.returns-in-Given

@@ -2,7 +2,6 @@ use lib.ListN.{length}
 use Rattle.pieces.specs.Ends.{finish_of}
 use Rattle.rows.specs.Rows.{room_of}
 use Rattle.arrive.proofs.PrintedLaws.{end_said}
-use borrow.Author.Rules.{rules}
 use Rattle.arrive.proofs.end.Goals as goal
 
 pub returns : goal.returns

@@ -5,7 +5,6 @@ use lib.ListN.{length}
 use Rattle.pieces.specs.Pieces.{piece_of}
 use Rattle.rows.specs.Rows.{room_of}
 use Rattle.arrive.proofs.TurnLaws.{stands}
-use borrow.Author.Rules.{rules}
 use Rattle.arrive.proofs.more.Goals as goal
 
 pub returns-then-r : goal.returns-then-r

@@ -1,11 +1,8 @@
-use Prim.Native.Nat.{ℕ}
-use mathlib.Core.List.{List}
 use lib.ListN.{length}
 use Rattle.pieces.specs.Pieces.{Outcome, piece_of}
 use Rattle.rows.specs.Rows.{room_of}
 use Rattle.text.specs.Refusals.{Told}
 use Rattle.arrive.proofs.PrintedLaws.{piece_said, next_said, on_said}
-use borrow.Author.Rules.{rules}
 use Rattle.arrive.proofs.piece.Goals as goal
 
 pub returns : goal.returns

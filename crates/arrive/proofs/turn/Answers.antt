@@ -3,7 +3,6 @@ use lib.ListN.{length}
 use Rattle.rows.specs.Rows.{room_of}
 use Rattle.arrive.specs.declared.Standing.{Standing}
 use Rattle.arrive.proofs.TurnLaws.{came_behind, turned, turned_last}
-use borrow.Author.Rules.{rules}
 use Rattle.arrive.proofs.turn.Goals as goal
 
 pub returns-then-i : goal.returns-then-i

@@ -1,5 +1,4 @@
 use Rattle.arrive.proofs.LineLaws.{line_put}
-use borrow.Author.Rules.{rules}
 use Rattle.arrive.proofs.said.line.Goals as goal
 
 pub returns : goal.returns

@@ -1,7 +1,6 @@
 use Rattle.lines.proofs.OutLaws.{then_byte}
 use Rattle.show.specs.Answers.{placed_text}
 use Rattle.arrive.specs.Printed.{refusal_text}
-use borrow.Author.Rules.{rules}
 use Rattle.arrive.proofs.said.refused.Goals as goal
 
 pub returns : goal.returns

@@ -6,7 +6,6 @@ use Rattle.rows.specs.Rows.{room_of, entry_at}
 use Rattle.rows.specs.declared.Entry.{Entry}
 use Rattle.show.proofs.ShownLaws.{put_skipped, put_chosen}
 use Rattle.arrive.specs.Printed.{line_text}
-use borrow.Author.Rules.{rules}
 use Rattle.arrive.proofs.said.row_line.Goals as goal
 
 pub returns-then-room-i : goal.returns-then-room-i

@@ -1,7 +1,6 @@
 use Rattle.lines.proofs.OutLaws.{then}
 use Rattle.arrive.specs.Printed.{refusal_text}
 use Rattle.arrive.specs.inner.Said.{stopped_text, tape_lines}
-use borrow.Author.Rules.{rules}
 use Rattle.arrive.proofs.said.stopped.Goals as goal
 
 pub returns : goal.returns

@@ -1,7 +1,6 @@
 use mathlib.Core.Path.{sym, ap}
 use Rattle.pieces.specs.declared.state.Arrived.{Arrived}
 use Rattle.arrive.specs.inner.Said.{without_state}
-use borrow.Author.Rules.{rules}
 use Rattle.arrive.proofs.said.without_state.Goals as goal
 
 pub returns-in-Given : goal.returns-in-Given
