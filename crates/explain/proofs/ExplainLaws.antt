@@ -20,7 +20,7 @@ use Rattle.rows.specs.Rows.{room_of, entries_of}
 use Rattle.sarridok.specs.Walked.{told_walk, walk_of, links_after}
 use Rattle.sarridok.specs.declared.walk_call.WalkAnswer.{WalkAnswer}
 use Rattle.sarridok.specs.declared.walk_call.WalkAnswer.TheVariants.{Walked, Refused as NotWalked}
-use Rattle.text.specs.Refusals.{Told, accepted, refused}
+use Rattle.text.specs.Refusals.{Told}
 use Rattle.text.specs.declared.refusal.Refusal.{Refusal}
 use Rattle.explain.specs.Explained.{accepted_text, began_text, named_text, begun_text, refusal_text, walked_text, read_text, links_behind, explained}
 

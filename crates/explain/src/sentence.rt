@@ -71,7 +71,7 @@ fn known_reason(reason: u8) -> usize
 
 // The words of a reason behind a colon; nothing for 0.
 pub fn why(o: &mut [u8], at: usize, reason: u8) -> usize
-    ensures { (o.new, result) ≡ put (o.old, at) (whyOf reason) }
+    ensures { (o.new, result) ≡ put (o.old, at) (why_of reason) }
 {
     if reason == 0 {
         return at;

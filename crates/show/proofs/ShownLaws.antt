@@ -11,7 +11,6 @@ use Rattle.lines.specs.Decimal.{decimal, word_of}
 use Rattle.lines.specs.Out.{put}
 use Rattle.lines.proofs.OutLaws.{put_join}
 use Rattle.rows.specs.Rows.{width, room_of, entry_at, entries_of}
-use Rattle.rows.specs.declared.Entry.{Entry}
 use Rattle.rows.proofs.RowLaws.{entries_next}
 use Rattle.text.proofs.Choices.{either, lt_or_le}
 use Rattle.text.proofs.Lists.{front}

@@ -6,7 +6,6 @@ use lib.ListN.{length}
 use Rattle.read.specs.Read.{read_answer}
 use Rattle.text.specs.Refusals.{Told}
 use Rattle.explain.proofs.ExplainLaws.{room_after, explained_accepted, explained_refused, links_accepted, links_refused}
-use borrow.Author.Rules.{rules}
 use Rattle.explain.proofs.explain.Goals as goal
 
 pub walked-requires : goal.walked-requires

@@ -4,7 +4,6 @@ use lib.ListN.{length}
 use Rattle.sarridok.specs.Walked.{walk_of}
 use Rattle.text.specs.Refusals.{Told}
 use Rattle.explain.proofs.ExplainLaws.{walked_accepted, walked_refused}
-use borrow.Author.Rules.{rules}
 use Rattle.explain.proofs.walked.Goals as goal
 
 pub returns-in-Walked : goal.returns-in-Walked

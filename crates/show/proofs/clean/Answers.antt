@@ -2,7 +2,6 @@ use Prim.Native.Nat.{ℕ}
 use mathlib.Core.Bool.{Bool}
 use mathlib.Core.List.{List}
 use mathlib.Core.Path.{sym, ap, ◌∙◌}
-use borrow.Author.Rules.{rules}
 use Rattle.lines.specs.Out.{put}
 use Rattle.show.specs.Answers.{clean_text}
 use Rattle.show.proofs.clean.Goals as goal

@@ -1,4 +1,3 @@
-use borrow.Author.Rules.{rules}
 use Rattle.lines.proofs.OutLaws.{then}
 use Rattle.lines.specs.Decimal.{word_of}
 use Rattle.show.specs.Answers.{placed_text, refused_text}

@@ -4,7 +4,6 @@ use Rattle.lines.proofs.OutLaws.{then, then_byte}
 use Rattle.lines.specs.Ascii.{ascii}
 use Rattle.lines.specs.Decimal.{word_of}
 use Rattle.explain.specs.Explained.{accepted_text}
-use borrow.Author.Rules.{rules}
 use Rattle.explain.proofs.answer.accepted.Goals as goal
 
 pub returns : goal.returns

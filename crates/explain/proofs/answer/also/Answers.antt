@@ -5,7 +5,6 @@ use Rattle.lines.specs.Ascii.{ascii}
 use Rattle.lines.specs.Decimal.{word_of}
 use Rattle.explain.proofs.SentenceLaws.{put_none, put_some}
 use Rattle.explain.specs.Explained.{also_text}
-use borrow.Author.Rules.{rules}
 use Rattle.explain.proofs.answer.also.Goals as goal
 
 pub returns-then-reason-eq0 : goal.returns-then-reason-eq0

@@ -3,7 +3,6 @@ use Rattle.lines.specs.Out.{put}
 use Rattle.opened.specs.declared.begun.Begun.TheVariants.{Nothing, Comment, Quote, Bracket}
 use Rattle.explain.specs.Explained.{begun_text}
 use Rattle.explain.proofs.ExplainLaws.{begun_as, begun_field}
-use borrow.Author.Rules.{rules}
 use Rattle.explain.proofs.answer.began.Goals as goal
 
 pub returns-in-Nothing : goal.returns-in-Nothing

@@ -5,7 +5,6 @@ use Rattle.lines.proofs.OutLaws.{then}
 use Rattle.lines.specs.Out.{put}
 use Rattle.explain.specs.Excerpts.{excerpt_text}
 use Rattle.explain.specs.Explained.{position_text, began_at, began_text}
-use borrow.Author.Rules.{rules}
 use Rattle.explain.proofs.answer.began_at.Goals as goal
 
 pub returns : goal.returns

@@ -4,7 +4,6 @@ use Rattle.lines.proofs.OutLaws.{then}
 use Rattle.lines.specs.Ascii.{ascii}
 use Rattle.explain.specs.Excerpts.{characters_text}
 use Rattle.explain.specs.Explained.{named_text}
-use borrow.Author.Rules.{rules}
 use Rattle.explain.proofs.answer.named.Goals as goal
 
 pub returns : goal.returns

@@ -7,7 +7,6 @@ use Rattle.lines.specs.Decimal.{word_of}
 use Rattle.places.specs.Columns.{column_of}
 use Rattle.places.specs.Lines.{line_of}
 use Rattle.explain.specs.Explained.{position_text}
-use borrow.Author.Rules.{rules}
 use Rattle.explain.proofs.answer.position.Goals as goal
 
 pub returns : goal.returns

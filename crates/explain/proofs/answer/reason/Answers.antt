@@ -6,7 +6,6 @@ use Rattle.lines.specs.Decimal.{decimal}
 use Rattle.explain.specs.Sentences.{sentence_of, why_of}
 use Rattle.explain.specs.Explained.{also_text, reason_text}
 use Rattle.text.specs.declared.refusal.Refusal.{Refusal}
-use borrow.Author.Rules.{rules}
 use Rattle.explain.proofs.answer.reason.Goals as goal
 
 pub returns : goal.returns

@@ -2,7 +2,6 @@ use Prim.Native.Nat.{ℕ}
 use mathlib.Core.List.{List}
 use Rattle.lines.proofs.OutLaws.{then}
 use Rattle.explain.specs.Explained.{begun_text, refused_text, refusal_text}
-use borrow.Author.Rules.{rules}
 use Rattle.explain.proofs.answer.refused.Goals as goal
 
 pub returns : goal.returns

@@ -1,10 +1,5 @@
-use Prim.Native.Nat.{ℕ, ◌-◌}
 use native.Mathlib.Omega.{arith}
-use mathlib.Core.List.{List}
-use mathlib.Core.Path.{◌≡◌, refl}
-use lib.ListN.{length, drop}
-use Rattle.lines.specs.Out.{put}
-use Rattle.explain.specs.Excerpts.{caret_text}
+use mathlib.Core.Path.{refl}
 use Rattle.explain.proofs.ExcerptLaws.{caret_on, caret_ends}
 use borrow.Author.Rules.{rules}
 use Rattle.explain.proofs.excerpt.caret.Goals as goal

@@ -1,12 +1,8 @@
-use Prim.Native.Nat.{ℕ, ◌-◌}
-use native.Mathlib.Omega.{arith}
-use mathlib.Core.List.{List}
-use mathlib.Core.Path.{◌≡◌, refl}
+use Prim.Native.Nat.{◌-◌}
+use mathlib.Core.Path.{◌≡◌}
 use lib.ListN.{length, drop}
 use Rattle.lines.specs.Out.{put}
 use Rattle.explain.specs.Excerpts.{caret_text}
-use Rattle.explain.proofs.ExcerptLaws.{caret_on, caret_ends}
-use borrow.Author.Rules.{rules}
 use Rattle.explain.proofs.excerpt.caret.Given as goal
 
 abbrev pub invariant-loop-i : goal.invariant-loop-i

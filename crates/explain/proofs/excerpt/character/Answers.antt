@@ -1,14 +1,13 @@
 use Prim.Native.Nat.{ℕ, ◌-◌}
 use native.Mathlib.Omega.{arith}
 use mathlib.Core.List.{List}
-use mathlib.Core.Logic.{⊎_elim}
 use mathlib.Core.Path.{◌≡◌, sym, ap, ◌∙◌}
 use lib.ListN.{take}
 use Rattle.lines.specs.Out.{put}
 use Rattle.places.specs.Shown.{shown}
 use Rattle.explain.proofs.ExcerptLaws.{character_shown, character_none, character_hidden, replacement}
-use borrow.Author.Rules.{rules}
 use Rattle.explain.proofs.excerpt.character.Goals as goal
+use Rattle.explain.proofs.excerpt.character.Goals.{then-n-gt0+else-is_shown, else-n-gt0}
 
 pub returns-then-is_shown : goal.returns-then-is_shown
 returns-then-is_shown c =
@@ -22,6 +21,7 @@ pub returns : goal.returns
 returns c =
     let out : List ℕ × ℕ = (c.args.o.now, c.args.at) in
     let s : List ℕ = c.args.s.now in
-    c.bytes-2.ensures ∙ ap (put out) (replacement ∙ ⊎_elim
-    (λ w. character_hidden c.args.n s (sym (w.2.ensures ∙ ap shown w.1.ensures) ∙ w.3.left))
-    (λ w. character_none c.args.n s w.left) c.if-n-gt0.branch)
+    c.bytes-2.ensures ∙ ap (put out) (replacement ∙ elim c.if-n-gt0.branch [
+      | then-n-gt0+else-is_shown w ↦ character_hidden c.args.n s (sym (w.is_shown.ensures ∙ ap shown w.code_point.ensures) ∙ w.if-is_shown.false)
+      | else-n-gt0 w ↦ character_none c.args.n s w.if-n-gt0.false
+    ])

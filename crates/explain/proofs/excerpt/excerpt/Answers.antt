@@ -1,7 +1,6 @@
 use Prim.Native.Nat.{ℕ}
 use mathlib.Core.List.{List}
 use Rattle.explain.proofs.ExcerptLaws.{excerpt_pieces}
-use borrow.Author.Rules.{rules}
 use Rattle.explain.proofs.excerpt.excerpt.Goals as goal
 
 pub returns : goal.returns

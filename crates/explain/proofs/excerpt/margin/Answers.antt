@@ -1,7 +1,6 @@
 use Prim.Native.Nat.{ℕ}
 use mathlib.Core.List.{List}
 use Rattle.explain.proofs.ExcerptLaws.{margin_cut, margin_whole}
-use borrow.Author.Rules.{rules}
 use Rattle.explain.proofs.excerpt.margin.Goals as goal
 
 pub returns-then-cut : goal.returns-then-cut

@@ -4,7 +4,6 @@ use mathlib.Core.Path.{sym, ap, ◌∙◌}
 use Rattle.lines.proofs.OutLaws.{put-byte}
 use Rattle.lines.specs.Out.{put}
 use Rattle.explain.proofs.ExcerptLaws.{under_tab, under_first, under_later}
-use borrow.Author.Rules.{rules}
 use Rattle.explain.proofs.excerpt.under.Goals as goal
 
 pub returns-then-b-eq9 : goal.returns-then-b-eq9

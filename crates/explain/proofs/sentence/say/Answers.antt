@@ -1,9 +1,7 @@
 use Prim.Native.Nat.{ℕ}
-use mathlib.Core.List.{List}
 use mathlib.Core.Path.{ap, ◌∙◌}
 use Rattle.lines.specs.Out.{put}
 use Rattle.explain.specs.Sentences.{line_at, sentences, sentence_of}
-use borrow.Author.Rules.{rules}
 use Rattle.explain.proofs.sentence.say.Goals as goal
 
 pub returns : goal.returns

@@ -5,7 +5,6 @@ use Rattle.lines.proofs.OutLaws.{then_as}
 use Rattle.lines.specs.Ascii.{ascii}
 use Rattle.explain.proofs.SentenceLaws.{put_none, put_some}
 use Rattle.explain.specs.Sentences.{line_at, reasons, why_of}
-use borrow.Author.Rules.{rules}
 use Rattle.explain.proofs.sentence.why.Goals as goal
 
 pub returns-then-reason-eq0 : goal.returns-then-reason-eq0

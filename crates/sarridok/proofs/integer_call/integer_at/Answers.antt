@@ -9,4 +9,4 @@ returns-then-check_str c = simp (sym c.check_str.ensures ∙ c.if-check_str.true
 
 pub returns : goal.returns
 unfolding integer_at
-returns c = simp (sym c.check_str.ensures ∙ c.if-check_str.false) c.type-inv.ensures
+returns c = simp (sym c.check_str.ensures ∙ c.if-check_str.false) c.typed.ensures

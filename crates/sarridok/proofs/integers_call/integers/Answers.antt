@@ -3,6 +3,7 @@ use mathlib.Core.Path.{◌∙◌, ap, sym}
 use lib.ListN.{length}
 use Rattle.sarridok.proofs.IntegersLaws.{all_refused, all_written, by_codes, by-count, by-item, by_judged, by_magnitudes, by-room}
 use borrow.Author.Rules.{rules}
+use Rattle.text.specs.Refusals.Told.{refused}
 use Rattle.sarridok.proofs.integers_call.integers.Goals as goal
 
 pub returns-in-Refused : goal.returns-in-Refused
@@ -15,7 +16,13 @@ returns-in-Refused c =
     }
 
 pub returns-then-room-count : goal.returns-then-room-count
-returns-then-room-count c = rw c.not_in_order.ensures (all_refused c.args.text.now c.args.tape.now c.args.count c.args.items.now c.args.magnitudes.now c.args.codes.now _ (by-count c.args.text.now c.args.tape.now c.args.count c.args.items.now (length c.args.magnitudes.now) (length c.args.codes.now) (sym c.judge-judged.ensures ∙ c.in_default.is) (omega (arith, c.room.ensures, c.if-room-count.true))))
+returns-then-room-count c =
+    let z = all_refused c.args.text.now c.args.tape.now c.args.count c.args.items.now c.args.magnitudes.now c.args.codes.now _ (by-count c.args.text.now c.args.tape.now c.args.count c.args.items.now (length c.args.magnitudes.now) (length c.args.codes.now) (sym c.judge-judged.ensures ∙ c.in_default.is) (omega (arith, c.room.ensures, c.if-room-count.true))) in
+    record {
+      answer = ap refused c.not_in_order.ensures ∙ z.0;
+      magnitudes = z.1.0;
+      codes = z.1.1;
+    }
 
 pub judge_items-read-requires : goal.judge_items-read-requires
 judge_items-read-requires c = ((sym c.judge-judged.ensures ∙ c.in_default.is), (omega (arith, c.room.ensures, c.if-room-count.false)))
@@ -30,10 +37,22 @@ returns-in-Refused-read c =
     }
 
 pub returns-then-magnitudes-items : goal.returns-then-magnitudes-items
-returns-then-magnitudes-items c = rw c.no_room.ensures (all_refused c.args.text.now c.args.tape.now c.args.count c.args.items.now c.args.magnitudes.now c.args.codes.now _ (by_magnitudes c.args.text.now c.args.tape.now c.args.count c.args.items.now (length c.args.magnitudes.now) (length c.args.codes.now) (sym c.judge-judged.ensures ∙ c.in_default.is) (omega (arith, c.room.ensures, c.if-room-count.false)) (sym c.judge_items-read.ensures ∙ c.in_default-read.is) c.if-magnitudes-items.true))
+returns-then-magnitudes-items c =
+    let z = all_refused c.args.text.now c.args.tape.now c.args.count c.args.items.now c.args.magnitudes.now c.args.codes.now _ (by_magnitudes c.args.text.now c.args.tape.now c.args.count c.args.items.now (length c.args.magnitudes.now) (length c.args.codes.now) (sym c.judge-judged.ensures ∙ c.in_default.is) (omega (arith, c.room.ensures, c.if-room-count.false)) (sym c.judge_items-read.ensures ∙ c.in_default-read.is) c.if-magnitudes-items.true) in
+    record {
+      answer = ap refused c.no_room.ensures ∙ z.0;
+      magnitudes = z.1.0;
+      codes = z.1.1;
+    }
 
 pub returns-then-codes-items : goal.returns-then-codes-items
-returns-then-codes-items c = rw c.no_room-then-codes-items.ensures (all_refused c.args.text.now c.args.tape.now c.args.count c.args.items.now c.args.magnitudes.now c.args.codes.now _ (by_codes c.args.text.now c.args.tape.now c.args.count c.args.items.now (length c.args.magnitudes.now) (length c.args.codes.now) (sym c.judge-judged.ensures ∙ c.in_default.is) (omega (arith, c.room.ensures, c.if-room-count.false)) (sym c.judge_items-read.ensures ∙ c.in_default-read.is) c.if-codes-items.true))
+returns-then-codes-items c =
+    let z = all_refused c.args.text.now c.args.tape.now c.args.count c.args.items.now c.args.magnitudes.now c.args.codes.now _ (by_codes c.args.text.now c.args.tape.now c.args.count c.args.items.now (length c.args.magnitudes.now) (length c.args.codes.now) (sym c.judge-judged.ensures ∙ c.in_default.is) (omega (arith, c.room.ensures, c.if-room-count.false)) (sym c.judge_items-read.ensures ∙ c.in_default-read.is) c.if-codes-items.true) in
+    record {
+      answer = ap refused c.no_room-then-codes-items.ensures ∙ z.0;
+      magnitudes = z.1.0;
+      codes = z.1.1;
+    }
 
 pub write_items-requires : goal.write_items-requires
 write_items-requires c = ((sym c.judge-judged.ensures ∙ c.in_default.is), (omega (arith, c.room.ensures, c.if-room-count.false)), (sym c.judge_items-read.ensures ∙ c.in_default-read.is), c.if-magnitudes-items.false, c.if-codes-items.false)

@@ -12,12 +12,7 @@ pub loop-k-init : goal.loop-k-init
 loop-k-init c = (search rules, refl, refl, refl, refl)
 
 pub returns-in_default : goal.returns-in_default
-returns-in_default c =
-    let z = absurd (never_refused c.args.text.now c.args.tape.now c.args.count c.args.items.now c.requires.2 c.loop-k.k _ c.loop-k-test.true (ap told_item (sym c.in_default.is) ∙ c.item_at-read.ensures)) in
-    record {
-      magnitudes = z.0;
-      codes = z.1;
-    }
+returns-in_default c = absurd (never_refused c.args.text.now c.args.tape.now c.args.count c.args.items.now c.requires.2 c.loop-k.k _ c.loop-k-test.true (ap told_item (sym c.in_default.is) ∙ c.item_at-read.ensures))
 
 pub loop-k-preserved : goal.loop-k-preserved
 loop-k-preserved c =

@@ -3,7 +3,6 @@ use native.Mathlib.Omega.{arith}
 use mathlib.Core.List.{List}
 use mathlib.Core.Path.{◌≡◌, sym, ap, ◌∙◌}
 use lib.ListN.{take}
-use borrow.Author.Rules.{rules}
 use Rattle.entries.specs.Contents.{told_decoded}
 use Rattle.entries.specs.declared.decoding.DecodedAnswer.{DecodedAnswer}
 use Rattle.lines.specs.Out.{put}

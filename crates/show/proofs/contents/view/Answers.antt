@@ -1,7 +1,6 @@
 use Prim.Native.Nat.{ℕ}
 use mathlib.Core.List.{List, ◌++◌}
 use mathlib.Core.Path.{sym, ap, ◌∙◌}
-use borrow.Author.Rules.{rules}
 use Rattle.entries.specs.Contents.{told_contents}
 use Rattle.entries.specs.declared.view.ContentsAnswer.{ContentsAnswer}
 use Rattle.lines.proofs.OutLaws.{then}

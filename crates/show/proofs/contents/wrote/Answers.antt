@@ -1,6 +1,5 @@
 use Prim.Native.Nat.{ℕ}
 use mathlib.Core.List.{List}
-use borrow.Author.Rules.{rules}
 use Rattle.show.proofs.ContentsLaws.{bytes_none, bytes_some}
 use Rattle.show.proofs.contents.wrote.Goals as goal
 

@@ -1,11 +1,8 @@
-use Prim.Native.Nat.{ℕ, ◌-◌}
+use Prim.Native.Nat.{ℕ}
 use native.Mathlib.Omega.{arith}
 use mathlib.Core.List.{List}
-use mathlib.Core.Path.{◌≡◌, refl}
-use lib.ListN.{length, drop}
+use mathlib.Core.Path.{refl}
 use borrow.Author.Rules.{rules}
-use Rattle.lines.specs.Out.{put}
-use Rattle.show.specs.Hexes.{hex_text}
 use Rattle.show.proofs.HexLaws.{hex_on, hex_ends}
 use Rattle.show.proofs.hex.bytes.Goals as goal
 

@@ -1,6 +1,5 @@
 use Prim.Native.Nat.{◌%◌}
 use mathlib.Core.Path.{refl}
-use borrow.Author.Rules.{rules}
 use borrow.Author.Tests.{lt-ltb, le-ltb}
 use Rattle.show.specs.Hexes.{digit_of}
 use Rattle.show.proofs.hex.digit.Goals as goal

@@ -1,7 +1,6 @@
 use Prim.Native.Nat.{ℕ}
 use mathlib.Core.List.{List, ◌++◌}
 use mathlib.Core.Path.{sym, ap, ◌∙◌}
-use borrow.Author.Rules.{rules}
 use Rattle.integers.specs.declared.integer.Value.{Value}
 use Rattle.lines.proofs.OutLaws.{then}
 use Rattle.lines.specs.Ascii.{ascii}

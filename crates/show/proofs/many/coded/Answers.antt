@@ -3,7 +3,6 @@ use mathlib.Core.List.{List, ◌∷◌}
 use Rattle.lines.specs.Decimal.{decimal, word_of}
 use Rattle.lines.proofs.OutLaws.{then, put_behind}
 use Rattle.show.specs.Many.{coded_text}
-use borrow.Author.Rules.{rules}
 use Rattle.show.proofs.many.coded.Goals as goal
 
 pub returns : goal.returns

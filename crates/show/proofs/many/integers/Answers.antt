@@ -1,10 +1,9 @@
-use Prim.Native.Nat.{ℕ, ◌-◌}
+use Prim.Native.Nat.{ℕ}
 use native.Mathlib.Omega.{arith}
 use mathlib.Core.List.{List}
-use mathlib.Core.Path.{◌≡◌, refl}
-use lib.ListN.{length, get_or, drop}
+use mathlib.Core.Path.{refl}
+use lib.ListN.{get_or, drop}
 use Rattle.lines.specs.Ascii.{ascii}
-use Rattle.lines.specs.Out.{put}
 use Rattle.lines.proofs.OutLaws.{then}
 use Rattle.show.specs.Many.{coded_text, codeds_text, many_text}
 use Rattle.show.proofs.ManyLaws.{codeds_front, codeds_end, codeds_short}

@@ -1,15 +1,8 @@
-use Prim.Native.Nat.{ℕ, ◌-◌}
-use native.Mathlib.Omega.{arith}
-use mathlib.Core.List.{List}
-use mathlib.Core.Path.{◌≡◌, refl}
-use lib.ListN.{length, get_or, drop}
-use Rattle.lines.specs.Ascii.{ascii}
+use Prim.Native.Nat.{◌-◌}
+use mathlib.Core.Path.{◌≡◌}
+use lib.ListN.{length, drop}
 use Rattle.lines.specs.Out.{put}
-use Rattle.lines.proofs.OutLaws.{then}
-use Rattle.show.specs.Many.{coded_text, codeds_text, many_text}
-use Rattle.show.proofs.ManyLaws.{codeds_front, codeds_end, codeds_short}
-use Rattle.show.proofs.ShownLaws.{put_turn, put_done}
-use borrow.Author.Rules.{rules}
+use Rattle.show.specs.Many.{codeds_text}
 use Rattle.show.proofs.many.integers.Given as goal
 
 abbrev pub invariant-loop-i : goal.invariant-loop-i

@@ -2,7 +2,6 @@ use mathlib.Core.List.{◌++◌}
 use Rattle.lines.specs.Decimal.{word_of}
 use Rattle.lines.proofs.OutLaws.{then}
 use Rattle.show.specs.Skips.{length_text, cursor_text}
-use borrow.Author.Rules.{rules}
 use Rattle.show.proofs.skip.cursor.Goals as goal
 
 pub returns : goal.returns

@@ -6,7 +6,6 @@ use Rattle.lines.specs.Ascii.{ascii}
 use Rattle.lines.specs.Decimal.{word_of}
 use Rattle.lines.specs.Out.{put}
 use Rattle.show.specs.Skips.{length_text}
-use borrow.Author.Rules.{rules}
 use Rattle.show.proofs.skip.length.Goals as goal
 
 pub returns-then-n-eq-WS_CURSOR_UNCLOSED_LINE : goal.returns-then-n-eq-WS_CURSOR_UNCLOSED_LINE

@@ -6,7 +6,6 @@ use Rattle.lines.proofs.OutLaws.{then}
 use Rattle.sarridok.specs.Skip.{told_skip}
 use Rattle.show.specs.Answers.{answer_text}
 use Rattle.show.specs.Skips.{cursor_text, moved_text}
-use borrow.Author.Rules.{rules}
 use Rattle.show.proofs.skip.skipped.Goals as goal
 
 pub returns-in-Moved : goal.returns-in-Moved

@@ -6,7 +6,6 @@ use Rattle.lines.proofs.OutLaws.{then}
 use Rattle.sarridok.specs.StructKind.{told_struct}
 use Rattle.show.specs.Answers.{answer_text}
 use Rattle.show.specs.StructKinds.{kind_name, kind_text}
-use borrow.Author.Rules.{rules}
 use Rattle.show.proofs.struct_kind.kind.Goals as goal
 
 pub returns-in-Kind : goal.returns-in-Kind

@@ -2,7 +2,6 @@ use mathlib.Core.Path.{sym, ap, ◌∙◌}
 use Rattle.structs.specs.declared.kinds.StructType.{StructType}
 use Rattle.lines.specs.Out.{put}
 use Rattle.show.specs.StructKinds.{kind_name}
-use borrow.Author.Rules.{rules}
 use Rattle.show.proofs.struct_kind.name.Goals as goal
 
 pub returns-in-AnyTuple : goal.returns-in-AnyTuple
