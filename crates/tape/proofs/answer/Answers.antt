@@ -1,4 +1,3 @@
-use borrow.Author.Rules.{rules}
 use Rattle.tape.proofs.PrintedLaws.{printed}
 use Rattle.tape.proofs.answer.Goals as goal
 

@@ -3,7 +3,6 @@ use Rattle.lines.specs.Out.{put}
 use Rattle.read.specs.Read.{told_read}
 use Rattle.read.specs.declared.measure.ReadAnswer.{ReadAnswer}
 use Rattle.tape.specs.Printed.{said_text}
-use borrow.Author.Rules.{rules}
 use Rattle.tape.proofs.said.Goals as goal
 
 pub returns-in-Accepted : goal.returns-in-Accepted

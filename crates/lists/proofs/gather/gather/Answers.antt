@@ -1,9 +1,6 @@
-use Prim.Native.Nat.{◌-◌}
 use native.Mathlib.Omega.{arith}
-use mathlib.Core.Path.{◌≡◌, refl}
-use lib.ListN.{length}
-use Rattle.lists.specs.Gathers.{rows_of}
-use Rattle.lists.proofs.GatherLaws.{Gathering, from_row, all_of, gather_starts, gather_on, gather_ends, rows_within}
+use mathlib.Core.Path.{refl}
+use Rattle.lists.proofs.GatherLaws.{gather_starts, gather_on, gather_ends, rows_within}
 use borrow.Author.Rules.{rules}
 use Rattle.lists.proofs.gather.gather.Goals as goal
 

@@ -1,10 +1,8 @@
 use Prim.Native.Nat.{◌-◌}
-use native.Mathlib.Omega.{arith}
-use mathlib.Core.Path.{◌≡◌, refl}
+use mathlib.Core.Path.{◌≡◌}
 use lib.ListN.{length}
 use Rattle.lists.specs.Gathers.{rows_of}
-use Rattle.lists.proofs.GatherLaws.{Gathering, from_row, all_of, gather_starts, gather_on, gather_ends, rows_within}
-use borrow.Author.Rules.{rules}
+use Rattle.lists.proofs.GatherLaws.{Gathering, from_row, all_of}
 use Rattle.lists.proofs.gather.gather.Given as goal
 
 abbrev pub invariant-loop-i : goal.invariant-loop-i

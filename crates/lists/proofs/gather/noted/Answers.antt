@@ -3,7 +3,6 @@ use mathlib.Core.Path.{ap, sym, ◌∙◌}
 use Rattle.rows.specs.Rows.{entry_at}
 use Rattle.rows.specs.declared.Entry.{Entry}
 use Rattle.lists.proofs.GatherLaws.{noted_full, noted_other, noted_in}
-use borrow.Author.Rules.{rules}
 use Rattle.lists.proofs.gather.noted.Goals as goal
 
 pub returns-then-list-k : goal.returns-then-list-k

@@ -1,7 +1,6 @@
 use Prim.Native.Nat.{ℕ, min}
 use mathlib.Core.Path.{ap, ◌∙◌}
 use Rattle.lists.specs.Gathers.{rows_of}
-use borrow.Author.Rules.{rules}
 use Rattle.lists.proofs.gather.rows_of.Goals as goal
 
 pub returns : goal.returns

@@ -7,7 +7,6 @@ use Rattle.lines.specs.Over.{over}
 use Rattle.words.specs.Numbers.{numbers_in, numbers_of}
 use Rattle.words.specs.Split.{first_word, behind_word}
 use Rattle.lists.proofs.LineLaws.{behinds, any_no_front, any_no_list, any_long, any_goes}
-use borrow.Author.Rules.{rules}
 use Rattle.lists.proofs.list_any.answer.Goals as goal
 
 pub returns-in_default : goal.returns-in_default
@@ -19,7 +18,11 @@ returns-in_default c =
     let numbers : List ℕ = c.args.numbers.now in
     let spare : List ℕ = c.args.spare.now in
     let out : List ℕ × ℕ = (c.args.o.now, c.args.at) in
-    any_no_front words text tape links numbers spare out _ (sym c.front-asked.ensures ∙ c.in_default.is) c.bad.ensures
+    let z = any_no_front words text tape links numbers spare out _ (sym c.front-asked.ensures ∙ c.in_default.is) c.bad.ensures in
+    record {
+      result_after = z.0;
+      spare_after = z.1;
+    }
 
 pub returns-in_default-listed : goal.returns-in_default-listed
 returns-in_default-listed c =
@@ -31,9 +34,13 @@ returns-in_default-listed c =
     let spare : List ℕ = c.args.spare.now in
     let out : List ℕ × ℕ = (c.args.o.now, c.args.at) in
     let fourth = c.word.ensures ∙ ap (λ (w : List ℕ). first_word w) (behinds words _ _ _ c.behind.ensures c.behind-2.ensures c.behind-words.ensures) in
-    any_no_list words text tape links numbers spare out _ c.in-Asks.q (sym c.front-asked.ensures ∙ c.in-Asks.is)
+    let z = any_no_list words text tape links numbers spare out _ c.in-Asks.q (sym c.front-asked.ensures ∙ c.in-Asks.is)
     _ (c.numbers-listed.ensures.tape_after ∙ ap (λ (w : List ℕ). over (numbers_of w) links) fourth)
-    (sym (c.numbers-listed.ensures.value ∙ ap (λ (w : List ℕ). numbers_in w (length links)) fourth) ∙ c.in_default-listed.is) c.bad-in_default-listed.ensures
+    (sym (c.numbers-listed.ensures.value ∙ ap (λ (w : List ℕ). numbers_in w (length links)) fourth) ∙ c.in_default-listed.is) c.bad-in_default-listed.ensures in
+    record {
+      result_after = z.0;
+      spare_after = z.1;
+    }
 
 pub returns-then-items-gt65536 : goal.returns-then-items-gt65536
 returns-then-items-gt65536 c =
@@ -45,9 +52,13 @@ returns-then-items-gt65536 c =
     let spare : List ℕ = c.args.spare.now in
     let out : List ℕ × ℕ = (c.args.o.now, c.args.at) in
     let fourth = c.word.ensures ∙ ap (λ (w : List ℕ). first_word w) (behinds words _ _ _ c.behind.ensures c.behind-2.ensures c.behind-words.ensures) in
-    any_long words text tape links numbers spare out _ c.in-Asks.q (sym c.front-asked.ensures ∙ c.in-Asks.is)
+    let z = any_long words text tape links numbers spare out _ c.in-Asks.q (sym c.front-asked.ensures ∙ c.in-Asks.is)
     _ (c.numbers-listed.ensures.tape_after ∙ ap (λ (w : List ℕ). over (numbers_of w) links) fourth)
-    c.in-Stored.k (sym (c.numbers-listed.ensures.value ∙ ap (λ (w : List ℕ). numbers_in w (length links)) fourth) ∙ c.in-Stored.is) _ c.first-items.ensures (omega arith) c.bad-then-items-gt65536.ensures
+    c.in-Stored.k (sym (c.numbers-listed.ensures.value ∙ ap (λ (w : List ℕ). numbers_in w (length links)) fourth) ∙ c.in-Stored.is) _ c.first-items.ensures (omega arith) c.bad-then-items-gt65536.ensures in
+    record {
+      result_after = z.0;
+      spare_after = z.1;
+    }
 
 pub returns : goal.returns
 returns c =
@@ -59,7 +70,11 @@ returns c =
     let spare : List ℕ = c.args.spare.now in
     let out : List ℕ × ℕ = (c.args.o.now, c.args.at) in
     let fourth = c.word.ensures ∙ ap (λ (w : List ℕ). first_word w) (behinds words _ _ _ c.behind.ensures c.behind-2.ensures c.behind-words.ensures) in
-    any_goes words text tape links numbers spare out _ c.in-Asks.q (sym c.front-asked.ensures ∙ c.in-Asks.is)
+    let z = any_goes words text tape links numbers spare out _ c.in-Asks.q (sym c.front-asked.ensures ∙ c.in-Asks.is)
     _ (c.numbers-listed.ensures.tape_after ∙ ap (λ (w : List ℕ). over (numbers_of w) links) fourth)
     c.in-Stored.k (sym (c.numbers-listed.ensures.value ∙ ap (λ (w : List ℕ). numbers_in w (length links)) fourth) ∙ c.in-Stored.is) _ c.first-items.ensures (omega arith)
-    _ (c.behind-3.ensures ∙ ap (λ (w : List ℕ). behind_word w) (behinds words _ _ _ c.behind.ensures c.behind-2.ensures c.behind-words.ensures)) _ _ _ _ c.over_tape.ensures
+    _ (c.behind-3.ensures ∙ ap (λ (w : List ℕ). behind_word w) (behinds words _ _ _ c.behind.ensures c.behind-2.ensures c.behind-words.ensures)) _ _ _ _ (c.over_tape.ensures.result_after, c.over_tape.ensures.spare_after) in
+    record {
+      result_after = z.0;
+      spare_after = z.1;
+    }

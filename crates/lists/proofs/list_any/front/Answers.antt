@@ -5,7 +5,6 @@ use Rattle.words.specs.Number.{decimal_of}
 use Rattle.words.specs.Split.{first_word, behind_word}
 use Rattle.words.proofs.DecidedLaws.{said}
 use Rattle.lists.proofs.LineLaws.{no_magnitudes, no_codes, no_count, asks_at}
-use borrow.Author.Rules.{rules}
 use Rattle.lists.proofs.list_any.front.Goals as goal
 
 pub returns-in_default : goal.returns-in_default

@@ -6,7 +6,6 @@ use Rattle.lines.specs.Over.{over}
 use Rattle.words.specs.Hex.{hex_in, pairs}
 use Rattle.words.specs.Numbers.{numbers_in, numbers_of}
 use Rattle.lists.proofs.LineLaws.{over_no_text, over_no_tape, over_goes}
-use borrow.Author.Rules.{rules}
 use Rattle.lists.proofs.list_any.over_tape.Goals as goal
 
 pub returns-in_default : goal.returns-in_default
@@ -18,8 +17,12 @@ returns-in_default c =
     let numbers : List ℕ = c.args.numbers.now in
     let spare : List ℕ = c.args.spare.now in
     let out : List ℕ × ℕ = (c.args.o.now, c.args.at) in
-    over_no_text c.args.q items words text tape numbers spare out _ _ (c.bytes-bytes.ensures.buf_after ∙ ap (λ (w : List ℕ). over (pairs w) text) c.word.ensures)
-    (sym (c.bytes-bytes.ensures.value ∙ ap (λ (w : List ℕ). hex_in w (length text)) c.word.ensures) ∙ c.in_default.is) c.bad.ensures
+    let z = over_no_text c.args.q items words text tape numbers spare out _ _ (c.bytes-bytes.ensures.buf_after ∙ ap (λ (w : List ℕ). over (pairs w) text) c.word.ensures)
+    (sym (c.bytes-bytes.ensures.value ∙ ap (λ (w : List ℕ). hex_in w (length text)) c.word.ensures) ∙ c.in_default.is) c.bad.ensures in
+    record {
+      result_after = z.0;
+      spare_after = z.1;
+    }
 
 pub returns-in_default-last : goal.returns-in_default-last
 returns-in_default-last c =
@@ -30,10 +33,14 @@ returns-in_default-last c =
     let numbers : List ℕ = c.args.numbers.now in
     let spare : List ℕ = c.args.spare.now in
     let out : List ℕ × ℕ = (c.args.o.now, c.args.at) in
-    over_no_tape c.args.q items words text tape numbers spare out _ _ (c.bytes-bytes.ensures.buf_after ∙ ap (λ (w : List ℕ). over (pairs w) text) c.word.ensures)
+    let z = over_no_tape c.args.q items words text tape numbers spare out _ _ (c.bytes-bytes.ensures.buf_after ∙ ap (λ (w : List ℕ). over (pairs w) text) c.word.ensures)
     c.in-Bytes.n (sym (c.bytes-bytes.ensures.value ∙ ap (λ (w : List ℕ). hex_in w (length text)) c.word.ensures) ∙ c.in-Bytes.is)
     _ (c.numbers-last.ensures.tape_after ∙ ap (λ (w : List ℕ). over (numbers_of w) tape) c.behind.ensures)
-    (sym (c.numbers-last.ensures.value ∙ ap (λ (w : List ℕ). numbers_in w (length tape)) c.behind.ensures) ∙ c.in_default-last.is) c.bad-in_default-last.ensures
+    (sym (c.numbers-last.ensures.value ∙ ap (λ (w : List ℕ). numbers_in w (length tape)) c.behind.ensures) ∙ c.in_default-last.is) c.bad-in_default-last.ensures in
+    record {
+      result_after = z.0;
+      spare_after = z.1;
+    }
 
 pub returns : goal.returns
 returns c =
@@ -44,8 +51,12 @@ returns c =
     let numbers : List ℕ = c.args.numbers.now in
     let spare : List ℕ = c.args.spare.now in
     let out : List ℕ × ℕ = (c.args.o.now, c.args.at) in
-    over_goes c.args.q items words text tape numbers spare out _ _ (c.bytes-bytes.ensures.buf_after ∙ ap (λ (w : List ℕ). over (pairs w) text) c.word.ensures)
+    let z = over_goes c.args.q items words text tape numbers spare out _ _ (c.bytes-bytes.ensures.buf_after ∙ ap (λ (w : List ℕ). over (pairs w) text) c.word.ensures)
     c.in-Bytes.n (sym (c.bytes-bytes.ensures.value ∙ ap (λ (w : List ℕ). hex_in w (length text)) c.word.ensures) ∙ c.in-Bytes.is)
     _ (c.numbers-last.ensures.tape_after ∙ ap (λ (w : List ℕ). over (numbers_of w) tape) c.behind.ensures)
     c.in-Stored.m (sym (c.numbers-last.ensures.value ∙ ap (λ (w : List ℕ). numbers_in w (length tape)) c.behind.ensures) ∙ c.in-Stored.is)
-    _ _ c.part-s.ensures c.first-t.ensures _ _ c.answer.ensures.result_after c.answer.ensures.spare_after
+    _ _ c.part-s.ensures c.first-t.ensures _ _ c.answer.ensures.result_after c.answer.ensures.spare_after in
+    record {
+      result_after = z.0;
+      spare_after = z.1;
+    }

@@ -2,7 +2,6 @@ use Prim.Native.Nat.{ℕ}
 use mathlib.Core.List.{List}
 use mathlib.Core.Path.{sym, ◌∙◌}
 use Rattle.lists.proofs.LineLaws.{list_bad, list_goes}
-use borrow.Author.Rules.{rules}
 use Rattle.lists.proofs.list_text.answer.Goals as goal
 
 pub returns-in_default : goal.returns-in_default
@@ -14,7 +13,11 @@ returns-in_default c =
     let numbers : List ℕ = c.args.numbers.now in
     let spare : List ℕ = c.args.spare.now in
     let out : List ℕ × ℕ = (c.args.o.now, c.args.at) in
-    list_bad words text tape links numbers spare _ c.bytes-bytes.ensures.buf_after out _ (sym c.bytes-bytes.ensures.value ∙ c.in_default.is) c.bad.ensures
+    let z = list_bad words text tape links numbers spare _ c.bytes-bytes.ensures.buf_after out _ (sym c.bytes-bytes.ensures.value ∙ c.in_default.is) c.bad.ensures in
+    record {
+      result_after = z.0;
+      spare_after = z.1;
+    }
 
 pub returns : goal.returns
 returns c =
@@ -25,5 +28,9 @@ returns c =
     let numbers : List ℕ = c.args.numbers.now in
     let spare : List ℕ = c.args.spare.now in
     let out : List ℕ × ℕ = (c.args.o.now, c.args.at) in
-    list_goes words text tape links numbers spare _ c.bytes-bytes.ensures.buf_after out _ c.in-Bytes.n (sym c.bytes-bytes.ensures.value ∙ c.in-Bytes.is)
-    _ c.part.ensures _ _ _ _ c.read.ensures
+    let z = list_goes words text tape links numbers spare _ c.bytes-bytes.ensures.buf_after out _ c.in-Bytes.n (sym c.bytes-bytes.ensures.value ∙ c.in-Bytes.is)
+    _ c.part.ensures _ _ _ _ (c.read.ensures.result_after, (c.read.ensures.tape_after, c.read.ensures.spare_after)) in
+    record {
+      result_after = z.0;
+      spare_after = z.1;
+    }

@@ -1,7 +1,6 @@
 use Prim.Native.Nat.{ℕ}
 use mathlib.Core.Path.{ap}
 use Rattle.lists.specs.Listed.{asked}
-use borrow.Author.Rules.{rules}
 use Rattle.lists.proofs.list_text.asked.Goals as goal
 
 pub returns : goal.returns

@@ -5,7 +5,6 @@ use Rattle.read.specs.Read.{told_read}
 use Rattle.read.specs.declared.measure.ReadAnswer.{ReadAnswer}
 use Rattle.text.specs.Refusals.{refused}
 use Rattle.lists.proofs.LineLaws.{read_listed, accepted_listed}
-use borrow.Author.Rules.{rules}
 use Rattle.lists.proofs.list_text.read.Goals as goal
 
 pub returns-in-Accepted : goal.returns-in-Accepted
@@ -16,9 +15,14 @@ returns-in-Accepted c =
     let numbers : List ℕ = c.args.numbers.now in
     let spare : List ℕ = c.args.spare.now in
     let out : List ℕ × ℕ = (c.args.o.now, c.args.at) in
-    accepted_listed text tape links numbers spare _ c.read-r.ensures.1 out _
+    let z = accepted_listed text tape links numbers spare _ c.read-r.ensures.1 out _
     c.in-Accepted.n (sym (ap (λ (a : ReadAnswer). told_read a) c.in-Accepted.is) ∙ c.read-r.ensures.0)
-    _ _ _ c.gather-k.ensures.value c.gather-k.ensures.list_after c.first-items.ensures _ c.asked-q.ensures _ _ c.answer.ensures
+    _ _ _ c.gather-k.ensures.value c.gather-k.ensures.list_after c.first-items.ensures _ c.asked-q.ensures _ _ (c.answer.ensures.result_after, c.answer.ensures.spare_after) in
+    record {
+      result_after = z.0;
+      tape_after = z.1.0;
+      spare_after = z.1.1;
+    }
 
 pub returns-in-Refused : goal.returns-in-Refused
 returns-in-Refused c =
@@ -28,5 +32,10 @@ returns-in-Refused c =
     let numbers : List ℕ = c.args.numbers.now in
     let spare : List ℕ = c.args.spare.now in
     let out : List ℕ × ℕ = (c.args.o.now, c.args.at) in
-    read_listed text tape links numbers spare _ c.read-r.ensures.1 out _ (links, numbers, spare)
-    (refused c.in-Refused.f) (sym (ap (λ (a : ReadAnswer). told_read a) c.in-Refused.is) ∙ c.read-r.ensures.0) c.refused.ensures refl
+    let z = read_listed text tape links numbers spare _ c.read-r.ensures.1 out _ (links, numbers, spare)
+    (refused c.in-Refused.f) (sym (ap (λ (a : ReadAnswer). told_read a) c.in-Refused.is) ∙ c.read-r.ensures.0) c.refused.ensures refl in
+    record {
+      result_after = z.0;
+      tape_after = z.1.0;
+      spare_after = z.1.1;
+    }

@@ -4,7 +4,6 @@ use mathlib.Core.List.{List}
 use lib.ListN.{length}
 use Rattle.lists.specs.declared.listed.Asked.{Asked}
 use Rattle.lists.proofs.ListedLaws.{room_within, lent_both}
-use borrow.Author.Rules.{rules}
 use Rattle.lists.proofs.listed.answer.Goals as goal
 
 pub slice_bounds-listed-end : goal.slice_bounds-listed-end
@@ -21,4 +20,8 @@ returns c =
     let items : List ℕ = c.args.items.now in
     let numbers : List ℕ = c.args.numbers.now in
     let spare : List ℕ = c.args.spare.now in
-    lent_both text tape q items numbers spare _ _ c.room-m.ensures c.room-k.ensures (c.args.o.now, c.args.at) _ _ _ c.listed.ensures.result_after c.listed.ensures.codes_after
+    let z = lent_both text tape q items numbers spare _ _ c.room-m.ensures c.room-k.ensures (c.args.o.now, c.args.at) _ _ _ c.listed.ensures.result_after c.listed.ensures.codes_after in
+    record {
+      result_after = z.0;
+      spare_after = z.1;
+    }

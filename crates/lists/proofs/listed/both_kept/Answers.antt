@@ -1,7 +1,5 @@
 use mathlib.Core.Path.{sym, ◌∙◌}
-use borrow.Author.Tests.{not-true, not-false}
 use Rattle.lists.proofs.ListedLaws.{kept_not, kept_if}
-use borrow.Author.Rules.{rules}
 use Rattle.lists.proofs.listed.both_kept.Goals as goal
 
 pub returns-then-not-kept : goal.returns-then-not-kept

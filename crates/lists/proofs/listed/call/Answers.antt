@@ -1,7 +1,6 @@
 use Prim.Native.Nat.{ℕ}
 use mathlib.Core.List.{List}
 use Rattle.lists.proofs.ListedLaws.{call_told, call_left}
-use borrow.Author.Rules.{rules}
 use Rattle.lists.proofs.listed.call.Goals as goal
 
 pub returns : goal.returns

@@ -3,7 +3,6 @@ use native.Mathlib.Omega.{arith}
 use mathlib.Core.Path.{◌≡◌, sym, ap}
 use lib.ListN.{length, take}
 use lib.Seq.{take_all}
-use borrow.Author.Rules.{rules}
 use Rattle.lists.proofs.listed.first.Goals as goal
 
 pub returns-then-n-s : goal.returns-then-n-s

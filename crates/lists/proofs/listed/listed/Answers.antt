@@ -1,7 +1,6 @@
 use Prim.Native.Nat.{ℕ}
 use mathlib.Core.List.{List}
 use Rattle.lists.proofs.ListedLaws.{list_said}
-use borrow.Author.Rules.{rules}
 use Rattle.lists.proofs.listed.listed.Goals as goal
 
 pub returns : goal.returns

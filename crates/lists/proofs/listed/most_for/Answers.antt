@@ -1,7 +1,6 @@
 use Prim.Native.Nat.{ℕ, ◌+◌}
 use mathlib.Core.Path.{ap}
 use Rattle.lists.specs.Listed.{most_for}
-use borrow.Author.Rules.{rules}
 use Rattle.lists.proofs.listed.most_for.Goals as goal
 
 pub returns : goal.returns

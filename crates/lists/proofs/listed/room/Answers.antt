@@ -1,7 +1,6 @@
 use Prim.Native.Nat.{ℕ, min}
 use mathlib.Core.Path.{ap, ◌∙◌}
 use Rattle.lists.specs.Listed.{room_for}
-use borrow.Author.Rules.{rules}
 use Rattle.lists.proofs.listed.room.Goals as goal
 
 pub returns : goal.returns

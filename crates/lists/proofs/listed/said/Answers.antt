@@ -1,5 +1,4 @@
 use Rattle.lists.proofs.ListedLaws.{written_said, refused_said}
-use borrow.Author.Rules.{rules}
 use Rattle.lists.proofs.listed.said.Goals as goal
 
 pub returns-in-Written : goal.returns-in-Written

@@ -10,7 +10,6 @@ use Rattle.words.specs.Split.{behind_word}
 use Rattle.tapes.specs.Reads.{any_line}
 use Rattle.lines.proofs.LineLaws.{line3}
 use Rattle.tapes.proofs.ReadLaws.{any_no_number, any_bad, any_goes}
-use borrow.Author.Rules.{rules}
 use Rattle.tapes.proofs.read_any.answer.Goals as goal
 
 pub returns-in_default : goal.returns-in_default

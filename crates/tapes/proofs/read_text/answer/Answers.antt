@@ -7,7 +7,6 @@ use Rattle.words.specs.Hex.{pairs}
 use Rattle.tapes.specs.Reads.{read_line}
 use Rattle.lines.proofs.LineLaws.{line3}
 use Rattle.tapes.proofs.ReadLaws.{read_bad, read_goes}
-use borrow.Author.Rules.{rules}
 use Rattle.tapes.proofs.read_text.answer.Goals as goal
 
 pub returns-in_default : goal.returns-in_default

@@ -2,7 +2,6 @@ use Prim.Native.Nat.{ℕ}
 use mathlib.Core.List.{List}
 use Rattle.tapes.specs.Reads.{tape_after, reads_text, read_in}
 use Rattle.lines.proofs.LineLaws.{lent_front, lent_whole}
-use borrow.Author.Rules.{rules}
 use Rattle.tapes.proofs.reads.answer.Goals as goal
 
 pub returns-then-room-tape : goal.returns-then-room-tape

@@ -1,7 +1,6 @@
 use Prim.Native.Nat.{ℕ}
 use mathlib.Core.List.{List}
 use Rattle.tapes.proofs.ReadLaws.{tape_left, reads_said}
-use borrow.Author.Rules.{rules}
 use Rattle.tapes.proofs.reads.read.Goals as goal
 
 pub returns : goal.returns

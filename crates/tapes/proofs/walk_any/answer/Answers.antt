@@ -10,7 +10,6 @@ use Rattle.words.specs.Split.{first_word, behind_word}
 use Rattle.tapes.specs.Walks.{any_line}
 use Rattle.lines.proofs.LineLaws.{line4}
 use Rattle.tapes.proofs.WalkLaws.{word4, behind4, behinds, any_no_front, any_no_text, any_no_tape, any_goes}
-use borrow.Author.Rules.{rules}
 use Rattle.tapes.proofs.walk_any.answer.Goals as goal
 
 pub returns-in_default : goal.returns-in_default

@@ -4,7 +4,6 @@ use mathlib.Core.Path.{sym, ap, ◌∙◌}
 use Rattle.words.specs.Number.{decimal_of}
 use Rattle.words.specs.Split.{first_word, behind_word}
 use Rattle.tapes.proofs.WalkLaws.{front_first, front_second, front_third, front_asks}
-use borrow.Author.Rules.{rules}
 use Rattle.tapes.proofs.walk_any.front.Goals as goal
 
 pub returns-in_default : goal.returns-in_default

@@ -10,7 +10,6 @@ use Rattle.words.specs.Split.{behind_word}
 use Rattle.tapes.specs.Walks.{walk_line}
 use Rattle.lines.proofs.LineLaws.{line4}
 use Rattle.tapes.proofs.WalkLaws.{walk_no_limit, walk_bad, walk_goes}
-use borrow.Author.Rules.{rules}
 use Rattle.tapes.proofs.walk_text.answer.Goals as goal
 
 pub returns-in_default : goal.returns-in_default

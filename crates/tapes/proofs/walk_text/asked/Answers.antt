@@ -1,6 +1,5 @@
 use Prim.Native.Nat.{ℕ}
 use mathlib.Core.Path.{ap}
-use borrow.Author.Rules.{rules}
 use Rattle.tapes.specs.Walks.{asked}
 use Rattle.tapes.proofs.walk_text.asked.Goals as goal
 

@@ -1,5 +1,4 @@
 use Rattle.tapes.proofs.WalkLaws.{links_some, links_most}
-use borrow.Author.Rules.{rules}
 use Rattle.tapes.proofs.walk_text.links_for.Goals as goal
 
 pub returns-then-count-lt65536 : goal.returns-then-count-lt65536

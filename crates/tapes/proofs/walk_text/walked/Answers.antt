@@ -3,7 +3,6 @@ use Rattle.read.specs.Read.{told_read}
 use Rattle.read.specs.declared.measure.ReadAnswer.{ReadAnswer}
 use Rattle.text.specs.Refusals.{refused}
 use Rattle.tapes.proofs.WalkLaws.{read_walked, accepted_walked}
-use borrow.Author.Rules.{rules}
 use Rattle.tapes.proofs.walk_text.walked.Goals as goal
 
 pub returns-in-Accepted : goal.returns-in-Accepted

@@ -3,7 +3,6 @@ use mathlib.Core.List.{List}
 use Rattle.tapes.specs.Walks.{links_left, walks_text, walk_in}
 use Rattle.tapes.specs.declared.walks.Asked.{Asked}
 use Rattle.lines.proofs.LineLaws.{lent_front, lent_whole}
-use borrow.Author.Rules.{rules}
 use Rattle.tapes.proofs.walks.answer.Goals as goal
 
 pub returns-then-room-links : goal.returns-then-room-links

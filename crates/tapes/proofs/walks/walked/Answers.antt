@@ -1,7 +1,6 @@
 use Prim.Native.Nat.{ℕ}
 use mathlib.Core.List.{List}
 use Rattle.tapes.proofs.WalkLaws.{links-left, walked_said, refused_said}
-use borrow.Author.Rules.{rules}
 use Rattle.tapes.proofs.walks.walked.Goals as goal
 
 pub returns-in-Walked : goal.returns-in-Walked
