@@ -2,7 +2,7 @@
 use Prim.Native.Nat.{ℕ, zero, suc, min, ◌+◌, ◌*◌, ◌<◌, ◌≤◌}
 use native.Mathlib.Omega.{arith}
 use mathlib.Core.Bool.{Bool, true, false, cond, ◌&&◌}
-use mathlib.Core.List.{List, [], ◌∷◌, ◌++◌}
+use mathlib.Core.List.{List, [], ◌∷◌}
 use mathlib.Core.Path.{◌≡◌, refl, sym, ap, ◌∙◌}
 use lib.Dec.{eqb}
 use lib.ListN.{length, get_or, set, drop, length-drop, length-set}
@@ -11,7 +11,6 @@ use borrow.Author.Tests.{eq-eqb}
 use Rattle.lent.specs.Marks.{mark_at, marked, kept_from}
 use Rattle.lent.proofs.MarkLaws.{marked_length}
 use Rattle.lines.specs.Out.{put}
-use Rattle.lines.proofs.OutLaws.{then}
 use Rattle.pieces.specs.Ends.{Rest, ended_of, rest_laid}
 use Rattle.pieces.specs.Pieces.{Outcome, arrived_of, laid_in}
 use Rattle.pieces.specs.declared.state.Arrived.{Arrived}
@@ -24,7 +23,7 @@ use Rattle.show.specs.Answers.{clean_text}
 use Rattle.text.specs.Refusals.{Told, accepted, refused}
 use Rattle.text.specs.declared.refusal.Refusal.{Refusal}
 use Rattle.text.proofs.Choices.{either, lt_or_le}
-use Rattle.arrivals.specs.inner.Says.{without_state, count_of, is_clean}
+use Rattle.arrivals.specs.inner.Says.{without_state, is_clean}
 use Rattle.arrivals.proofs.CallLaws.{rows_fit, without_choice}
 
 -- ---- marks

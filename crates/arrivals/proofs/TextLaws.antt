@@ -10,7 +10,6 @@ use lib.Seq.{length-take-le, take-take, drop-drop, take-add, drop_at}
 use borrow.Author.Tests.{leb-true, leb-false, le-leb, lt-leb}
 use Rattle.lines.specs.Ascii.{ascii}
 use Rattle.lines.specs.Out.{put}
-use Rattle.lines.specs.Over.{over}
 use Rattle.lines.proofs.OutLaws.{put_join}
 use Rattle.pieces.specs.Ends.{finish_of}
 use Rattle.pieces.specs.Pieces.{Outcome, begun, piece_of}
@@ -28,7 +27,6 @@ use Rattle.words.specs.declared.hex.Hex.{Hex}
 use Rattle.words.specs.declared.hex.Hex.TheVariants as hex
 use Rattle.words.specs.declared.list.Count.{Count}
 use Rattle.words.specs.declared.list.Count.TheVariants as count
-use Rattle.words.proofs.SaidLaws.{hex_said, tape_said}
 use Rattle.arrivals.specs.Arrives.{piece_text, end_text, next_of, kept_behind}
 use Rattle.arrivals.specs.Texts.{sum_of, pieces_of, answers_from, text_line}
 use Rattle.arrivals.specs.declared.arrive_text.Stand.{Stand}

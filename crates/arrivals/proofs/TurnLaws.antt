@@ -6,13 +6,12 @@ use mathlib.Core.Bool.{Bool, true, false, cond}
 use mathlib.Core.List.{List, [], ◌∷◌, ◌++◌, append-nil}
 use mathlib.Core.Path.{◌≡◌, refl, sym, ap, ◌∙◌}
 use lib.Dec.{eqb}
-use lib.ListN.{length, take, drop, length-append, length-take, length-drop, drop_of_length-le}
-use lib.Seq.{length-take-le, take_all, take-append-le, drop-append-add, drop-drop, take-take}
+use lib.ListN.{length, take, drop, length-append, length-drop, drop_of_length-le}
+use lib.Seq.{length-take-le, take_all, take-append-le, drop-append-add, drop-drop}
 use borrow.Rule.Slice.PartMut.{put_mid}
 use Rattle.lines.specs.Ascii.{ascii}
 use Rattle.lines.specs.Out.{put}
 use Rattle.lines.specs.Over.{over}
-use Rattle.lines.proofs.Laws.{over_length}
 use Rattle.pieces.specs.Pieces.{Outcome, arrived_of, kept_in, piece_of}
 use Rattle.pieces.specs.declared.state.Arrival.{Arrival}
 use Rattle.pieces.specs.declared.state.Arrived.TheVariants as arrived

@@ -3,7 +3,6 @@ use Rattle.words.specs.Number.{decimal_of}
 use Rattle.words.specs.Split.{first_word}
 use Rattle.words.proofs.DecidedLaws.{said}
 use Rattle.arrivals.proofs.AnyLaws.{any_bad, any_good}
-use borrow.Author.Rules.{rules}
 use Rattle.arrivals.proofs.arrive_any.answer.Goals as goal
 
 pub returns-in_default : goal.returns-in_default

@@ -5,7 +5,6 @@ use Rattle.rows.specs.Rows.{room_of}
 use Rattle.arrivals.specs.declared.arrive_any.Last.{Last}
 use Rattle.arrivals.specs.inner.Calls.{Holds}
 use Rattle.arrivals.proofs.CallLaws.{called_piece, called_end, called_bad}
-use borrow.Author.Rules.{rules}
 use Rattle.arrivals.proofs.arrive_any.call.Goals as goal
 
 pub overflow_add-held : goal.overflow_add-held

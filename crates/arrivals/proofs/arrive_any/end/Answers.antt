@@ -9,7 +9,6 @@ use Rattle.text.specs.Refusals.{Told}
 use Rattle.arrivals.specs.Arrives.{end_text}
 use Rattle.arrivals.proofs.CallLaws.{end_said}
 use Rattle.arrivals.proofs.CleanLaws.{end_stands}
-use borrow.Author.Rules.{rules}
 use Rattle.arrivals.proofs.arrive_any.end.Goals as goal
 
 pub returns : goal.returns

@@ -1,6 +1,5 @@
 use borrow.Author.Tests.{eq-eqb, ne_eqb}
 use Rattle.arrivals.specs.Any.{is_end}
-use borrow.Author.Rules.{rules}
 use Rattle.arrivals.proofs.arrive_any.is_end.Goals as goal
 
 pub returns-then-s-ne3 : goal.returns-then-s-ne3

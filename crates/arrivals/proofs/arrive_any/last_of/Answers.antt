@@ -2,7 +2,6 @@ use Prim.Native.Nat.{◌-◌}
 use mathlib.Core.Path.{sym, ◌∙◌}
 use lib.ListN.{length}
 use Rattle.arrivals.proofs.AnyLaws.{last_piece, last_end, last_none, last_room, last_held}
-use borrow.Author.Rules.{rules}
 use Rattle.arrivals.proofs.arrive_any.last_of.Goals as goal
 
 pub returns-then-is_end : goal.returns-then-is_end

@@ -3,7 +3,6 @@ use mathlib.Core.Path.{ap, ◌∙◌}
 use Rattle.lines.specs.Out.{put}
 use Rattle.arrivals.specs.inner.Calls.{called_text}
 use Rattle.arrivals.proofs.CallLaws.{lent_room}
-use borrow.Author.Rules.{rules}
 use Rattle.arrivals.proofs.arrive_any.lent.Goals as goal
 
 pub returns : goal.returns

@@ -1,7 +1,6 @@
 use mathlib.Core.Path.{◌∙◌}
 use Rattle.arrivals.proofs.AnyLaws.{over_no_text, kept_fits, held_fits, over_state, over_unfit, over_no_state}
 use native.Mathlib.Omega.{arith}
-use borrow.Author.Rules.{rules}
 use Rattle.arrivals.proofs.arrive_any.over_state.Goals as goal
 
 pub returns-in_default : goal.returns-in_default

@@ -11,7 +11,6 @@ use Rattle.arrivals.specs.Arrives.{piece_text}
 use Rattle.arrivals.specs.Any.{left_text, piece_line}
 use Rattle.arrivals.proofs.CallLaws.{left_said, piece-line}
 use Rattle.arrivals.proofs.CleanLaws.{piece_stands}
-use borrow.Author.Rules.{rules}
 use Rattle.arrivals.proofs.arrive_any.piece.Goals as goal
 
 pub returns : goal.returns

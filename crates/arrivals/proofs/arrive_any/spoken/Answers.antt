@@ -1,6 +1,5 @@
 use mathlib.Core.Path.{sym, ◌∙◌}
 use Rattle.arrivals.proofs.AnyLaws.{no_numbers, not_nine, nine_said}
-use borrow.Author.Rules.{rules}
 use Rattle.arrivals.proofs.arrive_any.spoken.Goals as goal
 
 pub returns-in_default : goal.returns-in_default

@@ -4,7 +4,6 @@ use Rattle.show.specs.Answers.{refused_text}
 use Rattle.text.specs.declared.refusal.Refusal.{Refusal}
 use Rattle.arrivals.specs.Any.{unfit_text}
 use Rattle.arrivals.specs.declared.arrive_any.Last.{Last}
-use borrow.Author.Rules.{rules}
 use Rattle.arrivals.proofs.arrive_any.unfit.Goals as goal
 
 pub returns-in-Piece : goal.returns-in-Piece

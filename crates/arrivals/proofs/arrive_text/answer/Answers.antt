@@ -3,7 +3,7 @@ use native.Mathlib.Omega.{arith}
 use mathlib.Core.List.{List}
 use mathlib.Core.Path.{sym, ap, ◌∙◌}
 use lib.ListN.{length, take}
-use borrow.Author.Tests.{leb-true, not-true, not-false}
+use borrow.Author.Tests.{leb-true}
 use Rattle.lines.specs.Over.{over}
 use Rattle.words.specs.Hex.{hex_in, pairs}
 use Rattle.words.specs.Numbers.{numbers_in, numbers_of}
@@ -12,7 +12,6 @@ use Rattle.words.proofs.DecidedLaws.{said}
 use Rattle.words.proofs.SaidLaws.{hex_said, tape_said}
 use Rattle.arrivals.proofs.TextLaws.{no_cuts, no_text, too_long, line_goes}
 use Rattle.arrivals.proofs.WordLaws.{hex_fits}
-use borrow.Author.Rules.{rules}
 use Rattle.arrivals.proofs.arrive_text.answer.Goals as goal
 
 pub returns-in_default : goal.returns-in_default

@@ -1,7 +1,6 @@
 use mathlib.Core.Path.{sym, ap}
 use Rattle.pieces.specs.declared.state.Arrived.{Arrived}
 use Rattle.arrivals.specs.inner.Stands.{next_by}
-use borrow.Author.Rules.{rules}
 use Rattle.arrivals.proofs.arrive_text.behind.Goals as goal
 
 pub returns-in-Given : goal.returns-in-Given

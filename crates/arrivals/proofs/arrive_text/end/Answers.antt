@@ -1,6 +1,5 @@
 use Rattle.arrivals.specs.declared.arrive_text.Stand.{Stand}
 use Rattle.arrivals.proofs.CallLaws.{end_kept}
-use borrow.Author.Rules.{rules}
 use Rattle.arrivals.proofs.arrive_text.end.Goals as goal
 
 pub returns : goal.returns

@@ -1,9 +1,5 @@
-use Prim.Native.Nat.{◌-◌}
 use native.Mathlib.Omega.{arith}
-use mathlib.Core.Path.{◌≡◌, refl}
-use lib.Dec.{leb}
-use lib.ListN.{length, drop}
-use Rattle.arrivals.specs.Texts.{sum_of}
+use mathlib.Core.Path.{refl}
 use Rattle.arrivals.proofs.TextLaws.{fit_off, fit_on, fit_ends}
 use borrow.Author.Rules.{rules}
 use Rattle.arrivals.proofs.arrive_text.fit.Goals as goal

@@ -1,11 +1,8 @@
 use Prim.Native.Nat.{◌-◌}
-use native.Mathlib.Omega.{arith}
-use mathlib.Core.Path.{◌≡◌, refl}
+use mathlib.Core.Path.{◌≡◌}
 use lib.Dec.{leb}
 use lib.ListN.{length, drop}
 use Rattle.arrivals.specs.Texts.{sum_of}
-use Rattle.arrivals.proofs.TextLaws.{fit_off, fit_on, fit_ends}
-use borrow.Author.Rules.{rules}
 use Rattle.arrivals.proofs.arrive_text.fit.Given as goal
 
 abbrev pub invariant-loop-i : goal.invariant-loop-i

@@ -12,7 +12,6 @@ use Rattle.arrivals.specs.Arrives.{piece_text}
 use Rattle.arrivals.specs.inner.Stands.{next_by}
 use Rattle.arrivals.proofs.CallLaws.{piece_said}
 use Rattle.arrivals.proofs.TurnLaws.{next_says}
-use borrow.Author.Rules.{rules}
 use Rattle.arrivals.proofs.arrive_text.piece.Goals as goal
 
 pub returns : goal.returns

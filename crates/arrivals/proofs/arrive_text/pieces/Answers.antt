@@ -1,14 +1,12 @@
-use Prim.Native.Nat.{ℕ, ◌+◌, ◌-◌, ◌≤◌}
+use Prim.Native.Nat.{ℕ}
 use native.Mathlib.Omega.{arith}
-use mathlib.Core.List.{List, []}
-use mathlib.Core.Path.{◌≡◌, refl, ap, ◌∙◌}
-use lib.ListN.{length, take, drop}
+use mathlib.Core.List.{List}
+use mathlib.Core.Path.{refl, ap, ◌∙◌}
+use lib.ListN.{length}
 use Rattle.lines.specs.Out.{put}
-use Rattle.pieces.specs.Pieces.{begun}
 use Rattle.rows.specs.Rows.{room_of}
-use Rattle.arrivals.specs.Texts.{sum_of, pieces_of, answers_from}
 use Rattle.arrivals.specs.declared.arrive_text.Stand.{Stand}
-use Rattle.arrivals.proofs.TextLaws.{left_text, left_starts, sum_front, cuts_fit, left_goes, left_ends}
+use Rattle.arrivals.proofs.TextLaws.{left_starts, sum_front, cuts_fit, left_goes, left_ends}
 use borrow.Author.Rules.{rules}
 use Rattle.arrivals.proofs.arrive_text.pieces.Goals as goal
 

@@ -1,15 +1,12 @@
-use Prim.Native.Nat.{ℕ, ◌+◌, ◌-◌, ◌≤◌}
-use native.Mathlib.Omega.{arith}
-use mathlib.Core.List.{List, []}
-use mathlib.Core.Path.{◌≡◌, refl, ap, ◌∙◌}
+use Prim.Native.Nat.{◌+◌, ◌-◌, ◌≤◌}
+use mathlib.Core.List.{[]}
+use mathlib.Core.Path.{◌≡◌}
 use lib.ListN.{length, take, drop}
 use Rattle.lines.specs.Out.{put}
 use Rattle.pieces.specs.Pieces.{begun}
 use Rattle.rows.specs.Rows.{room_of}
 use Rattle.arrivals.specs.Texts.{sum_of, pieces_of, answers_from}
-use Rattle.arrivals.specs.declared.arrive_text.Stand.{Stand}
-use Rattle.arrivals.proofs.TextLaws.{left_text, left_starts, sum_front, cuts_fit, left_goes, left_ends}
-use borrow.Author.Rules.{rules}
+use Rattle.arrivals.proofs.TextLaws.{left_text}
 use Rattle.arrivals.proofs.arrive_text.pieces.Given as goal
 
 abbrev pub invariant-loop-i : goal.invariant-loop-i

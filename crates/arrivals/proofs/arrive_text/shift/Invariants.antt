@@ -1,11 +1,7 @@
-use Prim.Native.Nat.{ℕ, ◌+◌, ◌-◌, ◌≤◌}
-use native.Mathlib.Omega.{arith}
-use mathlib.Core.List.{List}
-use mathlib.Core.Path.{◌≡◌, refl, ap, ◌∙◌}
-use lib.ListN.{length, get_or, take, drop, set}
+use Prim.Native.Nat.{◌-◌, ◌≤◌}
+use mathlib.Core.Path.{◌≡◌}
+use lib.ListN.{length, take, drop}
 use Rattle.lines.specs.Over.{over}
-use Rattle.lines.proofs.Laws.{shift_more}
-use borrow.Author.Rules.{rules}
 use Rattle.arrivals.proofs.arrive_text.shift.Given as goal
 
 abbrev pub invariant-loop-i : goal.invariant-loop-i

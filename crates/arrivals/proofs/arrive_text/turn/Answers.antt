@@ -2,7 +2,6 @@ use lib.ListN.{length}
 use Rattle.rows.specs.Rows.{room_of}
 use Rattle.arrivals.specs.declared.arrive_text.Stand.{Stand}
 use Rattle.arrivals.proofs.TurnLaws.{turned_said, turned}
-use borrow.Author.Rules.{rules}
 use Rattle.arrivals.proofs.arrive_text.turn.Goals as goal
 
 pub returns : goal.returns

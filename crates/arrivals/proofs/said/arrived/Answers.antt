@@ -2,7 +2,6 @@ use mathlib.Core.Path.{ap, ◌∙◌}
 use Rattle.lines.specs.Out.{put}
 use Rattle.pieces.specs.declared.state.Ended.{Ended}
 use Rattle.arrivals.specs.inner.Says.{ended_text}
-use borrow.Author.Rules.{rules}
 use Rattle.arrivals.proofs.said.arrived.Goals as goal
 
 pub returns : goal.returns

@@ -1,7 +1,6 @@
 use mathlib.Core.Path.{ap, ◌∙◌}
 use Rattle.pieces.specs.declared.state.Ended.{Ended}
 use Rattle.arrivals.specs.inner.Says.{is_clean}
-use borrow.Author.Rules.{rules}
 use Rattle.arrivals.proofs.said.arrived_clean.Goals as goal
 
 pub returns : goal.returns

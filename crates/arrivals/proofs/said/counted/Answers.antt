@@ -2,7 +2,6 @@ use Rattle.lines.proofs.OutLaws.{then}
 use Rattle.lines.specs.Decimal.{decimal}
 use Rattle.show.specs.Readings.{tape_text}
 use Rattle.arrivals.specs.inner.Says.{counted_text}
-use borrow.Author.Rules.{rules}
 use Rattle.arrivals.proofs.said.counted.Goals as goal
 
 pub returns : goal.returns

@@ -2,7 +2,6 @@ use mathlib.Core.Path.{sym, ap, ◌∙◌}
 use Rattle.lines.specs.Out.{put}
 use Rattle.pieces.specs.declared.state.Ended.{Ended}
 use Rattle.arrivals.specs.inner.Says.{ended_text}
-use borrow.Author.Rules.{rules}
 use Rattle.arrivals.proofs.said.ended.Goals as goal
 
 pub returns-in-Given : goal.returns-in-Given

@@ -4,7 +4,6 @@ use lib.ListN.{length, drop}
 use Rattle.lent.specs.Marks.{mark_at, kept_from}
 use Rattle.rows.specs.Rows.{room_of, width}
 use Rattle.arrivals.specs.inner.Says.{is_clean}
-use borrow.Author.Rules.{rules}
 use Rattle.arrivals.proofs.said.ended_clean.Goals as goal
 
 pub returns : goal.returns

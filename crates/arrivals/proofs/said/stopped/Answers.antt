@@ -2,7 +2,6 @@ use mathlib.Core.List.{◌∷◌}
 use Rattle.lines.proofs.OutLaws.{put_behind, then}
 use Rattle.show.specs.Answers.{refused_text}
 use Rattle.arrivals.specs.inner.Says.{counted_text, stopped_text}
-use borrow.Author.Rules.{rules}
 use Rattle.arrivals.proofs.said.stopped.Goals as goal
 
 pub returns : goal.returns

@@ -1,5 +1,4 @@
 use Rattle.arrivals.proofs.StateLaws.{bytes_none, bytes_some}
-use borrow.Author.Rules.{rules}
 use Rattle.arrivals.proofs.states.bytes.Goals as goal
 
 pub returns-then-s-eq0 : goal.returns-then-s-eq0

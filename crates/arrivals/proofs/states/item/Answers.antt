@@ -1,7 +1,6 @@
 use Rattle.lines.proofs.OutLaws.{put_behind}
 use Rattle.lines.specs.Decimal.{decimal}
 use Rattle.arrivals.specs.States.{item_text}
-use borrow.Author.Rules.{rules}
 use Rattle.arrivals.proofs.states.item.Goals as goal
 
 pub returns : goal.returns

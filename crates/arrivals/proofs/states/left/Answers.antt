@@ -2,7 +2,6 @@ use mathlib.Core.Path.{sym, ap, ◌∙◌}
 use Rattle.lines.specs.Out.{put}
 use Rattle.pieces.specs.declared.state.Arrived.{Arrived}
 use Rattle.arrivals.specs.inner.Says.{leaves_text}
-use borrow.Author.Rules.{rules}
 use Rattle.arrivals.proofs.states.left.Goals as goal
 
 pub returns-in-Given : goal.returns-in-Given

@@ -2,7 +2,6 @@ use mathlib.Core.Path.{sym, ap, ◌∙◌}
 use Rattle.gaps.specs.declared.state.Open.{Open}
 use Rattle.lines.specs.Out.{put}
 use Rattle.arrivals.specs.States.{open_text}
-use borrow.Author.Rules.{rules}
 use Rattle.arrivals.proofs.states.opened.Goals as goal
 
 pub returns-in-Clear : goal.returns-in-Clear

@@ -1,5 +1,4 @@
 use Rattle.arrivals.proofs.StateLaws.{stands_said}
-use borrow.Author.Rules.{rules}
 use Rattle.arrivals.proofs.states.stands.Goals as goal
 
 pub returns : goal.returns

@@ -5,7 +5,6 @@ use Rattle.lines.specs.Decimal.{decimal}
 use Rattle.pieces.specs.declared.state.Arrival.{Arrival}
 use Rattle.text.specs.declared.refusal.Refusal.{Refusal}
 use Rattle.arrivals.specs.States.{item_text, three_text, open_text, state_text}
-use borrow.Author.Rules.{rules}
 use Rattle.arrivals.proofs.states.state.Goals as goal
 
 pub returns : goal.returns

@@ -1,6 +1,5 @@
 use mathlib.Core.Path.{◌∙◌, ap, sym}
 use Rattle.arrivals.specs.States.{spoken_by}
-use borrow.Author.Rules.{rules}
 use Rattle.arrivals.proofs.states.state_of.Goals as goal
 
 pub returns-in-State : goal.returns-in-State

@@ -1,7 +1,6 @@
 use mathlib.Core.List.{◌++◌}
 use Rattle.lines.proofs.OutLaws.{then}
 use Rattle.arrivals.specs.States.{item_text, three_text}
-use borrow.Author.Rules.{rules}
 use Rattle.arrivals.proofs.states.three.Goals as goal
 
 pub returns : goal.returns
