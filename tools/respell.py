@@ -20,7 +20,7 @@ RULESET = re.compile(HEAD + r"ruleset (\S+)")
 COMMENT = re.compile(r"(?m)(?<!\S)--(?=\s|$).*$|(?<!\S)-- -+.*$")
 CAMEL = re.compile(r"(?<=[a-z0-9'])[A-Z]")
 LIBRARY = re.compile(r"(?m)^ *(?:pub )?use (?:mathlib|Prim|native|lib|borrow|denote|mir|sep|logic|Rattle\.(?:std|core|io|libc|check)\b)[^\n{]*\{([^}]*)\}")
-RT_COMMENT_OR_TEXT = re.compile(r"""//[^\n]*|b?'(?:\\x[0-9a-fA-F]{2}|\\u\{[^}]*\}|\\.|[^'\\\n])'|b?"(?:\\.|[^"\\])*\"""")
+RT_COMMENT_OR_TEXT = re.compile(r"""//[^\n]*|b?'(?:\\x[0-9a-fA-F]{2}|\\u\{[^}]*\}|\\.|[^'\\\n])'|b?"(?:\\[\s\S]|[^"\\])*\"""")
 HERE = os.path.dirname(os.path.abspath(__file__))
 TABLE = os.path.join(HERE, "spelling.tsv")
 

@@ -10,7 +10,7 @@
 --     Repairs       repair; the third demand
 --     Arrivals      begin, piece, finish: a text that arrives; 30
 --     Hosts         the interface for C: nothing of an answer is cut off
--- Demand 1: `refused-read`, `refused-decoded`, `refused-walk`, `refused-repair`, `refused-integers`; the other calls are lent nothing to write, or say what they write in their contract. Demand 2: what is said of each call. Demand 3: `repair-as-read`. In both a
+-- Demand 1: `refused_read`, `refused_decoded`, `refused_walk`, `refused_repair`, `refused_integers`; the other calls are lent nothing to write, or say what they write in their contract. Demand 2: what is said of each call. Demand 3: `repair_as_read`. In both a
 -- refusal is its number, place and reason. Each line is a theorem's statement; its proof only says where it is proved. Assumes nothing.
 use Prim.Native.Nat.{ℕ, ◌<◌, ◌≤◌}
 use mathlib.Core.Bool.{true}
@@ -58,7 +58,7 @@ pub no_char_front : (s : List ℕ) → (char_len s ≡ 0) ↔ ((c : ℕ) (t : Li
 no_char_front = characters.no_char_front
 
 -- A call goes past its front exactly when its text has at most 65,536 bytes and is UTF-8; 1 and 2 are given exactly in their cases (of each call:
--- `skip-front` and its like).
+-- `skip_front` and its like).
 pub text_fit : (text : List ℕ) → (judged_of text ≡ Fit) ↔ Sound text
 text_fit = texts-front.fit_exactly
 
@@ -74,7 +74,7 @@ place_fit = texts-front.place_exactly
 
 -- ---- the numbers, and the reason of an escape
 
--- No call gives 3: a refusal's number is 1, 2, one of 4 to 29, or 31 (`Given`), of every call (`skip-numbers` and its like).
+-- No call gives 3: a refusal's number is 1, 2, one of 4 to 29, or 31 (`Given`), of every call (`skip_numbers` and its like).
 pub never_3 : (r : Refusal) → Given r → r.number ≡ 3 → ⊥
 never_3 = never_three
 

@@ -54,7 +54,7 @@ use Rattle.given.proofs.Calls.{contents_given, decoded_given}
 pub escape_exactly : (m : Mode) (s : List ℕ) (v : Meant) (n : ℕ) → Says (escape_of m s) v n ↔ ((n ≤ length s) × Escape m s v (drop n s))
 escape_exactly = escapes.escape_exactly
 
--- 13 is given exactly where it is wrong for that reason, at that place (CR 1); the eighth reason is that of a byte literal (`byte-13`).
+-- 13 is given exactly where it is wrong for that reason, at that place (CR 1); the eighth reason is that of a byte literal (`byte_13`).
 pub escape_13 : (m : Mode) (s : List ℕ) (why : EscapeReason) (p : ℕ) → (escape_of m s ≡ NoEscape (invalid_escape why p)) ↔ Wrong m s why p
 escape_13 = reasons.escape_13
 
