@@ -15,7 +15,7 @@ fn counted(o: &mut [u8], at: usize, n: usize, tape: &[u32]) -> usize
     ensures { (o.new, result) ≡ put (o.old, at) (counted_text n tape.now) }
 {
     let a = out::number(o, at, n as u64);
-    show::reading::entries(o, a, tape, n, b';')
+    show::of_read::entries(o, a, tape, n, b';')
 }
 
 // The same, and a refusal behind them.

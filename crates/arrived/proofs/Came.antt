@@ -99,6 +99,8 @@ pub all-end : (o n : ℕ) (es es' : List Entry) (a a' : ℕ) → AllThere o n es
 unfolding end_of
 all-end o n [] [] a a' AllThere.none h = h
 all-end o n (e ∷ es) (f ∷ fs) a a' (AllThere.more m t) h = all-end o n es fs e.end f.end t m.end
+all-end o n [] (f ∷ fs) a a' x4 h = elim x4 [ ]
+all-end o n (e ∷ es) [] a a' x4 h = elim x4 [ ]
 
 -- ---- what is left of a text beside what is kept of it
 
@@ -487,6 +489,8 @@ module _ (at : ℕ) (rest : List ℕ) (part : ℕ) (k : GoesOn at rest part) whe
           let j : g + (a - first) ≡ a' - at = omega arith in
           let st : s ≡ t = es ∙ drop-drop (a - first) g (rest ++ y) ∙ ap (λ (n : ℕ). drop n (rest ++ y)) j ∙ sym et in
           subst (Same s) st (refl, refl)
+      left_same [] (h ∷ hs) x13 a a' s t p q lo es et = elim x13 [ ]
+      left_same (f ∷ fs) [] x9 a a' s t p q lo es et = elim x9 [ ]
 
       stand_by : (c c' : Coming) → (piece ron_reader bar_of (going first (drop g x)) v).next ≡ c → (piece ron_reader bar_of (going at x) v).next ≡ c'
           → ComingThere ron_reader bar_of 0 (at + before) c c' → Agrees (at + before) i (stands_at c) c'

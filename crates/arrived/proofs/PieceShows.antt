@@ -60,6 +60,8 @@ moved_gapped base (e ∷ es) (f ∷ fs) at (AllThere.more m t) =
     ap₂ (λ (k d : ℕ). record { kind = k; start = base + e.start; end = base + e.end; detail = d; gap = base + e.start - at }) (sym m.kind) (sym m.detail)
     ∙ ap₂ (λ (a b : ℕ). record { kind = f.kind; start = a; end = b; detail = f.detail; gap = a - at }) s n in
     ap₂ {C = List Entry} (λ (x : Entry) (xs : List Entry). x ∷ xs) one (ap (λ (i : ℕ). gapped i (map (moved_to base) es)) n ∙ moved_gapped base es fs f.end t)
+moved_gapped base [] (f ∷ fs) at x'' = elim x'' [ ]
+moved_gapped base (e ∷ es) [] at x3 = elim x3 [ ]
 
 -- a refusal at its place
 pub placed_there : (base : ℕ) (d c : Refusal) → RefusalThere 0 base d c → placed_behind base d ≡ c

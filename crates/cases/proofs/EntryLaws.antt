@@ -2,11 +2,10 @@
 use Prim.Native.Nat.{ℕ, ◌-◌, ◌^◌}
 use mathlib.Core.List.{List, [], ◌∷◌}
 use mathlib.Core.Path.{◌≡◌, sym, ap, ◌∙◌}
-use lib.ListN.{length, take}
+use lib.ListN.{length}
 use Rattle.lines.specs.Out.{put}
 use Rattle.lines.specs.Over.{over}
 use Rattle.show.specs.Answers.{bad_text}
-use Rattle.words.proofs.SaidLaws.{list_said}
 use Rattle.words.specs.Hex.{hex_in, pairs}
 use Rattle.words.specs.Number.{decimal_of}
 use Rattle.words.specs.Numbers.{numbers_in, numbers_of}

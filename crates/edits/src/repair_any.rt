@@ -68,8 +68,8 @@ fn repaired(
     let r = sarridok::repair(tape, q.count, q.old, q.a, q.b, text);
     match r {
         RepairAnswer::Repaired(n, before, behind) => {
-            let a = show::repair::counts(o, at, n, before, behind);
-            show::repair::numbers(o, a, &tape[..])
+            let a = show::of_repair::counts(o, at, n, before, behind);
+            show::of_repair::numbers(o, a, &tape[..])
         }
         RepairAnswer::Refused(f) => {
             let a = show::refused(o, at, f);

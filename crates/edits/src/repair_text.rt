@@ -71,8 +71,8 @@ fn repaired(
     let r = sarridok::repair(tape, q.count, q.old, q.a, q.b, new);
     match r {
         RepairAnswer::Repaired(n, before, behind) => {
-            let a = show::repair::counts(o, at, n, before, behind);
-            let b = show::reading::entries(o, a, &tape[..], n, b';');
+            let a = show::of_repair::counts(o, at, n, before, behind);
+            let b = show::of_read::entries(o, a, &tape[..], n, b';');
             show::clean(o, b, numbers::kept(&tape[..], written(n, q.count)))
         }
         RepairAnswer::Refused(f) => {

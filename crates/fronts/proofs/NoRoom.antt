@@ -1,7 +1,7 @@
 -- `decoded` gives 22 exactly where a string stands that decodes to more bytes than the buffer has. Assumes nothing.
 use Prim.Native.Nat.{ℕ, ◌<◌}
 use native.Mathlib.Omega.{arith}
-use mathlib.Core.Bool.{Bool, cond, true}
+use mathlib.Core.Bool.{Bool, cond}
 use mathlib.Core.List.{List}
 use mathlib.Core.Logic.{◌↔◌}
 use mathlib.Core.Path.{◌≡◌, ◌∙◌, ap, refl, sym}
@@ -9,10 +9,9 @@ use lib.Dec.{ltb}
 use lib.ListN.{drop}
 use borrow.Author.Tests.{lt-ltb, ltb-true}
 use Rattle.text.specs.Judged.{behind_judged, judged_of}
-use Rattle.text.specs.Refusals.{Told, accepted, no_room, placed_behind, refused}
+use Rattle.text.specs.Refusals.{Told, accepted, no_room, refused}
 use Rattle.text.specs.declared.judge.Judged.{Judged}
 use Rattle.text.specs.declared.judge.Judged.TheVariants.{Fit}
-use Rattle.text.specs.declared.refusal.Refusal.{Refusal}
 use Rattle.text.proofs.Choices.{cond_cases}
 use Rattle.strings.specs.declared.literal.LiteralAnswer.{LiteralAnswer}
 use Rattle.strings.specs.declared.literal.LiteralAnswer.TheVariants.{Read, Refused}

@@ -265,7 +265,6 @@ module _ (ks : List Kind) (ls : List ℕ) (run : Run [] 0 ks ls) where
   run_joined p (closing q e lo lt c f) =
       let z : q ≡ link_at ks ls p = sym e ∙ at_link p in
       closes (omega arith) (partners (ap (kind_at ks ls) (sym z) ∙ sym (at_kind q)) (sym (at_kind p)) c) (ap (link_at ks ls) (sym z) ∙ sym (at_link q) ∙ f)
-
   run_joined p (outer b x' _ _ _) = elim x' [ ]
 
   run_nested : length ls ≡ length ks → Nested ks ls

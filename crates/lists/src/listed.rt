@@ -4,7 +4,7 @@ ghost use Rattle.lines.specs.Out.{put};
 ghost use Rattle.sarridok.specs.Integers.{told_integers, done, integers_of};
 ghost use Rattle.lists.specs.Listed.{buffers_left, both_kept, called_text, list_text, most_for, room_for, list_in};
 
-use lent::{bytes, magnitudes as numbers};
+use lent::{bytes, magnitudes};
 use sarridok::IntegersAnswer;
 
 // What a line asks: how long the two buffers are, and how many entries the tape has.
@@ -29,7 +29,7 @@ fn first(s: &[u64], n: usize) -> &[u64]
 fn both_kept(magnitudes: &[u64], codes: &[u8], from: usize) -> bool
     ensures { result ≡ both_kept from (magnitudes.now, codes.now) }
 {
-    if !numbers::kept(magnitudes, from) {
+    if !magnitudes::kept(magnitudes, from) {
         return false;
     }
     bytes::kept(codes, from)
@@ -49,7 +49,7 @@ fn call(
     ensures codes_after { (magnitudes.new, codes.new) ≡ buffers_left text.now tape.now count items.now
         magnitudes.old codes.old }
 {
-    numbers::mark(magnitudes);
+    magnitudes::mark(magnitudes);
     bytes::mark(codes);
     sarridok::integers(text, tape, count, items, magnitudes, codes)
 }

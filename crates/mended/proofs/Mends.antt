@@ -1,8 +1,8 @@
 -- Every repair of a tape that `read` or `repair` left answers as `read` of the new text does. Assumes nothing.
 use Prim.Native.Nat.{ℕ, suc, ◌≤◌}
 use native.Mathlib.Omega.{arith}
-use mathlib.Core.Bool.{Bool, true, cond}
-use mathlib.Core.List.{List, [], ◌∷◌, ◌++◌}
+use mathlib.Core.Bool.{Bool}
+use mathlib.Core.List.{List, [], ◌∷◌}
 use mathlib.Core.Logic.{◌↔◌}
 use mathlib.Core.Path.{◌≡◌, ap, refl, subst, sym, ◌∙◌}
 use lib.ListN.{length, take}
@@ -10,11 +10,11 @@ use lib.Seq.{length-take-le, take_at}
 use Rattle.text.proofs.Choices.{cond_cases}
 use Rattle.text.specs.Refusals.{Told, accepted, refused}
 use Rattle.text.specs.declared.refusal.Refusal.{Refusal}
-use Rattle.rows.specs.Rows.{entries_of, laid, room_of}
+use Rattle.rows.specs.Rows.{entries_of, laid}
 use Rattle.rows.specs.declared.Entry.{Entry}
 use Rattle.reading.specs.Kept.{Replaced, are_moved, count_of, kept_before, kept_behind, last_of}
 use Rattle.reading.specs.Owed.{quiet_byte}
-use Rattle.reading.specs.Readings.{◌▸◌, complete, counted, entries}
+use Rattle.reading.specs.Readings.{counted, entries}
 use Rattle.reading.proofs.Entries.{entries_complete}
 use Rattle.reading.proofs.KeptLaws.{kept_behind_holds}
 use Rattle.read.proofs.AcceptedReads.{read_accepted}

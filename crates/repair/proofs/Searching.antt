@@ -13,7 +13,7 @@ use Rattle.repair.proofs.Leading.{lead_le, lead_more, lead_same, lead_skip}
 use Rattle.repair.specs.Repair.{joins, leading, moved_before, no_entry, scan_of, seek_of}
 use Rattle.repair.specs.inner.Steps.{met_of, seek_from, starts_before}
 use Rattle.repair.specs.declared.join.Scan.TheVariants.{Found, Refused}
-use Rattle.repair.specs.declared.search.Met.TheVariants.{At, Next}
+use Rattle.repair.specs.declared.seeking.Met.TheVariants.{At, Next}
 use Rattle.rows.specs.declared.Entry.{Entry}
 use Rattle.text.proofs.Choices.{either, lt_or_le}
 use Rattle.text.specs.declared.refusal.Refusal.{Refusal}

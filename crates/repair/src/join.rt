@@ -6,7 +6,7 @@ ghost use Rattle.tokens.specs.Ron.{ron_token};
 ghost use Rattle.repair.specs.Repair.{leading, scan_of};
 ghost use Rattle.repair.specs.inner.Steps.{starts_before};
 
-use crate::search::{Met, meet};
+use crate::seeking::{Met, meet};
 use text::Refusal;
 use text::refusal::placed_behind;
 use tokens::following::{Following, next_token};

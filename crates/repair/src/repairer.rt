@@ -10,7 +10,7 @@ use crate::check::repair_fits;
 use crate::join::{Scan, find_join};
 use crate::quiet_end::last_quiet;
 use crate::rewrite::{Rest, rewrite};
-use crate::search::{ends_before, resume_at};
+use crate::seeking::{ends_before, resume_at};
 use rows::row;
 use text::Refusal;
 

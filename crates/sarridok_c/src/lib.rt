@@ -1,4 +1,4 @@
-// The calls for hosts in C and Rust (`rt staticlib sarridok_c`, header bindings/c/sarridok.h): document 01's calls over numbers and slices, the answer
+// The calls for hosts in C and Rust (crate sarridok_archive hands them out, header bindings/c/sarridok.h): document 01's calls over numbers and slices, the answer
 // packed into one number.
 //
 // Each promise is the call's own definition, packed (specs/Packed): the top bit for a refusal, its reason, number and place. A refused call writes nothing

@@ -5,11 +5,11 @@ pub mod contents;
 pub mod hex;
 pub mod integer;
 pub mod many;
-pub mod reading;
-pub mod repair;
+pub mod of_read;
+pub mod of_repair;
+pub mod of_walk;
 pub mod skip;
 pub mod struct_kind;
-pub mod walk;
 
 ghost use Rattle.std.specs.Prelude.{◌≡◌};
 ghost use Rattle.lines.specs.Out.{put};

@@ -20,7 +20,6 @@ use Rattle.stored.proofs.StoreLaws.{low_low, stored_long}
 use Rattle.stored.specs.Numbers.{gap_number, gap_of, last_number, level_number, low, numbers_of, state_by, state_of, stored_in}
 use Rattle.stored.specs.declared.states.Gap.{Gap}
 use Rattle.stored.specs.declared.states.Gap.TheVariants as gap
-use Rattle.stored.specs.declared.states.Stored.{Stored}
 use Rattle.stored.specs.declared.states.Stored.TheVariants as stored
 
 -- what is open

@@ -15,7 +15,7 @@ fn said(r: ReadAnswer, tape: &[u32], o: &mut [u8]) -> usize
     ensures { (o.new, result) ≡ put (o.old, 0) (said_text tape.now (told_read r)) }
 {
     match r {
-        ReadAnswer::Accepted(n) => show::reading::accepted(o, 0, n, tape, b'\n'),
+        ReadAnswer::Accepted(n) => show::of_read::accepted(o, 0, n, tape, b'\n'),
         ReadAnswer::Refused(f) => show::placed(o, 0, f),
     }
 }

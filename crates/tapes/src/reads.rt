@@ -29,7 +29,7 @@ fn read(text: &[u8], tape: &mut [u32], o: &mut [u8], at: usize) -> usize
 {
     numbers::mark(tape);
     let r = sarridok::read(text, tape);
-    let a = show::reading::read(o, at, r, &tape[..], b';');
+    let a = show::of_read::read(o, at, r, &tape[..], b';');
     let clean = numbers::kept(&tape[..], written(r));
     show::clean(o, a, clean)
 }

@@ -24,7 +24,7 @@ fn walked(text: &[u8], tape: &[u32], q: Asked, links: &mut [u32], o: &mut [u8], 
     let answer = sarridok::walk(text, tape, q.count, q.limit, links);
     match answer {
         WalkAnswer::Walked => {
-            let a = show::walk::links(o, at, list::first(&links[..], q.count));
+            let a = show::of_walk::links(o, at, list::first(&links[..], q.count));
             show::clean(o, a, numbers::kept(&links[..], q.count))
         }
         WalkAnswer::Refused(r) => {

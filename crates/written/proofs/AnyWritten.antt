@@ -20,7 +20,7 @@ use Rattle.integers.proofs.Suffixes.{from, from_all}
 use Rattle.integers.specs.Front.{front_of}
 use Rattle.integers.specs.Integer.{any_as, any_of, chosen_of, numeral_of, width_for}
 use Rattle.integers.specs.Range.{Reads}
-use Rattle.integers.specs.Width.{code_of, first_fit, limit_at, limit_of, suffix, suffix_of, widest, width_at}
+use Rattle.integers.specs.Width.{code_of, first_fit, limit_at, limit_of, suffix_of, widest, width_at}
 use Rattle.integers.specs.Words.{Word, first_of, ident_of}
 use Rattle.integers.specs.declared.integer.AnyInteger.TheVariants as any
 use Rattle.integers.specs.declared.integer.Numeral.{Numeral}

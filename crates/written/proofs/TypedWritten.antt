@@ -12,7 +12,7 @@ use borrow.Author.Tests.{eq-eqb, eqb-true, ne_eqb, not-false}
 use Rattle.text.proofs.Choices.{bool_cases, either}
 use Rattle.text.proofs.RunLaws.{run_le}
 use Rattle.text.specs.Classes.{int_char}
-use Rattle.text.specs.Refusals.{accepted, eof}
+use Rattle.text.specs.Refusals.{eof}
 use Rattle.text.specs.Runs.{run}
 use Rattle.digits.specs.Digits.{run_of}
 use Rattle.digits.specs.declared.Run.{Run}

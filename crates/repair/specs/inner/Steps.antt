@@ -8,8 +8,8 @@ use Rattle.tokens.specs.Ron.{ron_token}
 use Rattle.repair.specs.declared.rewrite.Rest.{Rest}
 use Rattle.rows.specs.declared.Entry.{Entry}
 use Rattle.repair.specs.Repair.{leading, seek_of, joins, no_entry, cleared, Repaired}
-use Rattle.repair.specs.declared.search.Met.{Met}
-use Rattle.repair.specs.declared.search.Met.TheVariants.{At, Next}
+use Rattle.repair.specs.declared.seeking.Met.{Met}
+use Rattle.repair.specs.declared.seeking.Met.TheVariants.{At, Next}
 
 -- The entries are in order, within some limit.
 abbrev pub InOrder : List Entry → Type 0

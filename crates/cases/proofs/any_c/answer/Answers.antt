@@ -12,7 +12,6 @@ use Rattle.words.specs.Numbers.{numbers_in, numbers_of}
 use Rattle.cases.specs.Contents.{any_line, contents_in}
 use Rattle.lines.proofs.LineLaws.{line4}
 use Rattle.cases.proofs.EntryLaws.{not_asked, no_text, no_tape, tape_line, said_same}
-use borrow.Author.Rules.{rules}
 use Rattle.cases.proofs.any_c.answer.Goals as goal
 
 pub returns-in_default : goal.returns-in_default

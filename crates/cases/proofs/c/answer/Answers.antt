@@ -12,7 +12,6 @@ use Rattle.words.specs.Small.{small_of}
 use Rattle.cases.specs.Contents.{asked, contents_line}
 use Rattle.lines.proofs.LineLaws.{line3}
 use Rattle.cases.proofs.EntryLaws.{entry_in, no_kind, no_start, no_bytes, entry_line, said_same}
-use borrow.Author.Rules.{rules}
 use Rattle.cases.proofs.c.answer.Goals as goal
 
 pub returns-in_default : goal.returns-in_default

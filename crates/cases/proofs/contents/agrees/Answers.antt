@@ -4,7 +4,6 @@ use Rattle.entries.specs.declared.view.ContentsAnswer.{ContentsAnswer}
 use Rattle.sarridok.specs.Contents.{part_of}
 use lib.ListN.{length}
 use borrow.Author.Tests.{eq-eqb}
-use borrow.Author.Rules.{rules}
 use Rattle.cases.proofs.contents.agrees.Goals as goal
 
 pub returns-in-Part : goal.returns-in-Part

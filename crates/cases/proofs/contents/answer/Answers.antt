@@ -1,7 +1,6 @@
 use Prim.Native.Nat.{ℕ}
 use mathlib.Core.List.{List}
 use Rattle.cases.proofs.ContentsLaws.{lent_part, lent_all}
-use borrow.Author.Rules.{rules}
 use Rattle.cases.proofs.contents.answer.Goals as goal
 
 pub returns-then-n-spare : goal.returns-then-n-spare

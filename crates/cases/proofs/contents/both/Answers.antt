@@ -3,7 +3,6 @@ use mathlib.Core.List.{List}
 use mathlib.Core.Path.{sym, ◌∙◌}
 use mathlib.Core.Bool.{true≢false}
 use Rattle.cases.proofs.ContentsLaws.{both_said}
-use borrow.Author.Rules.{rules}
 use Rattle.cases.proofs.contents.both.Goals as goal
 
 pub returns-then-calls_agree : goal.returns-then-calls_agree

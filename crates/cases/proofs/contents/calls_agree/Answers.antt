@@ -1,6 +1,5 @@
 use mathlib.Core.Path.{sym, ap, ◌∙◌}
 use Rattle.sarridok.specs.Contents.{part_of}
-use borrow.Author.Rules.{rules}
 use Rattle.cases.proofs.contents.calls_agree.Goals as goal
 
 pub agrees-requires : goal.agrees-requires

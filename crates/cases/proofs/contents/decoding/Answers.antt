@@ -1,7 +1,6 @@
 use Prim.Native.Nat.{ℕ}
 use mathlib.Core.List.{List}
 use Rattle.cases.proofs.ContentsLaws.{decoding_said}
-use borrow.Author.Rules.{rules}
 use Rattle.cases.proofs.contents.decoding.Goals as goal
 
 pub returns : goal.returns

@@ -1,6 +1,5 @@
 use native.Mathlib.Omega.{arith}
 use Rattle.cases.specs.Contents.{most_for}
-use borrow.Author.Rules.{rules}
 use Rattle.cases.proofs.contents.most_for.Goals as goal
 
 pub returns-then-text-lt65536 : goal.returns-then-text-lt65536

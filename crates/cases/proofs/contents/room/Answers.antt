@@ -1,6 +1,5 @@
 use native.Mathlib.Omega.{arith}
 use Rattle.cases.specs.Contents.{room_for}
-use borrow.Author.Rules.{rules}
 use Rattle.cases.proofs.contents.room.Goals as goal
 
 pub returns-then-buffer-most : goal.returns-then-buffer-most

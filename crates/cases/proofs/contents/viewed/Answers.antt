@@ -1,7 +1,6 @@
 use Prim.Native.Nat.{ℕ}
 use mathlib.Core.List.{List}
 use Rattle.cases.proofs.ContentsLaws.{view_said}
-use borrow.Author.Rules.{rules}
 use Rattle.cases.proofs.contents.viewed.Goals as goal
 
 pub returns : goal.returns

@@ -13,7 +13,6 @@ use Rattle.sarridok.specs.Typed.{integer_of}
 use Rattle.show.specs.Integers.{typed_text}
 use Rattle.cases.specs.Integers.{integer_line}
 use Rattle.cases.proofs.IntegerLaws.{integer_bad, integer_at}
-use borrow.Author.Rules.{rules}
 use Rattle.cases.proofs.i.answer.Goals as goal
 
 pub returns-in_default : goal.returns-in_default

@@ -13,7 +13,6 @@ use Rattle.sarridok.specs.StructKind.{struct_kind_of}
 use Rattle.show.specs.StructKinds.{kind_text}
 use Rattle.cases.specs.Kinds.{kind_line}
 use Rattle.cases.proofs.KindLaws.{kind_bad, kind_at}
-use borrow.Author.Rules.{rules}
 use Rattle.cases.proofs.k.answer.Goals as goal
 
 pub returns-in_default : goal.returns-in_default

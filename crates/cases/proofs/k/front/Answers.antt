@@ -5,7 +5,6 @@ use Rattle.words.specs.Number.{decimal_of}
 use Rattle.words.specs.Split.{first_word, behind_word}
 use Rattle.words.proofs.DecidedLaws.{said}
 use Rattle.cases.proofs.KindLaws.{no_newtype, no_tuple, no_place, modes_at}
-use borrow.Author.Rules.{rules}
 use Rattle.cases.proofs.k.front.Goals as goal
 
 pub returns-in_default : goal.returns-in_default

@@ -15,7 +15,6 @@ use Rattle.sarridok.specs.Skip.{skip_of}
 use Rattle.show.specs.Skips.{moved_text}
 use Rattle.cases.specs.Skips.{length_of, skip_line}
 use Rattle.cases.proofs.SkipLaws.{no_cursor, no_pre, no_length, skip_at}
-use borrow.Author.Rules.{rules}
 use Rattle.cases.proofs.s.answer.Goals as goal
 
 pub returns-in_default : goal.returns-in_default

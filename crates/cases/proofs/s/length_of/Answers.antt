@@ -1,6 +1,5 @@
 use mathlib.Core.Path.{◌∙◌}
 use Rattle.cases.proofs.ByteLaws.{length_mark, length_number}
-use borrow.Author.Rules.{rules}
 use Rattle.cases.proofs.s.length_of.Goals as goal
 
 pub returns-then-same : goal.returns-then-same

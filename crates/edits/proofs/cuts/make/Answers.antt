@@ -3,7 +3,6 @@ use native.Mathlib.Omega.{arith}
 use mathlib.Core.Path.{ap, ◌∙◌}
 use Rattle.edits.specs.Moves.{moved}
 use Rattle.edits.proofs.MoveLaws.{made}
-use borrow.Author.Rules.{rules}
 use Rattle.edits.proofs.cuts.make.Goals as goal
 
 pub overflow_add-first : goal.overflow_add-first

@@ -1,10 +1,7 @@
 use Prim.Native.Nat.{◌-◌}
-use native.Mathlib.Omega.{arith}
-use mathlib.Core.Path.{◌≡◌, refl, sym, ◌∙◌}
+use mathlib.Core.Path.{◌≡◌}
 use lib.ListN.{length}
-use borrow.Author.Rules.{rules}
 use Rattle.edits.specs.Moves.{moved}
-use Rattle.edits.proofs.MoveLaws.{moved_out, moved_on, moved_ends}
 use Rattle.edits.proofs.cuts.put.Given as goal
 
 abbrev pub invariant-loop-i : goal.invariant-loop-i

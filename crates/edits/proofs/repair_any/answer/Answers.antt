@@ -3,7 +3,6 @@ use Rattle.words.specs.Split.{first_word, behind_word}
 use Rattle.edits.specs.Repairs.{any_line}
 use Rattle.edits.proofs.LineLaws.{answered}
 use Rattle.edits.proofs.AnyLaws.{line_1, line_2, line_3, line_repaired}
-use borrow.Author.Rules.{rules}
 use Rattle.edits.proofs.repair_any.answer.Goals as goal
 
 pub returns-in_default : goal.returns-in_default

@@ -2,7 +2,6 @@ use mathlib.Core.Path.{ap, ◌∙◌}
 use Rattle.words.specs.Split.{first_word, behind_word}
 use Rattle.edits.proofs.LineLaws.{said}
 use Rattle.edits.proofs.AnyLaws.{front_1, front_2, front_3, front_4, front_5}
-use borrow.Author.Rules.{rules}
 use Rattle.edits.proofs.repair_any.front.Goals as goal
 
 pub returns-in_default : goal.returns-in_default

@@ -1,7 +1,6 @@
 use Prim.Native.Nat.{◌-◌}
 use native.Mathlib.Omega.{arith}
 use Rattle.edits.proofs.AnyLaws.{lent_part, lent_all}
-use borrow.Author.Rules.{rules}
 use Rattle.edits.proofs.repair_any.lent.Goals as goal
 
 pub returns-then-k-tape : goal.returns-then-k-tape

@@ -1,5 +1,4 @@
 use Rattle.edits.proofs.AnyLaws.{any_accepted, any_refused}
-use borrow.Author.Rules.{rules}
 use Rattle.edits.proofs.repair_any.repaired.Goals as goal
 
 pub returns-in-Repaired : goal.returns-in-Repaired

@@ -7,7 +7,6 @@ use Rattle.words.specs.Split.{first_word, behind_word}
 use Rattle.edits.specs.Repairs.{text_line}
 use Rattle.edits.proofs.LineLaws.{answered}
 use Rattle.edits.proofs.CutLaws.{hex_fits, text_1, text_2, text_3}
-use borrow.Author.Rules.{rules}
 use Rattle.edits.proofs.repair_text.answer.Goals as goal
 
 pub returns-in_default : goal.returns-in_default

@@ -1,6 +1,5 @@
 use Rattle.text.proofs.Lists.{tail_part}
 use Rattle.edits.proofs.CutLaws.{behind_read}
-use borrow.Author.Rules.{rules}
 use Rattle.edits.proofs.repair_text.bytes_behind.Goals as goal
 
 pub returns : goal.returns

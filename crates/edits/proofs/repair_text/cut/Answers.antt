@@ -5,7 +5,6 @@ use lib.ListN.{length, take}
 use Rattle.edits.specs.Repairs.{cut_line}
 use Rattle.edits.proofs.LineLaws.{answered}
 use Rattle.edits.proofs.CutLaws.{cut_1, cut_2, cut_3, cut_4, cut_5, cut_fits, made_there, cut_made}
-use borrow.Author.Rules.{rules}
 use Rattle.edits.proofs.repair_text.cut.Goals as goal
 
 pub returns-then-b-a : goal.returns-then-b-a

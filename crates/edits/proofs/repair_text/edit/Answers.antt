@@ -6,7 +6,6 @@ use lib.ListN.{take, drop}
 use Rattle.edits.specs.Repairs.{edit_in}
 use Rattle.edits.proofs.LineLaws.{done}
 use Rattle.edits.proofs.TextLaws.{edit_same}
-use borrow.Author.Rules.{rules}
 use Rattle.edits.proofs.repair_text.edit.Goals as goal
 
 pub returns : goal.returns

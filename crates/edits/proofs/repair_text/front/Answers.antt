@@ -2,7 +2,6 @@ use mathlib.Core.Path.{ap, ◌∙◌}
 use Rattle.words.specs.Split.{first_word}
 use Rattle.edits.proofs.LineLaws.{said}
 use Rattle.edits.proofs.CutLaws.{ends_1, ends_2, ends_3}
-use borrow.Author.Rules.{rules}
 use Rattle.edits.proofs.repair_text.front.Goals as goal
 
 pub returns-in_default : goal.returns-in_default

@@ -1,7 +1,6 @@
 use Prim.Native.Nat.{◌-◌}
 use native.Mathlib.Omega.{arith}
 use Rattle.edits.proofs.TextLaws.{edit_part, edit_all}
-use borrow.Author.Rules.{rules}
 use Rattle.edits.proofs.repair_text.lent_to.Goals as goal
 
 pub returns-then-k-tape : goal.returns-then-k-tape

@@ -5,7 +5,6 @@ use Rattle.show.specs.Answers.{refused_text}
 use Rattle.edits.specs.Repairs.{read_repair}
 use Rattle.edits.proofs.LineLaws.{done}
 use Rattle.edits.proofs.TextLaws.{told-read}
-use borrow.Author.Rules.{rules}
 use Rattle.edits.proofs.repair_text.read.Goals as goal
 
 pub returns-in-Accepted : goal.returns-in-Accepted

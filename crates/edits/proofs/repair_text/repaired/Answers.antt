@@ -1,5 +1,4 @@
 use Rattle.edits.proofs.TextLaws.{text_accepted, text_refused}
-use borrow.Author.Rules.{rules}
 use Rattle.edits.proofs.repair_text.repaired.Goals as goal
 
 pub returns-in-Repaired : goal.returns-in-Repaired

@@ -2,7 +2,6 @@ use Prim.Native.Nat.{◌+◌, ℕ}
 use native.Mathlib.Omega.{arith}
 use Rattle.edits.proofs.TextLaws.{room_some, room_most}
 use mathlib.Core.Path.{◌∙◌, ap}
-use borrow.Author.Rules.{rules}
 use Rattle.edits.proofs.repair_text.room.Goals as goal
 
 pub begins-requires : goal.begins-requires

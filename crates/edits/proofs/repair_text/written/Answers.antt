@@ -1,7 +1,6 @@
 use mathlib.Core.Path.{◌∙◌}
 use native.Mathlib.Omega.{arith}
 use Rattle.edits.proofs.TextLaws.{changed_some, changed_none}
-use borrow.Author.Rules.{rules}
 use Rattle.edits.proofs.repair_text.written.Goals as goal
 
 pub begins-requires : goal.begins-requires

@@ -11,5 +11,3 @@ returns-then-s-eq0 c = sym (wide_nil c.args.s.now c.if-s-eq0.true)
 pub returns : goal.returns
 unfolding wide_ahead
 returns c = search rules
-
-

@@ -19,7 +19,7 @@ unfolding is_given
 returns-then-taken-r c =
     let n = c.args.r.number in
     let h : (within 1 21 n || eqb n 30) ≡ true = elim c.if-not-is_within.branch [
-      then-not-is_within+else-r-ne-ENTRY_TOO_LONG w ↦ given_thirty n w.if-r-ne-ENTRY_TOO_LONG.false
+      | then-not-is_within+else-r-ne-ENTRY_TOO_LONG w ↦ given_thirty n w.if-r-ne-ENTRY_TOO_LONG.false
       | else-not-is_within w ↦ given_within n _ c.is_within.ensures (ap not w.if-not-is_within.false)
     ] in
     simp (h, lt-leb _ _ c.if-taken-r.true)
@@ -29,7 +29,7 @@ unfolding is_given
 returns c =
     let n = c.args.r.number in
     let h : (within 1 21 n || eqb n 30) ≡ true = elim c.if-not-is_within.branch [
-      then-not-is_within+else-r-ne-ENTRY_TOO_LONG w ↦ given_thirty n w.if-r-ne-ENTRY_TOO_LONG.false
+      | then-not-is_within+else-r-ne-ENTRY_TOO_LONG w ↦ given_thirty n w.if-r-ne-ENTRY_TOO_LONG.false
       | else-not-is_within w ↦ given_within n _ c.is_within.ensures (ap not w.if-not-is_within.false)
     ] in
     c.reason_fits.ensures ∙ sym (simp (h, le-leb _ _ c.if-taken-r.false))

@@ -8,10 +8,10 @@ use borrow.Author.Rules.{rules}
 use Rattle.sarridok_c.proofs.integer_c.sarridok_integer.Goals as goal
 
 pub returns-then-width-lt1 : goal.returns-then-width-lt1
-returns-then-width-lt1 c = rw (width_low c.args.text.now c.args.place c.args.width c.if-width-lt1.true) (c.refused.ensures ∙ ap refusal_word c.unfit_in.ensures, refl)
+returns-then-width-lt1 c = rw (width_low c.args.text.now c.args.place c.args.width c.if-width-lt1.true) (record { answer = c.refused.ensures ∙ ap refusal_word c.unfit_in.ensures; number = refl })
 
 pub returns-then-width-gt8 : goal.returns-then-width-gt8
-returns-then-width-gt8 c = rw (width_high c.args.text.now c.args.place c.args.width c.if-width-gt8.true) (c.refused-then-width-gt8.ensures ∙ ap refusal_word c.unfit_in-then-width-gt8.ensures, refl)
+returns-then-width-gt8 c = rw (width_high c.args.text.now c.args.place c.args.width c.if-width-gt8.true) (record { answer = c.refused-then-width-gt8.ensures ∙ ap refusal_word c.unfit_in-then-width-gt8.ensures; number = refl })
 
 pub returns : goal.returns
 returns c =

@@ -5,4 +5,9 @@ use borrow.Author.Rules.{rules}
 use Rattle.sarridok_c.proofs.integers_c.sarridok_integers.Goals as goal
 
 pub returns : goal.returns
-returns c = (c.word.ensures ∙ ap (packed done_word) c.integers.ensures.answer, c.integers.ensures.1)
+returns c =
+    record {
+      answer = c.word.ensures ∙ ap (packed done_word) c.integers.ensures.answer;
+      magnitudes = c.integers.ensures.magnitudes;
+      codes = c.integers.ensures.codes;
+    }

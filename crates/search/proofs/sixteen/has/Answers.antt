@@ -20,7 +20,7 @@ unfolding other
 loop-k-preserved c = (
   search rules,
   elim c.if-s-at.branch [
-    then-s-at w ↦ w.found-is ∙ sym (found_now (other c.args.b) c.args.s.now c.args.at c.loop-k.k (search rules) (simp (eq-eqb _ _ w.if-s-at.true)))
+    | then-s-at w ↦ w.found-is ∙ sym (found_now (other c.args.b) c.args.s.now c.args.at c.loop-k.k (search rules) (simp (eq-eqb _ _ w.if-s-at.true)))
     | else-s-at w ↦ w.found-is ∙ c.loop-k.invariant.1 ∙ sym (found_before (other c.args.b) c.args.s.now c.args.at c.loop-k.k (search rules) (simp (ne_eqb _ _ w.if-s-at.false)))
   ],
 )

@@ -1,6 +1,5 @@
 use borrow.Author.Tests.{eq-eqb, ne_eqb, lt-ltb, le-ltb}
 use Rattle.stored.specs.Numbers.{gap_of}
-use borrow.Author.Rules.{rules}
 use Rattle.stored.proofs.states.gap_of.Goals as goal
 
 pub returns-then-last-gt255 : goal.returns-then-last-gt255

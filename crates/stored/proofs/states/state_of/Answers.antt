@@ -1,7 +1,6 @@
 use Prim.Native.Nat.{ℕ}
 use mathlib.Core.List.{List}
 use Rattle.stored.proofs.StateLaws.{gap-in, no_gap, no_number, no_reason, state_known}
-use borrow.Author.Rules.{rules}
 use Rattle.stored.proofs.states.state_of.Goals as goal
 
 pub returns-in_default : goal.returns-in_default

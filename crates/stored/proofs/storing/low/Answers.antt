@@ -1,6 +1,5 @@
 use mathlib.Core.Path.{sym}
 use Rattle.stored.proofs.StoreLaws.{low_high, low_low}
-use borrow.Author.Rules.{rules}
 use Rattle.stored.proofs.storing.low.Goals as goal
 
 pub returns-then-n-gt-MOST : goal.returns-then-n-gt-MOST

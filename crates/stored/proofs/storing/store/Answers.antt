@@ -2,7 +2,6 @@ use mathlib.Core.Path.{refl}
 use native.Mathlib.Omega.{arith}
 use lib.ListN.{length-set}
 use Rattle.stored.proofs.StoreLaws.{stored_short, stored_ten}
-use borrow.Author.Rules.{rules}
 use Rattle.stored.proofs.storing.store.Goals as goal
 
 pub returns-then-state-lt-NUMBERS : goal.returns-then-state-lt-NUMBERS

@@ -22,5 +22,3 @@ returns c = c.behind_literal.ensures ∙ sym (past-byte-string c.args.s.now c.ar
 pub returns-in_default : goal.returns-in_default
 unfolding past_byte_string
 returns-in_default c = search rules
-
-

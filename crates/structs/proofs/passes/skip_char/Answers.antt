@@ -39,5 +39,3 @@ returns-in-Refused c =
 pub returns-in_default : goal.returns-in_default
 unfolding past_char
 returns-in_default c = search rules
-
-

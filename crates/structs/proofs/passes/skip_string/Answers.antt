@@ -22,5 +22,3 @@ returns c = c.behind_literal.ensures ∙ sym (past-string c.args.s.now c.args.fr
 pub returns-in_default : goal.returns-in_default
 unfolding past_string
 returns-in_default c = search rules
-
-

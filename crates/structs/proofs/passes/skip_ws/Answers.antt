@@ -58,5 +58,3 @@ returns-in-Refused c =
 pub returns-in_default : goal.returns-in_default
 unfolding past_gap
 returns-in_default c = search rules
-
-

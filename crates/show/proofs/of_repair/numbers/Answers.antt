@@ -7,7 +7,7 @@ use Rattle.lines.specs.Out.{put}
 use Rattle.lines.proofs.OutLaws.{put_behind}
 use Rattle.show.proofs.ShownLaws.{put_turn, put_done, numbers_behind, numbers-behind, numbers_front, numbers_end}
 use borrow.Author.Rules.{rules}
-use Rattle.show.proofs.repair.numbers.Goals as goal
+use Rattle.show.proofs.of_repair.numbers.Goals as goal
 
 pub loop-i-init : goal.loop-i-init
 loop-i-init c = (refl, refl, ap (put (c.args.o.now, c.args.at)) (numbers-behind c.args.s.now))

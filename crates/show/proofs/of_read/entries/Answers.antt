@@ -9,7 +9,7 @@ use Rattle.rows.specs.Rows.{room_of, entry_at}
 use Rattle.show.specs.Readings.{entry_text}
 use Rattle.show.proofs.ShownLaws.{put_turn, put_done, tape_left, tape_start, tape_front, tape_end}
 use borrow.Author.Rules.{rules}
-use Rattle.show.proofs.reading.entries.Goals as goal
+use Rattle.show.proofs.of_read.entries.Goals as goal
 
 pub loop-i-init : goal.loop-i-init
 loop-i-init c = (refl, ap (put (c.args.o.now, c.args.at)) (tape_start c.args.between c.args.tape.now c.args.n))

@@ -6,7 +6,7 @@ use Rattle.repair.proofs.Leading.{lead_le}
 use Rattle.repair.specs.Repair.{ends_before, leading}
 use Rattle.rows.proofs.RowLaws.{length_entries}
 use Rattle.rows.specs.Rows.{entries_of}
-use Rattle.repair.proofs.search.ends_before.Goals as goal
+use Rattle.repair.proofs.seeking.ends_before.Goals as goal
 
 pub loop-low-init : goal.loop-low-init
 loop-low-init c = (omega arith, omega (arith, lead_le (ends_before c.args.q) (entries_of c.args.count c.args.tape.now), length_entries c.args.count c.args.tape.now), omega arith)

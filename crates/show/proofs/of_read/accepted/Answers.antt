@@ -3,7 +3,7 @@ use Rattle.lines.proofs.OutLaws.{then}
 use Rattle.lines.specs.Ascii.{ascii}
 use Rattle.lines.specs.Decimal.{word_of}
 use Rattle.show.specs.Readings.{read_text, tape_text}
-use Rattle.show.proofs.reading.accepted.Goals as goal
+use Rattle.show.proofs.of_read.accepted.Goals as goal
 
 pub returns : goal.returns
 unfolding read_text

@@ -3,7 +3,7 @@ use mathlib.Core.Path.{◌∙◌, ap}
 use borrow.Author.Rules.{rules}
 use Rattle.repair.proofs.Rows.{end_none, end_row}
 use Rattle.rows.specs.declared.Entry.{Entry}
-use Rattle.repair.proofs.search.resume_at.Goals as goal
+use Rattle.repair.proofs.seeking.resume_at.Goals as goal
 
 pub returns-then-j-eq0 : goal.returns-then-j-eq0
 returns-then-j-eq0 c = end_none c.args.j c.args.tape.now c.if-j-eq0.true

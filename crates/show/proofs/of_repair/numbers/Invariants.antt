@@ -4,7 +4,7 @@ use lib.ListN.{length, drop}
 use Rattle.lines.specs.Out.{put}
 use Rattle.show.specs.Repairs.{numbers_text}
 use Rattle.show.proofs.ShownLaws.{numbers_behind}
-use Rattle.show.proofs.repair.numbers.Given as goal
+use Rattle.show.proofs.of_repair.numbers.Given as goal
 
 abbrev pub invariant-loop-i : goal.invariant-loop-i
 invariant-loop-i l = (l.i-end ≡ length l.s) × (length l.o ≡ length l.initial.o) × (put (l.o, l.to) (numbers_behind l.between (drop l.i l.s)) ≡ put (l.initial.o, l.at) (numbers_text l.s))

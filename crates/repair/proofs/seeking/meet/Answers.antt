@@ -6,7 +6,7 @@ use Rattle.repair.specs.Repair.{no_entry}
 use Rattle.rows.proofs.RowLaws.{entries_at, length_entries}
 use Rattle.rows.specs.Rows.{entries_of}
 use Rattle.rows.specs.declared.Entry.{Entry}
-use Rattle.repair.proofs.search.meet.Goals as goal
+use Rattle.repair.proofs.seeking.meet.Goals as goal
 
 pub returns-then-start-e : goal.returns-then-start-e
 returns-then-start-e c = meet_early (entries_of c.args.count c.args.tape.now) c.args.b c.args.e c.args.i c.args.gap c.args.start c.if-start-e.true

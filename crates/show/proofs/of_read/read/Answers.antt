@@ -4,7 +4,7 @@ use Rattle.read.specs.Read.{told_read}
 use Rattle.read.specs.declared.measure.ReadAnswer.{ReadAnswer}
 use Rattle.show.specs.Answers.{answer_text}
 use Rattle.show.specs.Readings.{read_text}
-use Rattle.show.proofs.reading.read.Goals as goal
+use Rattle.show.proofs.of_read.read.Goals as goal
 
 pub returns-in-Accepted : goal.returns-in-Accepted
 returns-in-Accepted c = c.accepted.ensures ∙ sym (ap (λ (x : ReadAnswer). put (c.args.o.now, c.args.at) (answer_text (read_text c.args.between c.args.tape.now) (told_read x))) c.in-Accepted.is)

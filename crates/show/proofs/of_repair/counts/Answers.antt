@@ -3,7 +3,7 @@ use Rattle.lines.specs.Ascii.{ascii}
 use Rattle.lines.specs.Decimal.{word_of}
 use Rattle.lines.proofs.OutLaws.{then}
 use Rattle.show.specs.Repairs.{counts_text}
-use Rattle.show.proofs.repair.counts.Goals as goal
+use Rattle.show.proofs.of_repair.counts.Goals as goal
 
 pub returns : goal.returns
 unfolding counts_text

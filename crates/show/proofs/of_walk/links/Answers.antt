@@ -7,7 +7,7 @@ use Rattle.lines.proofs.OutLaws.{then}
 use Rattle.show.specs.Walks.{words_text, links_text}
 use Rattle.show.proofs.ShownLaws.{put_turn, put_done, words_front, words_end}
 use borrow.Author.Rules.{rules}
-use Rattle.show.proofs.walk.links.Goals as goal
+use Rattle.show.proofs.of_walk.links.Goals as goal
 
 pub loop-i-init : goal.loop-i-init
 loop-i-init c = (refl, refl, refl)

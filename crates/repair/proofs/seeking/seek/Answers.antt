@@ -8,7 +8,7 @@ use Rattle.repair.proofs.Leading.{lead_end, lead_on, lead_out}
 use Rattle.repair.specs.Repair.{leading}
 use Rattle.repair.specs.inner.Steps.{seek_from, starts_before}
 use Rattle.rows.specs.Rows.{entries_of}
-use Rattle.repair.proofs.search.seek.Goals as goal
+use Rattle.repair.proofs.seeking.seek.Goals as goal
 
 pub loop-i-init : goal.loop-i-init
 loop-i-init c = (omega (arith, c.requires.1), refl)

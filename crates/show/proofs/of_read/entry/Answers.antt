@@ -9,7 +9,7 @@ use Rattle.rows.specs.Rows.{room_of, entry_at}
 use Rattle.rows.specs.declared.Entry.{Entry}
 use Rattle.show.specs.Readings.{entry_text}
 use Rattle.show.proofs.ShownLaws.{put_skipped, put_chosen}
-use Rattle.show.proofs.reading.entry.Goals as goal
+use Rattle.show.proofs.of_read.entry.Goals as goal
 
 pub returns-then-room-i : goal.returns-then-room-i
 returns-then-room-i c = put_skipped (c.args.o.now, c.args.at) c.args.i (room_of (length c.args.tape.now)) _ (omega (arith, c.room.ensures, c.if-room-i.true))
