@@ -200,15 +200,9 @@ lies_member p (a ∷ b ∷ []) c j w = absurd (omega (arith, w.there))
 lies_member p (a ∷ b ∷ k ∷ t) c zero w = rw (inside a b c w.from w.to, w.class)
 lies_member p (a ∷ b ∷ k ∷ t) c (suc j) w = or_second (within a b c && p k) (in_rows p t c) (lies_member p t c j (lies_next p a b k t c j w))
 
--- ---- a search goes on below a row that begins behind c, and above one that ends before it
+-- ---- behind a row that begins behind c no row holds it
 
 pub below_row : (t : List ℕ) (c m : ℕ) → in_order t ≡ true → c < first_at t m → (j : ℕ) → m ≤ j → Row t j → c < first_at t j
 below_row t c m o l j h r =
     either (eq-or-lt_of_le h) (λ e. subst (λ (i : ℕ). c < first_at t i) e l)
     (λ g. omega (arith, first_le t m o (omega arith), apart t m j o g r))
-
-pub above_row : (t : List ℕ) (c m : ℕ) → in_order t ≡ true → Row t m → last_at t m < c → (j : ℕ) → j < m + 1 → last_at t j < c
-above_row t c m o r l j h =
-    let k : j ≤ m = omega arith in
-    either (eq-or-lt_of_le k) (λ e. subst (λ (i : ℕ). last_at t i < c) (sym e) l)
-    (λ g. omega (arith, first_le t m o r, apart t j m o g r))

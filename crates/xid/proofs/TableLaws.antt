@@ -2,7 +2,6 @@
 use Prim.Native.Nat.{ℕ, suc, ◌≤◌, ◌<◌}
 use mathlib.Core.Path.{◌≡◌, refl}
 use mathlib.Core.Bool.{true}
-use lib.ListN.{length}
 use Rattle.xid.specs.Table.{table}
 use Rattle.xid.specs.Xid.{xid_start, xid_continue, in_order, class_of, starts, continues}
 use Rattle.xid.specs.Rows.{Lies, Row, class_at, first_at, last_at}
@@ -12,10 +11,6 @@ use Rattle.xid.proofs.RowLaws.{apart, first_le, lies_member, member, member_lies
 pub table_in_order : in_order table ≡ true
 unfolding in_order table
 table_in_order = refl
-
-pub table_long : length table ≡ 3234
-unfolding table
-table_long = refl
 
 -- ---- what that says of its rows
 

@@ -8,21 +8,13 @@ fn class_in(t: &[u32; 3234], c: u32) -> u32
     requires { t.now ≡ rows }
     ensures { result ≡ class_of rows c }
 {
-    let mut low: usize = 0;
-    let mut high: usize = 1078;
-    while low < high {
-        let mid = (low + high) / 2;
-        let at = mid * 3;
-        if c < t[at] {
-            high = mid;
-        } else {
-            if c <= t[at + 1] {
-                return t[at + 2];
-            }
-            low = mid + 1;
-        }
+    let (rows, _) = t.as_chunks::<3>();
+    let at = rows.partition_point(|row| row[1] < c);
+    if at == rows.len() {
+        return 0;
     }
-    0
+    let [first, _, class] = rows[at];
+    if first <= c { class } else { 0 }
 }
 
 // A name's first character, but for `_`.
