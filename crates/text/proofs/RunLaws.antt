@@ -2,10 +2,14 @@
 use Prim.Native.Nat.{ℕ, zero, suc, ◌+◌, ◌≤◌, ◌<◌}
 use native.Mathlib.Nat.{add-zero, zero-add}
 use native.Mathlib.Omega.{arith}
-use mathlib.Core.Path.{◌≡◌, ap, ◌∙◌, subst}
-use mathlib.Core.Bool.{Bool, true, false}
+use mathlib.Core.Path.{◌≡◌, refl, sym, ap, ◌∙◌, subst}
+use mathlib.Core.Bool.{Bool, true, false, not, cond}
 use mathlib.Core.List.{List, [], ◌∷◌}
 use lib.ListN.{length, drop, get_or, drop_of_length-le}
+use lib.Dec.{ltb}
+use borrow.Author.Tests.{ltb-false}
+use Rattle.std.specs.List.{position, position_or_len}
+use Rattle.std.specs.declared.option.Option.TheVariants.{Some, None}
 use Rattle.text.specs.Runs.{run, run2}
 use Rattle.text.proofs.Lists.{front, head_at}
 use Rattle.text.proofs.Choices.{bool_cases, either}
@@ -63,6 +67,27 @@ run_many p (suc n) s i h all =
     ∙ ap (λ (m : ℕ). 1 + m) (run_many p n s (i + 1) (omega arith) next)
     ∙ ap (λ (m : ℕ). 1 + (n + run p (drop m s))) j
     ∙ omega arith
+
+-- a run ends where `position` finds the first byte out of its class, and takes the whole text where there is none
+run_position : (p : ℕ → Bool) (s : List ℕ) → position_or_len (λ (x : ℕ). not (p x)) s ≡ run p s
+unfolding run
+run_position p [] = refl
+run_position p (a ∷ s) = either (bool_cases (p a)) (λ e. rw e (omega (arith, run_position p s))) (λ e. rw e)
+
+module _ (p : ℕ → Bool) (s : List ℕ) where
+  found_before_end : (n : ℕ) (b : Bool) → Some n ≡ cond b (Some (position_or_len (λ (x : ℕ). not (p x)) s)) None → position_or_len (λ (x : ℕ). not (p x)) s ≡ n
+  found_before_end n true e = cc
+  found_before_end n false e = cc
+
+  pub run_found : (n : ℕ) → Some n ≡ position (λ (x : ℕ). not (p x)) s → run p s ≡ n
+  run_found n e = sym (run_position p s) ∙ found_before_end n (ltb (position_or_len (λ (x : ℕ). not (p x)) s) (length s)) e
+
+  found_nowhere : (b : Bool) → None ≡ cond b (Some (position_or_len (λ (x : ℕ). not (p x)) s)) None → b ≡ false
+  found_nowhere true e = cc
+  found_nowhere false e = refl
+
+  pub run_whole : None ≡ position (λ (x : ℕ). not (p x)) s → run p s ≡ length s
+  run_whole e = omega (arith, run_position p s, run_le p s, ltb-false _ _ (found_nowhere (ltb (position_or_len (λ (x : ℕ). not (p x)) s) (length s)) e))
 
 -- each byte of a run is of its class
 pub run_holds : (p : ℕ → Bool) (s : List ℕ) (k : ℕ) → k < run p s → p (get_or s k 0) ≡ true

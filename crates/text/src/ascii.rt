@@ -23,14 +23,10 @@ fn run1(s: &[u8], at: usize) -> usize
     requires { at ≤ length s.now }
     ensures { result ≡ at + run ascii (drop at s.now) }
 {
-    let mut i = at;
-    while i < s.len() {
-        if 0x7F < s[i] {
-            return i;
-        }
-        i += 1;
+    match s[at..].iter().position(|byte| !byte.is_ascii()) {
+        Some(n) => at + n,
+        None => s.len(),
     }
-    i
 }
 
 // The same, eight bytes at a time.

@@ -10,10 +10,7 @@ use xid::search::{is_xid_continue, is_xid_start};
 pub fn is_within(lo: u8, hi: u8, b: u8) -> bool
     ensures { result ≡ within lo hi b }
 {
-    if lo <= b {
-        return b <= hi;
-    }
-    false
+    (lo..=hi).contains(&b)
 }
 
 // How many of three bytes in a row are a whitespace character: 0 where they begin with none.
@@ -96,23 +93,10 @@ pub fn is_float_char(b: u8) -> bool
     false
 }
 
-// The code point is one of lo to hi.
-fn is_between(lo: u32, hi: u32, c: u32) -> bool
-    ensures { result ≡ within lo hi c }
-{
-    if lo <= c {
-        return c <= hi;
-    }
-    false
-}
-
 fn is_letter(c: u32) -> bool
     ensures { result ≡ letter c }
 {
-    if is_between(0x41, 0x5a, c) {
-        return true;
-    }
-    is_between(0x61, 0x7a, c)
+    (0x41..=0x5a).contains(&c) || (0x61..=0x7a).contains(&c)
 }
 
 // A name's first character, up to U+007F.
@@ -132,7 +116,7 @@ pub fn is_ascii_next(c: u32) -> bool
     if is_letter(c) {
         return true;
     }
-    if is_between(0x30, 0x39, c) {
+    if (0x30..=0x39).contains(&c) {
         return true;
     }
     c == 0x5f

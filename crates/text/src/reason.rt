@@ -6,21 +6,21 @@ ghost use Rattle.text.specs.Refusals.{reason_of};
 #[derive(Clone, Copy)]
 pub enum EscapeReason {
     // "Non-hex digit found"
-    DigitNotHex,
+    DigitNotHex = 1,
     // "Unknown escape character"
-    UnknownLetter,
+    UnknownLetter = 2,
     // "Not a valid byte-escaped Unicode character"
-    NotByteEscaped,
+    NotByteEscaped = 3,
     // "Missing { in Unicode escape"
-    MissingOpenBrace,
+    MissingOpenBrace = 4,
     // "Expected 1-6 digits, got 0 digits in Unicode escape"
-    NoDigits,
+    NoDigits = 5,
     // "No } at the end of Unicode escape"
-    NoClosingBrace,
+    NoClosingBrace = 6,
     // "Not a valid Unicode-escaped character"
-    NotACharacter,
+    NotACharacter = 7,
     // "Unexpected Unicode escape in byte literal"
-    UnicodeInByteLiteral,
+    UnicodeInByteLiteral = 8,
 }
 
 impl EscapeReason {
@@ -28,15 +28,6 @@ impl EscapeReason {
     pub fn number(self) -> u8
         ensures { result ≡ reason_of self }
     {
-        match self {
-            EscapeReason::DigitNotHex => 1,
-            EscapeReason::UnknownLetter => 2,
-            EscapeReason::NotByteEscaped => 3,
-            EscapeReason::MissingOpenBrace => 4,
-            EscapeReason::NoDigits => 5,
-            EscapeReason::NoClosingBrace => 6,
-            EscapeReason::NotACharacter => 7,
-            EscapeReason::UnicodeInByteLiteral => 8,
-        }
+        self as u8
     }
 }

@@ -32,9 +32,8 @@ pub fn placed_behind(refused: Refusal, by: usize) -> Refusal
     ensures { result ≡ placed_behind by refused }
 {
     Refusal {
-        number: refused.number,
-        reason: refused.reason,
         place: by + refused.place,
+        ..refused
     }
 }
 

@@ -24,7 +24,7 @@ pub enum EncodeAnswer {
 }
 
 // The second byte of a character of three or four bytes, by its first.
-fn is_second(a: u8, b: u8) -> bool
+pub fn is_second(a: u8, b: u8) -> bool
     ensures { result ≡ second_byte a b }
 {
     if a == 0xE0 {

@@ -1,17 +1,8 @@
 use native.Mathlib.Omega.{arith}
-use mathlib.Core.Path.{◌∙◌, refl, sym}
+use mathlib.Core.Path.{◌∙◌, sym}
 use borrow.Author.Rules.{rules}
 use Rattle.text.proofs.AsciiLaws.{ascii_many}
 use Rattle.text.proofs.ascii.run8.Goals as goal
 
-pub loop-i-init : goal.loop-i-init
-loop-i-init c = (search rules, refl)
-
-pub returns-then-not-ascii8 : goal.returns-then-not-ascii8
-returns-then-not-ascii8 c = omega (arith, c.loop-i.invariant.1, c.run1.ensures)
-
 pub loop-i-preserved : goal.loop-i-preserved
 loop-i-preserved c = (search rules, omega (arith, c.loop-i.invariant.1, ascii_many c.args.s.now c.loop-i.i 8 (search rules) (sym c.ascii8.ensures ∙ c.if-not-ascii8.false)))
-
-pub returns : goal.returns
-returns c = omega (arith, c.loop-i.invariant.1, c.run1-2.ensures)

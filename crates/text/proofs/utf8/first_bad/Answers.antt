@@ -23,9 +23,6 @@ overflow_add-at c = omega (arith, (part_char c.args.s.now c.loop-at.at _ c.char_
 pub run8-at-requires-in-loop-at : goal.run8-at-requires-in-loop-at
 run8-at-requires-in-loop-at c = omega (arith, (part_char c.args.s.now c.loop-at.at _ c.char_len-n.ensures).1)
 
-pub loop-at-smaller : goal.loop-at-smaller
-loop-at-smaller c = omega (arith, c.run8-at-in-loop-at.ensures, (part_char c.args.s.now c.loop-at.at _ c.char_len-n.ensures).1, run_le ascii (drop (c.loop-at.at + c.char_len-n.result) c.args.s.now), length-drop (c.loop-at.at + c.char_len-n.result) c.args.s.now)
-
 pub loop-at-preserved : goal.loop-at-preserved
 loop-at-preserved c =
     let s = c.args.s.now in
