@@ -4,14 +4,18 @@ use native.Mathlib.Nat.{add-zero, zero-add}
 use native.Mathlib.Omega.{arith}
 use mathlib.Core.Path.{◌≡◌, refl, sym, ap, ◌∙◌}
 use mathlib.Core.Logic.{◌⊎◌, inl, inr}
-use mathlib.Core.Bool.{Bool, true, false, not, ◌||◌}
+use mathlib.Core.Bool.{Bool, true, false, not}
 use mathlib.Core.List.{List, [], ◌∷◌}
 use lib.Dec.{eqb, ltb}
-use lib.ListN.{length, drop, get_or}
+use lib.ListN.{length, take, drop, get_or}
 use borrow.Author.Tests.{lt-ltb, le-ltb, ltb-true, ltb-false}
+use Rattle.std.specs.declared.option.Option.{Option}
+use Rattle.std.specs.declared.option.Option.TheVariants.{Some, None}
+use Rattle.std.specs.List.{position}
+use Rattle.std.specs.Option.{unwrap_or}
 use Rattle.text.specs.Runs.{run}
 use Rattle.text.proofs.Choices.{bool_cases, either, lt_or_le}
-use Rattle.text.proofs.RunLaws.{run_more, run_out, run_end}
+use Rattle.text.proofs.RunLaws.{run_more, run_out, run_end, run_found, run_whole}
 use Rattle.search.specs.inner.Others.{other, neither, at_most}
 
 -- ---- at a place
@@ -46,13 +50,6 @@ module _ (p : ℕ → Bool) (s : List ℕ) (i k : ℕ) (h : i + k < length s) wh
       let m = run_more p s (i + k) h e in
       le-ltb (run p (drop i s)) (k + 1) (omega (arith, run_past p k s i g, m)) ∙ sym (le-ltb (run p (drop i s)) k g))
 
-  -- the same of a run that is known to come so far
-  pub stops_at : k ≤ run p (drop i s) → p (get_or s (i + k) 0) ≡ false → run p (drop i s) ≡ k
-  stops_at g e = omega (arith, run_past p k s i g, run_out p s (i + k) h e)
-
-  pub goes-on : k ≤ run p (drop i s) → p (get_or s (i + k) 0) ≡ true → k + 1 ≤ run p (drop i s)
-  goes-on g e = omega (arith, run_past p k s i g, run_more p s (i + k) h e)
-
 module _ (bound n : ℕ) where
   pub at_most_below : n < bound → at_most bound n ≡ n
   unfolding at_most
@@ -61,6 +58,27 @@ module _ (bound n : ℕ) where
   pub at_most_bound : bound ≤ n → at_most bound n ≡ bound
   unfolding at_most
   at_most_bound h = rw (le-ltb n bound h)
+
+-- what `position` found, or all n bytes
+pub run_or : (p : ℕ → Bool) (s : List ℕ) (n : ℕ) (r : Option ℕ) → length s ≡ n → r ≡ position (λ (x : ℕ). not (p x)) s → unwrap_or r n ≡ run p s
+run_or p s n (Some k) l e = sym (run_found p s k e)
+run_or p s n None l e = sym (run_whole p s e ∙ l)
+
+-- a run among n bytes is no longer than n
+pub run_take : (p : ℕ → Bool) (n : ℕ) (s : List ℕ) → run p (take n s) ≡ at_most n (run p s)
+unfolding run
+run_take p zero s = sym (at_most_bound 0 (run p s) (omega arith))
+run_take p (suc n) [] = sym (at_most_below (suc n) 0 (omega arith))
+run_take p (suc n) (x ∷ s) =
+    either (bool_cases (p x))
+    (λ e. rw e (ap suc (run_take p n s) ∙ one_more n (run p s)))
+    (λ e. rw e (sym (at_most_below (suc n) 0 (omega arith))))
+  where
+    one_more : (n m : ℕ) → suc (at_most n m) ≡ at_most (suc n) (suc m)
+    one_more n m =
+        either (lt_or_le m n)
+        (λ l. rw (at_most_below n m l, at_most_below (suc n) (suc m) (omega arith)))
+        (λ g. rw (at_most_bound n m g, at_most_bound (suc n) (suc m) (omega arith)))
 
 -- ---- two bytes
 

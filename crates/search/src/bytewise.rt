@@ -8,14 +8,10 @@ pub fn find_one(s: &[u8], from: usize, b: u8) -> usize
     requires { from ≤ length s.now }
     ensures { result ≡ from + run (other b) (drop from s.now) }
 {
-    let mut i = from;
-    while i < s.len() {
-        if s[i] == b {
-            return i;
-        }
-        i += 1;
+    match s[from..].iter().position(|&x| x == b) {
+        Some(n) => from + n,
+        None => s.len(),
     }
-    i
 }
 
 // The place of the first a or b at or behind `from`, or the end.
@@ -23,17 +19,10 @@ pub fn find_one_of(s: &[u8], from: usize, a: u8, b: u8) -> usize
     requires { from ≤ length s.now }
     ensures { result ≡ from + run (neither a b) (drop from s.now) }
 {
-    let mut i = from;
-    while i < s.len() {
-        if s[i] == a {
-            return i;
-        }
-        if s[i] == b {
-            return i;
-        }
-        i += 1;
+    match s[from..].iter().position(|&x| x == a || x == b) {
+        Some(n) => from + n,
+        None => s.len(),
     }
-    i
 }
 
 // How many of four bytes stand before the first a or b.
@@ -41,16 +30,6 @@ pub fn count_four(s: &[u8], from: usize, a: u8, b: u8) -> usize
     requires { from + 4 ≤ length s.now }
     ensures { result ≡ at_most 4 (run (neither a b) (drop from s.now)) }
 {
-    let mut k: usize = 0;
-    while k < 4 {
-        let x = s[from + k];
-        if x == a {
-            return k;
-        }
-        if x == b {
-            return k;
-        }
-        k += 1;
-    }
-    k
+    let four = &s[from..from + 4];
+    four.iter().position(|&x| x == a || x == b).unwrap_or(4)
 }

@@ -9,12 +9,10 @@ pub fn has(s: &[u8], at: usize, b: u8) -> bool
     ensures { result ≡ ltb (run (other b) (drop at s.now)) 16 }
 {
     let mut found = false;
-    let mut k: usize = 0;
-    while k < 16 {
+    for k in 0..16 {
         if s[at + k] == b {
             found = true;
         }
-        k += 1;
     }
     found
 }

@@ -1,12 +1,8 @@
 use Prim.Native.Nat.{◌+◌, ◌-◌, ◌≤◌}
-use native.Mathlib.Omega.{arith}
-use mathlib.Core.Path.{◌≡◌, ◌∙◌, refl, sym}
+use mathlib.Core.Path.{◌≡◌}
 use lib.ListN.{drop, length}
-use borrow.Author.Rules.{rules}
-use borrow.Author.Tests.{ltb-false}
 use Rattle.text.specs.Runs.{run}
 use Rattle.search.specs.inner.Others.{other}
-use Rattle.search.proofs.SearchLaws.{run_past}
 use Rattle.search.proofs.find.Given as goal
 
 abbrev pub invariant-loop-i : goal.invariant-loop-i

@@ -3,7 +3,6 @@ use native.Mathlib.Omega.{arith}
 use mathlib.Core.Logic.{◌⊎◌, inl, inr}
 use mathlib.Core.Path.{◌≡◌, ◌∙◌, ap}
 use lib.ListN.{drop}
-use borrow.Author.Rules.{rules}
 use Rattle.text.proofs.Choices.{either, lt_or_le}
 use Rattle.text.specs.Runs.{run}
 use Rattle.search.specs.inner.Others.{neither}

@@ -1,7 +1,6 @@
-use Prim.Native.Nat.{◌+◌, ◌-◌, ◌≤◌}
 use native.Mathlib.Omega.{arith}
-use mathlib.Core.Path.{◌≡◌, ◌∙◌, refl, sym}
-use lib.ListN.{drop, length}
+use mathlib.Core.Path.{◌∙◌, refl, sym}
+use lib.ListN.{drop}
 use borrow.Author.Rules.{rules}
 use borrow.Author.Tests.{ltb-false}
 use Rattle.text.specs.Runs.{run}

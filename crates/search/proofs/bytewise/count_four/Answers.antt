@@ -1,34 +1,21 @@
-use Prim.Native.Nat.{◌+◌, ◌-◌, ◌≤◌}
+use Prim.Native.Nat.{ℕ, ◌+◌, ◌-◌}
 use native.Mathlib.Omega.{arith}
-use mathlib.Core.Path.{◌≡◌, ◌∙◌, sym}
-use lib.ListN.{drop}
-use borrow.Author.Rules.{rules}
-use borrow.Author.Tests.{eq-eqb, ne_eqb}
-use Rattle.text.specs.Runs.{run}
+use mathlib.Core.Path.{◌≡◌, ◌∙◌}
+use mathlib.Core.Bool.{not}
+use lib.ListN.{drop, take, length, length-drop}
+use Rattle.std.proofs.Common.{length-take-le, rules, tests}
+use Rattle.std.proofs.lemmas.Iterator.{YieldsList-from_slice}
+use Rattle.std.proofs.lemmas.Iterator.Search.{position_from_yields_List}
+use Rattle.search.proofs.SearchLaws.{run_or, run_take}
 use Rattle.search.specs.inner.Others.{neither}
-use Rattle.search.proofs.SearchLaws.{at_most_below, at_most_bound, goes-on, stops_at}
 use Rattle.search.proofs.bytewise.count_four.Goals as goal
 
-pub loop-k-init : goal.loop-k-init
-loop-k-init c = (search rules, search rules)
-
-pub returns-then-x-a : goal.returns-then-x-a
-unfolding neither
-returns-then-x-a c =
-    let e = stops_at (neither c.args.a c.args.b) c.args.s.now c.args.from c.loop-k.k (search rules) c.loop-k.invariant.1 (simp (eq-eqb _ _ c.if-x-a.true)) in
-    sym (at_most_below 4 (run (neither c.args.a c.args.b) (drop c.args.from c.args.s.now)) (omega (arith, e)) ∙ e)
-
-pub returns-then-x-b : goal.returns-then-x-b
-unfolding neither
-returns-then-x-b c =
-    let e = stops_at (neither c.args.a c.args.b) c.args.s.now c.args.from c.loop-k.k (search rules) c.loop-k.invariant.1 (simp (ne_eqb _ _ c.if-x-a.false, eq-eqb _ _ c.if-x-b.true)) in
-    sym (at_most_below 4 (run (neither c.args.a c.args.b) (drop c.args.from c.args.s.now)) (omega (arith, e)) ∙ e)
-
-pub loop-k-preserved : goal.loop-k-preserved
-unfolding neither
-loop-k-preserved c = (search rules, goes-on (neither c.args.a c.args.b) c.args.s.now c.args.from c.loop-k.k (search rules) c.loop-k.invariant.1 (simp (ne_eqb _ _ c.if-x-a.false, ne_eqb _ _ c.if-x-b.false)))
-
 pub returns : goal.returns
+unfolding neither
 returns c =
-    let all : c.loop-k.k ≡ 4 = omega arith in
-    all ∙ sym (at_most_bound 4 (run (neither c.args.a c.args.b) (drop c.args.from c.args.s.now)) (omega (arith, c.loop-k.invariant.1)))
+    let found = position_from_yields_List (λ (x : ℕ). not (neither c.args.a c.args.b x)) _ _ c.position.result c.position.ensures.ran (YieldsList-from_slice _ c.iter.ensures.rest) (λ x b q k. search (rules, tests)) in
+    let p = neither c.args.a c.args.b in
+    let rest = drop c.args.from c.args.s.now in
+    let four : c.args.from + 4 - c.args.from ≡ 4 = omega arith in
+    let whole : length (take 4 rest) ≡ 4 = length-take-le 4 rest (omega (arith, length-drop c.args.from c.args.s.now)) in
+    c.unwrap_or.ensures ∙ run_or p (take 4 rest) 4 c.position.result whole (rw four at found) ∙ run_take p 4 rest

@@ -1,24 +1,24 @@
-use Prim.Native.Nat.{◌+◌, ◌-◌, ◌≤◌}
+use Prim.Native.Nat.{ℕ, ◌+◌}
 use native.Mathlib.Omega.{arith}
-use mathlib.Core.Path.{◌≡◌, refl}
-use lib.ListN.{drop, length}
-use borrow.Author.Rules.{rules}
-use borrow.Author.Tests.{eq-eqb, ne_eqb}
-use Rattle.text.proofs.RunLaws.{run_end, run_more, run_out}
-use Rattle.text.specs.Runs.{run}
+use mathlib.Core.Path.{◌∙◌, ap, sym}
+use mathlib.Core.Bool.{not}
+use lib.ListN.{drop, length-drop}
+use Rattle.std.proofs.Common.{rules, tests}
+use Rattle.std.proofs.lemmas.Iterator.{YieldsList-from_slice}
+use Rattle.std.proofs.lemmas.Iterator.Search.{position_from_yields_List}
+use Rattle.text.proofs.Lists.{tail_part}
+use Rattle.text.proofs.RunLaws.{run_found, run_whole}
 use Rattle.search.specs.inner.Others.{other}
 use Rattle.search.proofs.bytewise.find_one.Goals as goal
 
-pub loop-i-init : goal.loop-i-init
-loop-i-init c = (search rules, refl)
-
-pub returns-then-s-i : goal.returns-then-s-i
+pub returns-in-Some : goal.returns-in-Some
 unfolding other
-returns-then-s-i c = omega (arith, c.loop-i.invariant.1, run_out (other c.args.b) c.args.s.now c.loop-i.i (search rules) (simp (eq-eqb _ _ c.if-s-i.true)))
+returns-in-Some c =
+    let found = position_from_yields_List (λ (x : ℕ). not (other c.args.b x)) _ _ c.position.result c.position.ensures.ran (YieldsList-from_slice _ c.iter.ensures.rest) (λ x b q k. search (rules, tests)) in
+    ap (λ (n : ℕ). c.args.from + n) (sym (run_found (other c.args.b) (drop c.args.from c.args.s.now) c.in-Some.n (rw tail_part at (sym c.in-Some.is ∙ found))))
 
-pub loop-i-preserved : goal.loop-i-preserved
+pub returns-in-None : goal.returns-in-None
 unfolding other
-loop-i-preserved c = (search rules, omega (arith, c.loop-i.invariant.1, run_more (other c.args.b) c.args.s.now c.loop-i.i (search rules) (simp (ne_eqb _ _ c.if-s-i.false))))
-
-pub returns : goal.returns
-returns c = omega (arith, c.loop-i.invariant.1, run_end (other c.args.b) c.args.s.now c.loop-i.i (search rules))
+returns-in-None c =
+    let found = position_from_yields_List (λ (x : ℕ). not (other c.args.b x)) _ _ c.position.result c.position.ensures.ran (YieldsList-from_slice _ c.iter.ensures.rest) (λ x b q k. search (rules, tests)) in
+    omega (arith, run_whole (other c.args.b) (drop c.args.from c.args.s.now) (rw tail_part at (sym c.in-None.is ∙ found)), length-drop c.args.from c.args.s.now)

@@ -1,6 +1,5 @@
 use mathlib.Core.Path.{◌∙◌, sym}
 use lib.ListN.{drop}
-use borrow.Author.Rules.{rules}
 use Rattle.search.proofs.SearchLaws.{either_first, either_second}
 use Rattle.search.proofs.sixteen.has_either.Goals as goal
 
