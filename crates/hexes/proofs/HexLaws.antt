@@ -1,14 +1,16 @@
 -- Laws of hex digits. Assumes nothing.
 use Prim.Native.Nat.{ℕ, ◌+◌, ◌-◌, ◌*◌, ◌/◌, ◌%◌, ◌≤◌, ◌<◌}
 use native.Mathlib.Omega.{arith}
-use mathlib.Core.Bool.{cond, true, false}
+use mathlib.Core.Bool.{Bool, true, false}
 use mathlib.Core.Path.{◌≡◌, ◌∙◌, refl, sym}
 use lib.Dec.{ltb}
 use borrow.Author.Tests.{lt-ltb, ltb-false, ltb-true}
+use Rattle.hexes.proofs.Bits.{bits, fits}
+use Rattle.hexes.specs.inner.Bits.{among}
 use Rattle.hexes.specs.Hex.{hex_answer, hex_of}
 use Rattle.hexes.specs.declared.HexAnswer.TheVariants.{Digit, NoDigit}
 use Rattle.text.proofs.Choices.{bool_cases, cond_cases, either, lt_or_le}
-use Rattle.text.proofs.ClassLaws.{above, below, within_true}
+use Rattle.text.proofs.ClassLaws.{above, below, inside, within_true}
 use Rattle.text.specs.Classes.{digit, hex_digit, within}
 
 -- ---- the class outside `0` to `f`
@@ -71,3 +73,13 @@ module _ (c : ℕ) where
 
   pub no_digit : hex_answer c ≡ NoDigit → hex_of c ≡ 16
   no_digit e = either (bool_cases (hex_digit c)) (λ t. let z : Digit (hex_of c) ≡ NoDigit = rw t at e in cc) (hex_none c)
+
+-- ---- the classes by their bits
+
+module _ (class : ℕ) (p : ℕ → Bool) (e : fits class p ≡ true) (c : ℕ) (low : c < 0x30 → p c ≡ false) (high : 0x66 < c → p c ≡ false) where
+  pub among_class : among class c ≡ p c
+  unfolding among
+  among_class =
+      either (lt_or_le c 0x30) (λ l. rw (below 0x30 0x66 c l) (sym (low l))) λ g.
+      either (lt_or_le 0x66 c) (λ l. rw (above 0x30 0x66 c l) (sym (high l))) λ h.
+      rw (inside 0x30 0x66 c g h) (bits class p e c g h)

@@ -5,6 +5,7 @@
 ghost use Rattle.std.specs.Prelude.{◌≡◌};
 ghost use Rattle.text.specs.Classes.{hex_digit, int_char};
 ghost use Rattle.hexes.specs.Hex.{hex_answer};
+ghost use Rattle.hexes.specs.inner.Bits.{among};
 
 // What a byte is as a hex digit: its value, from 0 to 15.
 #[derive(Clone, Copy)]
@@ -18,30 +19,25 @@ const HEX_DIGITS: u64 = 0x7e0000007e03ff;
 
 const INT_CHARS: u64 = 0x7e8000007e03ff;
 
+// The byte's bit is set in the class.
+fn is_among(class: u64, c: u8) -> bool
+    ensures { result ≡ among class c }
+{
+    (b'0'..=b'f').contains(&c) && (class >> (c - b'0') as u64) % 2 == 1
+}
+
 // 0 to 9, A to F, a to f.
 pub fn is_hex_digit(c: u8) -> bool
     ensures { result ≡ hex_digit c }
 {
-    if c < b'0' {
-        return false;
-    }
-    if b'f' < c {
-        return false;
-    }
-    (HEX_DIGITS >> (c - b'0') as u64) % 2 == 1
+    is_among(HEX_DIGITS, c)
 }
 
 // Hex digits and the underscore.
 pub fn is_int_char(c: u8) -> bool
     ensures { result ≡ int_char c }
 {
-    if c < b'0' {
-        return false;
-    }
-    if b'f' < c {
-        return false;
-    }
-    (INT_CHARS >> (c - b'0') as u64) % 2 == 1
+    is_among(INT_CHARS, c)
 }
 
 // The value of a hex digit; letters stand 9 behind what their last four bits say.

@@ -1,7 +1,4 @@
-use native.Mathlib.Omega.{arith}
 use mathlib.Core.Path.{◌∙◌, ap, sym}
-use borrow.Author.Rules.{rules}
-use borrow.Author.Tests.{not-false, not-true}
 use Rattle.hexes.proofs.HexLaws.{hex_value}
 use Rattle.hexes.specs.declared.HexAnswer.TheVariants.{Digit}
 use Rattle.hexes.proofs.decode_hex.Goals as goal
