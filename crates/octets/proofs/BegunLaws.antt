@@ -8,7 +8,7 @@ use mathlib.Core.Path.{◌≡◌, refl, sym, ap, ◌∙◌, subst}
 use lib.Dec.{eqb}
 use lib.ListN.{length, get_or, take, drop, length-append, length-drop}
 use borrow.Author.Tests.{eq-eqb, lt-leb, ne_eqb}
-use Rattle.text.proofs.Choices.{cond_cases, cond_same, bool_cases, either, lt_or_le, and_false}
+use Rattle.text.proofs.Choices.{cond_cases, cond_same, either, lt_or_le, and_false}
 use Rattle.text.proofs.ClassLaws.{below, above, within_true, in_within}
 use Rattle.text.proofs.Lists.{tail_part}
 use Rattle.text.proofs.Utf8Agree.{Head, head_view, char_len_char, char_pos}
@@ -56,25 +56,6 @@ module _ (a b c d : ℕ) where
   pub no_third : In 0xF0 0xF4 a → tail_byte c ≡ false → width_of a b c d ≡ 0
   unfolding behind_three behind_four
   no_third h e = width_four h ∙ simp (e, and_false (second_byte a b))
-
--- ---- what `is_second` goes by: with two tails behind it the character is whole
-
-module _ (a b : ℕ) (h : In 0xE0 0xF4 a) where
-  abbrev filled : List ℕ
-  filled = a ∷ b ∷ 0x80 ∷ 0x80 ∷ []
-
-  pub second_off : char_len filled ≡ 0 → second_byte a b ≡ false
-  unfolding char_len behind_three behind_four within
-  second_off e =
-      either (bool_cases (second_byte a b))
-      (λ t. either (lt_or_le a 0xF0)
-      (λ l. let z : ◌≡◌ {A = ℕ} 3 0 = sym (width_three a b 0x80 0x80 (omega arith) ∙ simp t) ∙ e in absurd (omega arith))
-      (λ l. let z : ◌≡◌ {A = ℕ} 4 0 = sym (width_four a b 0x80 0x80 (omega arith) ∙ simp t) ∙ e in absurd (omega arith)))
-      (λ t. t)
-
-  pub second_on : (char_len filled ≡ 0 → ⊥) → second_byte a b ≡ true
-  unfolding char_len
-  second_on n = either (bool_cases (second_byte a b)) (λ t. t) (λ t. absurd (n (no_second a b 0x80 0x80 h t)))
 
 -- ---- how much of three bytes is a front, by the first of them
 

@@ -1,24 +1,11 @@
 // What may be taken of bytes that have come.
 ghost use Rattle.std.specs.Prelude.{◌≡◌, ◌≤◌, length};
-ghost use Rattle.text.specs.Utf8.{second_byte};
 ghost use Rattle.octets.specs.Octets.{begun3, begun_of, bad_of, allowed_of};
 
 use crate::answer::Allowed;
 use text::bytes::peek;
 use text::classes::is_within;
-use text::utf8::{Utf8Answer, char_len, first_bad};
-
-// The second byte of a character of three or four bytes, by its first: with two tails behind it the character is whole.
-fn is_second(a: u8, b: u8) -> bool
-    requires { (0xE0 ≤ a) × (a ≤ 0xF4) }
-    ensures { result ≡ second_byte a b }
-{
-    let whole = [a, b, 0x80, 0x80];
-    if char_len(&whole) == 0 {
-        return false;
-    }
-    true
-}
+use text::utf8::{Utf8Answer, first_bad, is_second};
 
 // How many of three bytes a character begins with and goes on behind.
 fn begun_by(a: u8, b: u8, c: u8) -> usize
