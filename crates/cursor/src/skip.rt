@@ -15,13 +15,6 @@ pub enum Step {
     Refused(Refusal),
 }
 
-// How far a lies behind b; 0 where it does not, which a host's own cursor can bring about.
-fn less(a: usize, b: usize) -> usize
-    ensures { result ≡ a - b }
-{
-    if a < b { 0 } else { a - b }
-}
-
 impl ParserCursor {
     // Its places are fit for the text, and its numbers agree.
     pub fn fits(self, text: &[u8]) -> bool
@@ -77,7 +70,8 @@ impl ParserCursor {
         match run {
             Gap::Clear(n) => {
                 let end = at + n;
-                let len = less(end, pre);
+                // A host's own cursor can have the whitespace begin behind the place.
+                let len = end.saturating_sub(pre);
                 Step::Moved(ParserCursor {
                     cursor: end,
                     pre_ws_cursor: pre,

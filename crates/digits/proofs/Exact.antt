@@ -65,7 +65,7 @@ module _ (limit base : ℕ) (positive : 0 < base) where
   reads_of [] acc at v h e = let q : acc ≡ v = cc in record { only = λ i l. absurd (omega (arith, l)); value = q; fits = omega arith }
   reads_of (c ∷ cs) acc at v h e = go (λ n k q. reads_of cs n (at + 1) v k q) (turn_of limit base acc c) refl
     where
-      go : ((n : ℕ) → n ≤ limit → digits_from limit base n (at + 1) cs ≡ Value v → ReadsFrom limit base n cs v) → (t : Turned) → turn_of limit base acc c ≡ t → ReadsFrom limit base acc (c ∷ cs) v
+      go : ((n : ℕ) → n ≤ limit → digits_from limit base n (at + 1) cs ≡ Value v → ReadsFrom limit base n cs v) → (t : Turned ℕ) → turn_of limit base acc c ≡ t → ReadsFrom limit base acc (c ∷ cs) v
       go rest (turned.Next n) q =
           let k = turn_next limit base acc c n q h in
           let r = rest n k.1.1 (rw q at e) in

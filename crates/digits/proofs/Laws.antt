@@ -2,13 +2,17 @@
 use Prim.Native.Nat.{ℕ, ◌+◌, ◌≤◌, ◌<◌}
 use native.Mathlib.Omega.{arith}
 use mathlib.Core.List.{List, [], ◌∷◌}
-use mathlib.Core.Path.{◌≡◌}
+use mathlib.Core.Bool.{Bool}
+use mathlib.Core.Path.{◌≡◌, refl}
 use lib.ListN.{length, get_or, drop, drop_of_length-le}
 use Rattle.digits.specs.Digits.{turn_of, on_turn, digits_from}
 use Rattle.digits.specs.declared.Run.{Run}
 use Rattle.digits.specs.declared.Run.TheVariants.{Value, Empty, Underscore, NotDigit, Over}
 use Rattle.digits.specs.declared.up.Turned.{Turned}
+use Rattle.text.proofs.Choices.{bool_cases, either}
 use Rattle.text.proofs.Lists.{front}
+use Rattle.text.specs.Runs.{run}
+use Rattle.std.specs.List.{prefix_len}
 use Rattle.digits.specs.declared.up.Turned.TheVariants as turned
 
 module _ (limit base acc : ℕ) (run : List ℕ) (i : ℕ) where
@@ -43,7 +47,13 @@ unfolding digits_from
 place_le limit base acc at [] = omega arith
 place_le limit base acc at (c ∷ cs) = go (λ n. place_le limit base n (at + 1) cs) (turn_of limit base acc c)
   where
-    go : ((n : ℕ) → place_of (digits_from limit base n (at + 1) cs) ≤ at + 1 + length cs) → (t : Turned) → place_of (on_turn at t (λ (next : ℕ). digits_from limit base next (at + 1) cs)) ≤ at + length (c ∷ cs)
+    go : ((n : ℕ) → place_of (digits_from limit base n (at + 1) cs) ≤ at + 1 + length cs) → (t : Turned ℕ) → place_of (on_turn at t (λ (next : ℕ). digits_from limit base next (at + 1) cs)) ≤ at + length (c ∷ cs)
     go rest (turned.Next n) = omega (arith, rest n)
     go rest turned.Over = omega arith
     go rest turned.NotDigit = omega arith
+
+-- a run is the longest prefix of its class, as an iterator counts it
+pub run_prefix : (p : ℕ → Bool) (s : List ℕ) → prefix_len p s ≡ run p s
+unfolding run
+run_prefix p [] = refl
+run_prefix p (a ∷ s) = either (bool_cases (p a)) (λ e. rw e (omega (arith, run_prefix p s))) (λ e. rw e)

@@ -9,7 +9,6 @@ use lib.IntN.{ℤ, pos, negsuc, neg_ℤ, nat_abs, neg_ℤ-+ℤ, ◌*ℤ◌, ◌+
 use lib.Signed.{lt_z, quot_z}
 use borrow.Author.Tests.{lt-ltb, le-ltb, ltb-true, ltb-false}
 use Rattle.digits.specs.inner.Down.{down_of}
-use Rattle.digits.specs.declared.down.Down.TheVariants.{Next, Over, NotDigit}
 use Rattle.digits.specs.declared.up.Turned.{Turned}
 use Rattle.text.proofs.Choices.{bool_cases, either}
 use mir.Syntax.{w64}
@@ -137,43 +136,17 @@ pub self : (z : ℤ) (m : ℕ) → z ≡ neg_ℤ (pos m) → z ≡ neg_ℤ (pos 
 self z m e = e ∙ ap (λ (k : ℕ). neg_ℤ (pos k)) (sym (ap nat_abs e ∙ nat_abs_neg m))
 
 -- a turn's answer says which turn of the magnitude it is
-pub down_next : (t : Turned) (z : ℤ) → down_of t ≡ Next z → (k : ℕ) × ((t ≡ turned.Next k) × (z ≡ neg_ℤ (pos k)))
+pub down_next : (t : Turned ℕ) (z : ℤ) → down_of t ≡ turned.Next z → (k : ℕ) × ((t ≡ turned.Next k) × (z ≡ neg_ℤ (pos k)))
 down_next (turned.Next k) z e = let q : neg_ℤ (pos k) ≡ z = cc in (k, (refl, sym q))
 down_next turned.Over z e = let q : ◌≡◌ {A = ℕ} 0 1 = cc in absurd (omega arith)
 down_next turned.NotDigit z e = let q : ◌≡◌ {A = ℕ} 0 1 = cc in absurd (omega arith)
 
-pub down_over : (t : Turned) → down_of t ≡ Over → t ≡ turned.Over
+pub down_over : (t : Turned ℕ) → down_of t ≡ turned.Over → t ≡ turned.Over
 down_over (turned.Next k) e = let q : ◌≡◌ {A = ℕ} 0 1 = cc in absurd (omega arith)
 down_over turned.Over e = refl
 down_over turned.NotDigit e = let q : ◌≡◌ {A = ℕ} 0 1 = cc in absurd (omega arith)
 
-pub down_not : (t : Turned) → down_of t ≡ NotDigit → t ≡ turned.NotDigit
+pub down_not : (t : Turned ℕ) → down_of t ≡ turned.NotDigit → t ≡ turned.NotDigit
 down_not (turned.Next k) e = let q : ◌≡◌ {A = ℕ} 0 1 = cc in absurd (omega arith)
 down_not turned.Over e = let q : ◌≡◌ {A = ℕ} 0 1 = cc in absurd (omega arith)
 down_not turned.NotDigit e = refl
-
--- the magnitude of a number that is not above 0, by way of -1 - z
-less_one : (m : ℕ) → (m ≡ 0 → ⊥) → negsuc 0 -ℤ neg_ℤ (pos m) ≡ pos (m - 1)
-less_one zero h = absurd (h refl)
-less_one (suc m) h = rw (le-ltb (suc m) 1 (omega arith))
-
-module _ {z : ℤ} (zf : SFits w64 z) (ez : z ≡ neg_ℤ (pos (nat_abs z))) (le : nat_abs z ≤ 2 ^ 63) where
-  pub at_zero : of_z w64 z ≡ 0 → 0 ≡ nat_abs z
-  at_zero h = sym (ap nat_abs (sym (to_z-of_z w64 z zf) ∙ ap (to_z w64) h))
-
-  module _ (h : of_z w64 z ≡ 0 → ⊥) where
-    pub some : nat_abs z ≡ 0 → ⊥
-    some q = h (ap (of_z w64) (ez ∙ ap (λ (m : ℕ). neg_ℤ (pos m)) q))
-
-    rest_is : negsuc 0 -ℤ to_z w64 (of_z w64 z) ≡ pos (nat_abs z - 1)
-    rest_is = ap (λ (w : ℤ). negsuc 0 -ℤ w) (to_z-of_z w64 z zf ∙ ez) ∙ less_one (nat_abs z) some
-
-    pub rest_fits : SFits w64 (negsuc 0 -ℤ to_z w64 (of_z w64 z))
-    rest_fits = rw rest_is (record { sfits = omega (arith, pos_of (nat_abs z) some) })
-      where
-        pos_of : (m : ℕ) → (m ≡ 0 → ⊥) → 0 < m
-        pos_of zero n = absurd (n refl)
-        pos_of (suc m) n = omega arith
-
-    pub rest_held : to_z w64 (of_z w64 (negsuc 0 -ℤ to_z w64 (of_z w64 z))) ≡ pos (nat_abs z - 1)
-    rest_held = to_z-of_z w64 _ rest_fits ∙ rest_is

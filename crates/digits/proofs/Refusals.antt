@@ -51,7 +51,7 @@ module _ (limit base acc c : ℕ) where
 
 module _ (limit base : ℕ) (positive : 0 < base) where
   -- one character more in front
-  further : (c : ℕ) (cs : List ℕ) (acc : ℕ) (t : Turned) (i : ℕ) → Fit base c → StopsAt limit base (digit_step base acc c) cs t i → StopsAt limit base acc (c ∷ cs) t (suc i)
+  further : (c : ℕ) (cs : List ℕ) (acc : ℕ) (t : Turned ℕ) (i : ℕ) → Fit base c → StopsAt limit base (digit_step base acc c) cs t i → StopsAt limit base acc (c ∷ cs) t (suc i)
   unfolding value_from
   further c cs acc t i f s =
       record {
@@ -65,7 +65,7 @@ module _ (limit base : ℕ) (positive : 0 < base) where
       }
 
   -- nothing in front
-  at_once : (c : ℕ) (cs : List ℕ) (acc : ℕ) (t : Turned) → acc ≤ limit → turn_of limit base acc c ≡ t → StopsAt limit base acc (c ∷ cs) t 0
+  at_once : (c : ℕ) (cs : List ℕ) (acc : ℕ) (t : Turned ℕ) → acc ≤ limit → turn_of limit base acc c ≡ t → StopsAt limit base acc (c ∷ cs) t 0
   unfolding value_from
   at_once c cs acc t h e =
       record { inside = omega arith; before = record { only = λ j l. absurd (omega (arith, l)); value = refl; fits = h }; turn = e }
@@ -90,7 +90,7 @@ module _ (limit base : ℕ) (positive : 0 < base) where
   stops [] acc at h = tt
   stops (c ∷ cs) acc at h = go (λ n l. stops cs n (at + 1) l) (turn_of limit base acc c) refl
     where
-      go : ((n : ℕ) → n ≤ limit → Stop n (at + 1) cs (digits_from limit base n (at + 1) cs)) → (t : Turned) → turn_of limit base acc c ≡ t → Stop acc at (c ∷ cs) (on_turn at t (λ (next : ℕ). digits_from limit base next (at + 1) cs))
+      go : ((n : ℕ) → n ≤ limit → Stop n (at + 1) cs (digits_from limit base n (at + 1) cs)) → (t : Turned ℕ) → turn_of limit base acc c ≡ t → Stop acc at (c ∷ cs) (on_turn at t (λ (next : ℕ). digits_from limit base next (at + 1) cs))
       go rest turned.Over q = (0, at_once c cs acc turned.Over h q)
       go rest turned.NotDigit q = (0, (omega arith, at_once c cs acc turned.NotDigit h q))
       go rest (turned.Next n) q =
@@ -98,7 +98,7 @@ module _ (limit base : ℕ) (positive : 0 < base) where
           one_more c cs acc at (digits_from limit base n (at + 1) cs) g.1.0 (rw g.0 (rest n g.1.1))
 
   -- the character in front of a later stop is read
-  passed : (c : ℕ) (cs : List ℕ) (acc : ℕ) (t : Turned) (i : ℕ) → StopsAt limit base acc (c ∷ cs) t (suc i) → (turn_of limit base acc c ≡ turned.Next (digit_step base acc c)) × StopsAt limit base (digit_step base acc c) cs t i
+  passed : (c : ℕ) (cs : List ℕ) (acc : ℕ) (t : Turned ℕ) (i : ℕ) → StopsAt limit base acc (c ∷ cs) t (suc i) → (turn_of limit base acc c ≡ turned.Next (digit_step base acc c)) × StopsAt limit base (digit_step base acc c) cs t i
   unfolding value_from
   passed c cs acc t i s =
       let f = s.before.only 0 (omega arith) in

@@ -8,7 +8,7 @@ use Rattle.digits.specs.declared.Run.{Run}
 use Rattle.digits.specs.declared.Run.TheVariants.{Value, Empty, Underscore, NotDigit, Over}
 
 -- One character: an underscore leaves the magnitude; a digit is multiplied in, judged, and added, in this order.
-unfoldable pub turn_of : (limit base acc c : ℕ) → Turned
+unfoldable pub turn_of : (limit base acc c : ℕ) → Turned ℕ
 turn_of limit base acc c =
     cond (eqb c 0x5f) (turned.Next acc)
     (cond (ltb limit (acc * base)) turned.Over
@@ -17,7 +17,7 @@ turn_of limit base acc c =
     (turned.Next (acc * base + hex_of c)))))
 
 -- What a run answers whose character at the place `at` does this, where the rest answers `rest` from the next magnitude on.
-abbrev pub on_turn : (at : ℕ) → Turned → (ℕ → Run) → Run
+abbrev pub on_turn : (at : ℕ) → Turned ℕ → (ℕ → Run) → Run
 on_turn at (turned.Next acc) rest = rest acc
 on_turn at turned.Over rest = Over
 on_turn at turned.NotDigit rest = NotDigit at

@@ -28,7 +28,7 @@ pub record ReadsFrom (limit base acc : ℕ) (run : List ℕ) (v : ℕ) : Type 0 
   pub fits : v ≤ limit
 
 -- The digits are refused at the character `i`: those before it read, and this one does not.
-pub record StopsAt (limit base acc : ℕ) (run : List ℕ) (t : Turned) (i : ℕ) : Type 0 where
+pub record StopsAt (limit base acc : ℕ) (run : List ℕ) (t : Turned ℕ) (i : ℕ) : Type 0 where
   pub inside : i < length run
   pub before : ReadsFrom limit base acc (take i run) (value_from base acc (take i run))
   pub turn : turn_of limit base (value_from base acc (take i run)) (get_or run i 0) ≡ t

@@ -9,12 +9,5 @@ use hexes::is_int_char;
 pub fn run_len(s: &[u8]) -> usize
     ensures { result ≡ run int_char s.now }
 {
-    let mut i: usize = 0;
-    while i < s.len() {
-        if !is_int_char(s[i]) {
-            return i;
-        }
-        i += 1;
-    }
-    i
+    s.iter().take_while(|c| is_int_char(**c)).count()
 }

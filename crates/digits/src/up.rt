@@ -5,16 +5,16 @@ ghost use Rattle.digits.specs.Digits.{turn_of, digits_of};
 use crate::Run;
 use hexes::{HexAnswer, decode_hex};
 
-// What one character of a run does to the magnitude before it.
+// What one character of a run does to the number before it.
 #[derive(Clone, Copy)]
-pub enum Turned {
-    Next(u64),
+pub enum Turned<N> {
+    Next(N),
     Over,
     NotDigit,
 }
 
 // One character: a digit is multiplied in, judged, and added, in this order; most is the largest that may still be multiplied.
-fn turn(acc: u64, c: u8, base: u64, limit: u64, most: u64) -> Turned
+fn turn(acc: u64, c: u8, base: u64, limit: u64, most: u64) -> Turned<u64>
     requires { (0 < base) × (base ≤ 16) × (most ≡ limit / base) }
     ensures { result ≡ turn_of limit base acc c }
 {
@@ -61,21 +61,12 @@ pub fn digits(run: &[u8], base: u64, limit: u64) -> Run
 {
     let most = most_of(limit, base);
     let mut acc: u64 = 0;
-    let mut i: usize = 0;
-    while i < run.len() {
-        let t = turn(acc, run[i], base, limit, most);
-        match t {
-            Turned::Next(next) => {
-                acc = next;
-            }
-            Turned::Over => {
-                return Run::Over;
-            }
-            Turned::NotDigit => {
-                return Run::NotDigit(i);
-            }
+    for (i, &c) in run.iter().enumerate() {
+        match turn(acc, c, base, limit, most) {
+            Turned::Next(next) => acc = next,
+            Turned::Over => return Run::Over,
+            Turned::NotDigit => return Run::NotDigit(i),
         }
-        i += 1;
     }
     Run::Value(acc)
 }

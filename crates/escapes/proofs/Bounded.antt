@@ -17,11 +17,9 @@ use Rattle.escapes.specs.declared.answers.EscapeAnswer.TheVariants.{Ascii, Refus
 use Rattle.escapes.specs.declared.answers.Mode.{Mode}
 use Rattle.escapes.specs.declared.answers.Mode.TheVariants.{Bytes, Char, Str}
 use Rattle.text.proofs.Choices.{and_true, bool_cases, cond_cases, either}
-use Rattle.text.proofs.ClassLaws.{within_true}
 use Rattle.text.proofs.RunLaws.{run_le}
 use Rattle.text.proofs.Utf8Agree.{char_len_le}
 use Rattle.text.proofs.AsciiLaws.{ascii-first}
-use Rattle.text.specs.Classes.{within}
 use Rattle.text.specs.Runs.{ascii, run}
 use Rattle.text.specs.Utf8.{char_len, code_of, scalar}
 

@@ -1,9 +1,8 @@
 -- Laws of the definitions of specs/Escapes.antt, as the readers go by them. Assumes nothing.
 use Prim.Native.Nat.{ℕ, zero, suc, ◌+◌, ◌-◌, ◌*◌, ◌^◌, ◌≤◌, ◌<◌}
 use native.Mathlib.Omega.{arith}
-use mathlib.Core.Bool.{Bool, true, false, ◌&&◌, cond}
+use mathlib.Core.Bool.{true, false, ◌&&◌, cond}
 use mathlib.Core.List.{List, [], ◌∷◌, ◌++◌}
-use mathlib.Core.Logic.{◌⊎◌, ⊎_elim}
 use mathlib.Core.Path.{◌≡◌, refl, sym, ap, ◌∙◌}
 use lib.Dec.{eqb, ltb}
 use lib.ListN.{length, get_or, drop, set, replicate, length-set, length-append, length-replicate, length-drop, drop_of_length-le}
@@ -13,13 +12,11 @@ use Rattle.escapes.specs.Escapes.{close_of, digits_of, escape_of, hex_by, hex_es
 use Rattle.escapes.specs.declared.answers.EscapeAnswer.{EscapeAnswer}
 use Rattle.escapes.specs.declared.answers.EscapeAnswer.TheVariants.{Ascii, Refused, Utf8}
 use Rattle.escapes.specs.declared.answers.Mode.{Mode}
-use Rattle.escapes.specs.declared.answers.SimpleAnswer.TheVariants.{Byte, Other}
+use Rattle.std.specs.Prelude.{Some, None}
 use Rattle.text.proofs.Choices.{and_false, bool_cases, cond_cases, either}
-use Rattle.text.proofs.ClassLaws.{above, below, in_within, within_true}
 use Rattle.text.proofs.Lists.{front}
-use Rattle.text.specs.Classes.{within}
 use Rattle.text.specs.Refusals.{eof, invalid_escape}
-use Rattle.text.specs.Utf8.{In, char_len, code_of, scalar}
+use Rattle.text.specs.Utf8.{char_len, code_of, scalar}
 use Rattle.text.specs.declared.reason.EscapeReason.TheVariants.{DigitNotHex, MissingOpenBrace, NoClosingBrace, NoDigits, NotACharacter, NotByteEscaped, UnknownLetter}
 use Rattle.text.specs.declared.refusal.Refusal.{Refusal}
 
@@ -283,11 +280,11 @@ escape_at m (b ∷ t) h = refl
 -- ---- what the answer on a letter says
 
 module _ (b : ℕ) where
-  pub letter_value : (k : ℕ) → simple_answer b ≡ Byte k → k ≡ simple_of b
-  letter_value k e = either (bool_cases (ltb (simple_of b) 256)) (λ t. let z : Byte (simple_of b) ≡ Byte k = rw t at e in cc) (λ n. let z : Other ≡ Byte k = rw n at e in cc)
+  pub letter_value : (k : ℕ) → simple_answer b ≡ Some k → k ≡ simple_of b
+  letter_value k e = either (bool_cases (ltb (simple_of b) 256)) (λ t. let z : Some (simple_of b) ≡ Some k = rw t at e in cc) (λ n. let z : None ≡ Some k = rw n at e in cc)
 
-  pub letter_small : (k : ℕ) → simple_answer b ≡ Byte k → ltb (simple_of b) 256 ≡ true
-  letter_small k e = either (bool_cases (ltb (simple_of b) 256)) (λ t. t) (λ n. let z : Other ≡ Byte k = rw n at e in cc)
+  pub letter_small : (k : ℕ) → simple_answer b ≡ Some k → ltb (simple_of b) 256 ≡ true
+  letter_small k e = either (bool_cases (ltb (simple_of b) 256)) (λ t. t) (λ n. let z : None ≡ Some k = rw n at e in cc)
 
-  pub no_letter : simple_answer b ≡ Other → ltb (simple_of b) 256 ≡ false
-  no_letter e = either (bool_cases (ltb (simple_of b) 256)) (λ t. let z : Byte (simple_of b) ≡ Other = rw t at e in cc) (λ n. n)
+  pub no_letter : simple_answer b ≡ None → ltb (simple_of b) 256 ≡ false
+  no_letter e = either (bool_cases (ltb (simple_of b) 256)) (λ t. let z : Some (simple_of b) ≡ None = rw t at e in cc) (λ n. n)

@@ -1,7 +1,7 @@
 -- Escapes (document 01, module 3): "`\u{}` takes 1 to 6 hex digits, no surrogate, nothing above U+10FFFF. In a string `\x` takes up to four in a row until
 -- they form one UTF-8 character; in a char only one; in byte literals and byte strings any byte." An escape is read over the part of the text from behind
 -- its `\`, and its length and places are counted from there. Below, t is what is left of the part, and `at` its place. CR 1: 13 has a reason, one of eight.
-use Rattle.std.specs.Prelude.{ℕ, zero, suc, ◌+◌, ◌*◌, List, [], ◌∷◌, ◌++◌, Bool, true, false, cond, ◌&&◌, get_or, drop, eqb, ltb}
+use Rattle.std.specs.Prelude.{ℕ, zero, suc, ◌+◌, ◌*◌, List, [], ◌∷◌, ◌++◌, Bool, false, cond, ◌&&◌, Option, Some, None, get_or, drop, eqb, ltb}
 use Rattle.text.specs.Refusals.{eof, invalid_escape}
 use Rattle.text.specs.declared.reason.EscapeReason.TheVariants.{DigitNotHex, UnknownLetter, NotByteEscaped, MissingOpenBrace}
 use Rattle.text.specs.declared.reason.EscapeReason.TheVariants.{NoDigits, NoClosingBrace, NotACharacter}
@@ -9,8 +9,6 @@ unfoldable pub use Rattle.hexes.specs.Hex.{hex_of}
 use Rattle.text.specs.Utf8.{char_len, code_of, scalar}
 use Rattle.escapes.specs.declared.answers.Mode.{Mode}
 use Rattle.escapes.specs.declared.answers.Mode.TheVariants.{Str, Char, Bytes}
-use Rattle.escapes.specs.declared.answers.SimpleAnswer.{SimpleAnswer}
-use Rattle.escapes.specs.declared.answers.SimpleAnswer.TheVariants.{Byte, Other}
 use Rattle.escapes.specs.declared.answers.EscapeAnswer.{EscapeAnswer}
 use Rattle.escapes.specs.declared.answers.EscapeAnswer.TheVariants.{Ascii, Utf8, Refused}
 
@@ -95,8 +93,8 @@ simple_of b =
     (cond (eqb b 0x30) 0x00 256))))))
 
 -- A letter with the byte that it stands for, or another.
-abbrev pub simple_answer : ℕ → SimpleAnswer
-simple_answer b = cond (ltb (simple_of b) 256) (Byte (simple_of b)) Other
+abbrev pub simple_answer : ℕ → Option ℕ
+simple_answer b = cond (ltb (simple_of b) 256) (Some (simple_of b)) None
 
 -- The escape at the front of a part.
 unfoldable pub escape_of : Mode → List ℕ → EscapeAnswer

@@ -21,13 +21,6 @@ pub enum Mode {
     Bytes,
 }
 
-// A letter that stands for one byte, as `n` does, or any other byte behind the `\`.
-#[derive(Clone, Copy)]
-pub enum SimpleAnswer {
-    Byte(u8),
-    Other,
-}
-
 // The text ends within an escape.
 pub fn ended(place: usize) -> EscapeAnswer
     ensures { result ≡ EscapeAnswer.Refused (eof place) }

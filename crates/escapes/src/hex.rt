@@ -30,8 +30,7 @@ fn more_bytes(t: &[u8], at: usize, b: u8) -> EscapeAnswer
     ensures { result ≡ more_bytes 3 (b ∷ []) at t.now }
 {
     let mut bytes = [b, 0, 0, 0];
-    let mut n: usize = 1;
-    while n < 4 {
+    for n in 1..4 {
         let i = (n - 1) * 4;
         match next_byte(&t[i..], at + i) {
             EscapeAnswer::Ascii(h, p) => {
@@ -39,7 +38,6 @@ fn more_bytes(t: &[u8], at: usize, b: u8) -> EscapeAnswer
                 if utf8::char_len(&bytes) != 0 {
                     return EscapeAnswer::Utf8(utf8::code_point(&bytes), p);
                 }
-                n += 1;
             }
             EscapeAnswer::Utf8(v, p) => {
                 return EscapeAnswer::Utf8(v, p);

@@ -15,22 +15,23 @@ ghost use Rattle.std.specs.Prelude.{◌≡◌};
 ghost use Rattle.escapes.specs.Escapes.{simple_answer, escape_of};
 
 pub use answers::{EscapeAnswer, Mode, in_byte_literal};
-use answers::{SimpleAnswer, ended, invalid};
+use answers::{ended, invalid};
 use text::{EscapeReason, utf8};
 
-// What a letter behind the `\` stands for by itself.
-fn simple(b: u8) -> SimpleAnswer
+// What a letter behind the `\` stands for by itself, as `n` does.
+#[tactic(auto, unfolding(crate::specs::Escapes::simple_of))]
+fn simple(b: u8) -> Option<u8>
     ensures { result ≡ simple_answer b }
 {
     match b {
-        b'\'' => SimpleAnswer::Byte(0x27),
-        b'"' => SimpleAnswer::Byte(0x22),
-        b'\\' => SimpleAnswer::Byte(0x5C),
-        b'n' => SimpleAnswer::Byte(0x0A),
-        b'r' => SimpleAnswer::Byte(0x0D),
-        b't' => SimpleAnswer::Byte(0x09),
-        b'0' => SimpleAnswer::Byte(0x00),
-        _ => SimpleAnswer::Other,
+        b'\'' => Some(0x27),
+        b'"' => Some(0x22),
+        b'\\' => Some(0x5C),
+        b'n' => Some(0x0A),
+        b'r' => Some(0x0D),
+        b't' => Some(0x09),
+        b'0' => Some(0x00),
+        _ => None,
     }
 }
 
@@ -42,8 +43,7 @@ pub fn parse_escape(m: Mode, s: &[u8]) -> EscapeAnswer
         return ended(0);
     }
     let b = s[0];
-    let letter = simple(b);
-    if let SimpleAnswer::Byte(k) = letter {
+    if let Some(k) = simple(b) {
         return EscapeAnswer::Ascii(k, 1);
     }
     if b == b'x' {

@@ -38,24 +38,20 @@ pub fn unicode_escape(s: &[u8], at: usize) -> EscapeAnswer
     if s[0] != b'{' {
         return invalid(EscapeReason::MissingOpenBrace, at);
     }
-    let mut i = 1;
     let mut v: u32 = 0;
-    let mut left: usize = 6;
-    while 0 < left {
+    for i in 1..7 {
         if s.len() <= i {
             return ended(at + i);
         }
         let b = s[i];
         if b == b'}' {
-            return close(&s[i..], at + i, left == 6, v);
+            return close(&s[i..], at + i, i == 1, v);
         }
         let digit = decode_hex(b);
         let HexAnswer::Digit(h) = digit else {
             return invalid(EscapeReason::DigitNotHex, at + i + utf8::char_len(&s[i..]));
         };
         v = v * 16 + h as u32;
-        i += 1;
-        left -= 1;
     }
-    close(&s[i..], at + i, false, v)
+    close(&s[7..], at + 7, false, v)
 }

@@ -46,14 +46,11 @@ pub fn goes_on(t: &[u8]) -> bool
 pub fn float_run(s: &[u8]) -> usize
     ensures { result ≡ float_run s.now }
 {
-    let mut i: usize = 0;
-    while i < s.len() {
+    for (i, &a) in s.iter().enumerate() {
         let b = peek(s, i + 1);
-        if float_goes(s[i], b) {
-            i += 1;
-        } else {
+        if !float_goes(a, b) {
             return i;
         }
     }
-    i
+    s.len()
 }

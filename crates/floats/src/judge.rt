@@ -46,15 +46,12 @@ pub fn judge_run(part: &[u8]) -> Judged
 {
     let mut may = false;
     let mut st = State::Start;
-    let mut i: usize = 0;
-    while i < part.len() {
-        let c = part[i];
+    for (i, &c) in part.iter().enumerate() {
         if is_misplaced(may, c) {
             return Judged::Misplaced(i);
         }
         may = may_follow(may, c);
         st = advance(st, c);
-        i += 1;
     }
     if is_final(st) {
         return Judged::Fine;

@@ -24,17 +24,7 @@ pub fn nothing() -> Found
 pub fn check_str(t: &[u8], word: &[u8]) -> bool
     ensures { result ≡ starts_with word.now t.now }
 {
-    let mut i: usize = 0;
-    while i < word.len() {
-        if t.len() <= i {
-            return false;
-        }
-        if t[i] != word[i] {
-            return false;
-        }
-        i += 1;
-    }
-    true
+    t.starts_with(word)
 }
 
 // The word stands at the front and no name goes on behind it.

@@ -64,16 +64,11 @@ pub fn suffix_of(t: &[u8]) -> Found
     if !is_suffix_first(peek(t, 0)) {
         return nothing();
     }
-    let mut k: u8 = 1;
-    let found = loop {
-        if 8 < k {
-            break Found { code: 0, end: 0 };
-        }
+    for k in 1..9 {
         if suffix_at(t, k) {
             let end = suffix_len(k);
-            break Found { code: k, end };
+            return Found { code: k, end };
         }
-        k += 1;
-    };
-    found
+    }
+    nothing()
 }

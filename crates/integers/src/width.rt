@@ -2,10 +2,10 @@
 ghost use Rattle.std.specs.Prelude.{◌≡◌, true, false, pos, neg_ℤ};
 ghost use Rattle.integers.specs.Width.{code_of, width_at, limit_at, first_fit, widest};
 
-// An integer's type.
+// An integer's type, by the paper's numbers.
 #[derive(Clone, Copy)]
 pub enum Width {
-    I8,
+    I8 = 1,
     I16,
     I32,
     I64,
@@ -19,16 +19,7 @@ pub enum Width {
 pub fn code_of(width: Width) -> u8
     ensures { result ≡ code_of width }
 {
-    match width {
-        Width::I8 => 1,
-        Width::I16 => 2,
-        Width::I32 => 3,
-        Width::I64 => 4,
-        Width::U8 => 5,
-        Width::U16 => 6,
-        Width::U32 => 7,
-        Width::U64 => 8,
-    }
+    width as u8
 }
 
 // The width of a number; the last also for any other number.

@@ -4,31 +4,18 @@ ghost use Rattle.std.specs.Float.{binary64};
 ghost use Rattle.std.specs.Float.Ieee.{of_int};
 ghost use Rattle.quotients.specs.Quotient.{quotient_of, signed_of};
 
-// 10 to the power k, as a whole number.
-fn tens(k: usize) -> u64
-    requires { k ≤ 15 }
-    ensures { result ≡ 10 ^ k }
-{
-    let mut p: u64 = 1;
-    let mut i: usize = 0;
-    while i < k {
-        p = p * 10;
-        i += 1;
-    }
-    p
-}
-
-// The same as an f64: a whole number up to 2^53 is cast, and a greater power is the product of two that are.
+// 10 to the power k as an f64: a whole number up to 2^53 is cast, and a greater power is the product of two that are.
 fn power_of_ten(k: usize) -> f64
     requires { k ≤ 22 }
     ensures { result ≡ of_int binary64 (pos (10 ^ k)) }
 {
+    let exponent = k as u32;
     if k <= 15 {
-        let whole = tens(k);
+        let whole = 10_u64.pow(exponent);
         return whole as f64;
     }
-    let low = tens(15);
-    let high = tens(k - 15);
+    let low = 10_u64.pow(15);
+    let high = 10_u64.pow(exponent - 15);
     (low as f64) * (high as f64)
 }
 

@@ -43,7 +43,7 @@ returns-in-Clear c =
     let ran : (r : Gap) → c.skip_gap-run.result ≡ r → cursor_behind (c.args.self).cursor c.pre_ws-pre.result r ≡ skip_ws_of (c.args.text.now) (c.args.self) = λ r e. ap (λ (n : ℕ). cursor_behind (c.args.self).cursor n r) c.pre_ws-pre.ensures
     ∙ ap (cursor_behind (c.args.self).cursor (pre_of (c.args.self))) (sym (gap_is r e))
     ∙ sym (skip_runs (c.args.text.now) (c.args.self) c.if-text-at.false) in
-    ap (λ (n : ℕ). Moved (cursor (c.args.self.cursor + c.in-Clear.n) c.pre_ws-pre.result n)) c.less-len.ensures ∙ ran (Clear _) c.in-Clear.is
+    ap (λ (n : ℕ). Moved (cursor (c.args.self.cursor + c.in-Clear.n) c.pre_ws-pre.result n)) c.saturating_sub-len.ensures ∙ ran (Clear _) c.in-Clear.is
 
 pub returns-in-InLine : goal.returns-in-InLine
 returns-in-InLine c =

@@ -1,19 +1,14 @@
-use native.Mathlib.Nat.{zero-add}
-use native.Mathlib.Omega.{arith}
-use mathlib.Core.Path.{◌∙◌, sym}
-use borrow.Author.Rules.{rules}
-use Rattle.text.proofs.RunLaws.{run_end, run_more, run_out}
+use Rattle.std.proofs.Common.{◌∙◌, rules, tests}
+use Rattle.std.proofs.lemmas.Iterator.{YieldsList-from_slice}
+use Rattle.std.proofs.lemmas.Iterator.Consumers.{count_from_yields_List}
+use Rattle.std.proofs.lemmas.Iterator.Search.{YieldsList-from_take_while}
+use Rattle.std.proofs.lemmas.List.Folds.{length-prefix_len}
 use Rattle.text.specs.Classes.{int_char}
+use Rattle.digits.proofs.Laws.{run_prefix}
 use Rattle.digits.proofs.digit.run_len.Goals as goal
 
-pub loop-i-init : goal.loop-i-init
-loop-i-init c = (search rules, sym (zero-add _))
-
-pub returns-then-not-is_int_char : goal.returns-then-not-is_int_char
-returns-then-not-is_int_char c = omega (arith, run_out int_char c.args.s.now c.loop-i.i (omega arith) (sym c.is_int_char.ensures ∙ c.if-not-is_int_char.true), c.loop-i.invariant.1)
-
-pub loop-i-preserved : goal.loop-i-preserved
-loop-i-preserved c = (omega arith, omega (arith, run_more int_char c.args.s.now c.loop-i.i (omega arith) (sym c.is_int_char.ensures ∙ c.if-not-is_int_char.false), c.loop-i.invariant.1))
-
 pub returns : goal.returns
-returns c = omega (arith, run_end int_char c.args.s.now c.loop-i.i (omega arith), c.loop-i.invariant.1)
+returns c =
+    let s = c.args.s.now in
+    count_from_yields_List c.take_while.result _ c.count.ensures.ran (YieldsList-from_take_while _ int_char (YieldsList-from_slice s cc) c.take_while.ensures.closure c.take_while.ensures.done (λ x b q k. search (rules, tests)))
+    ∙ length-prefix_len int_char s ∙ run_prefix int_char s

@@ -7,7 +7,7 @@ use lib.Signed.{nat_abs-le}
 use borrow.Author.Tests.{eq-eqb, le-leb, le-ltb, lt-leb, lt-ltb, ltb-false, ltb-true, ne_eqb}
 use Rattle.digits.specs.Digits.{hex_of, turn_of}
 use Rattle.hexes.proofs.HexLaws.{digit_value, no_digit}
-use Rattle.digits.specs.declared.down.Down.TheVariants.{Next}
+use Rattle.digits.specs.declared.up.Turned.TheVariants.{Next}
 use Rattle.digits.proofs.Neg as neg
 use Rattle.digits.proofs.down.turn_down.Goals as goal
 
@@ -87,20 +87,6 @@ returns-then-base-d c =
     let a = c.args in
     let v = digit_value a.c _ (sym c.decode_hex-digit.ensures ∙ c.in-Digit.is) in
     simp (ne_eqb _ _ c.if-c-eq95.false, le-ltb _ _ (product), le-leb a.base (hex_of a.c) (omega (arith, v)))
-
-pub overflow_add-low : goal.overflow_add-low
-overflow_add-low c =
-    let negative : neg.Negative c.args.acc c.args.low c.args.base = record {
-      acc_fits = c.ranges.acc;
-      low_fits = c.ranges.low;
-      acc_neg = c.requires.2;
-      low_neg = c.requires.3;
-      acc_le = nat_abs-le c.args.acc c.ranges.acc.sfits;
-      low_le = nat_abs-le c.args.low c.ranges.low.sfits;
-      base_le = c.requires.1;
-    } in
-    let product : nat_abs c.args.acc * c.args.base ≤ nat_abs c.args.low = (le-div_iff_mul-le c.requires.0).0 (ltb-false _ _ (sym (neg.test_is (negative) c.ranges.least c.requires.4) ∙ c.if-acc-least.false)) in
-    neg.sum_fits (negative) (product) c.in-Digit.h (omega arith)
 
 pub returns-then-product-low : goal.returns-then-product-low
 unfolding turn_of

@@ -1,11 +1,7 @@
-use Prim.Native.Nat.{◌-◌, ◌≤◌}
 use mathlib.Core.Path.{◌≡◌}
-use lib.ListN.{drop, length}
+use lib.ListN.{drop}
 use Rattle.digits.specs.Digits.{digits_from, digits_of}
 use Rattle.digits.proofs.up.digits.Given as goal
 
 abbrev pub invariant-loop-i : goal.invariant-loop-i
-invariant-loop-i l = (l.i ≤ length l.run) × (digits_of l.limit l.base l.run ≡ digits_from l.limit l.base l.acc l.i (drop l.i l.run))
-
-abbrev pub decreases-loop-i : goal.decreases-loop-i
-decreases-loop-i l = length l.run - l.i
+invariant-loop-i l = digits_of l.limit l.base l.run ≡ digits_from l.limit l.base l.acc l.i (drop l.i l.run)

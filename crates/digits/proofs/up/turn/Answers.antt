@@ -15,9 +15,6 @@ pub returns-then-most-acc : goal.returns-then-most-acc
 unfolding turn_of
 returns-then-most-acc c = simp (ne_eqb _ _ c.if-c-eq95.false, lt-ltb _ _ ((div-lt_iff_lt-mul c.requires.0).0 (rw c.requires.2 at c.if-most-acc.true)))
 
-pub overflow_mul-product : goal.overflow_mul-product
-overflow_mul-product c = omega (arith, (le-div_iff_mul-le c.requires.0).0 (rw c.requires.2 at c.if-most-acc.false))
-
 pub returns-in_default : goal.returns-in_default
 unfolding turn_of
 returns-in_default c =
@@ -34,9 +31,6 @@ returns-then-base-d c =
     let h : a.acc * a.base ≤ a.limit = (le-div_iff_mul-le c.requires.0).0 (rw c.requires.2 at c.if-most-acc.false) in
     simp (ne_eqb _ _ c.if-c-eq95.false, le-ltb _ _ h, le-leb a.base (hex_of a.c) (omega (arith, v)))
 
-pub overflow_sub-limit : goal.overflow_sub-limit
-overflow_sub-limit c = (le-div_iff_mul-le c.requires.0).0 (rw c.requires.2 at c.if-most-acc.false)
-
 pub returns-then-limit-product : goal.returns-then-limit-product
 unfolding turn_of
 returns-then-limit-product c =
@@ -44,13 +38,6 @@ returns-then-limit-product c =
     let v = digit_value a.c _ (sym c.decode_hex-digit.ensures ∙ c.in-Digit.is) in
     let h : a.acc * a.base ≤ a.limit = (le-div_iff_mul-le c.requires.0).0 (rw c.requires.2 at c.if-most-acc.false) in
     simp (ne_eqb _ _ c.if-c-eq95.false, le-ltb _ _ h, lt-leb a.base (hex_of a.c) (omega (arith, v)), lt-ltb a.limit (a.acc * a.base + hex_of a.c) (omega (arith, v)))
-
-pub overflow_add-next : goal.overflow_add-next
-overflow_add-next c =
-    let a = c.args in
-    let v = digit_value a.c _ (sym c.decode_hex-digit.ensures ∙ c.in-Digit.is) in
-    let h : a.acc * a.base ≤ a.limit = (le-div_iff_mul-le c.requires.0).0 (rw c.requires.2 at c.if-most-acc.false) in
-    omega (arith, v)
 
 pub returns : goal.returns
 unfolding turn_of

@@ -2,7 +2,6 @@ use Prim.Native.Nat.{◌*◌, ◌+◌, ℕ}
 use native.Mathlib.Omega.{arith}
 use mathlib.Core.Path.{◌∙◌, ap, sym}
 use lib.ListN.{get_or}
-use borrow.Author.Rules.{rules}
 use borrow.Author.Tests.{eq-eqb, ne_eqb}
 use Rattle.escapes.proofs.EscapeLaws.{second_at, second_end}
 use Rattle.hexes.proofs.HexLaws.{digit_lt, digit_some, digit_value, no_digit}

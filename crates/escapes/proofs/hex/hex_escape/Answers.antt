@@ -1,7 +1,6 @@
 use native.Mathlib.Omega.{arith}
 use mathlib.Core.Path.{◌∙◌, sym}
 use lib.ListN.{length-drop}
-use borrow.Author.Rules.{rules}
 use borrow.Author.Tests.{le-ltb, lt-ltb}
 use Rattle.escapes.proofs.EscapeLaws.{hex_byte, hex_refused, hex_utf8, two_ascii}
 use Rattle.text.proofs.Lists.{tail_part}

@@ -1,7 +1,4 @@
-use native.Mathlib.Omega.{arith}
 use mathlib.Core.Path.{◌∙◌, sym}
-use lib.ListN.{length-drop}
-use borrow.Author.Rules.{rules}
 use borrow.Author.Tests.{eq-eqb, ne_eqb}
 use Rattle.escapes.proofs.EscapeLaws.{next_short}
 use Rattle.escapes.specs.Escapes.{next_byte}
@@ -18,9 +15,6 @@ returns-then-t-ne92 c = c.invalid-then-t-ne92.ensures ∙ simp (ne_eqb _ _ c.if-
 pub returns-then-t-ne120 : goal.returns-then-t-ne120
 unfolding next_byte
 returns-then-t-ne120 c = c.invalid-then-t-ne120.ensures ∙ simp (eq-eqb _ _ c.if-t-ne92.false, ne_eqb _ _ c.if-t-ne120.true)
-
-pub decode_ascii_escape-requires : goal.decode_ascii_escape-requires
-decode_ascii_escape-requires c = simp tail_part (omega (arith, length-drop 2 c.args.t.now))
 
 pub returns : goal.returns
 unfolding next_byte

@@ -1,6 +1,5 @@
 use native.Mathlib.Omega.{arith}
 use mathlib.Core.Path.{◌∙◌, sym}
-use borrow.Author.Rules.{rules}
 use borrow.Author.Tests.{eq-eqb, ne_eqb}
 use Rattle.escapes.proofs.EscapeLaws.{close_at, close_empty, close_end}
 use Rattle.escapes.proofs.unicode.close.Goals as goal

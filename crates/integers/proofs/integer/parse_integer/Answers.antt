@@ -3,7 +3,7 @@ use mathlib.Core.Bool.{true}
 use mathlib.Core.Path.{◌∙◌, ◌≡◌, ap, sym}
 use lib.IntN.{nat_abs}
 use borrow.Author.Rules.{rules}
-use Rattle.digits.proofs.Neg.{nat_abs_neg, self}
+use Rattle.digits.proofs.Neg.{nat_abs_neg}
 use Rattle.digits.specs.Digits.{digits_of}
 use Rattle.integers.proofs.Runs.{digits_run, empty_run, underscore_run}
 use Rattle.integers.specs.Width.{limit_at}
@@ -16,11 +16,6 @@ returns-then-run-eq0 c = empty_run (limit_at c.args.code c.args.minus) c.args.ba
 
 pub returns-then-run-eq95 : goal.returns-then-run-eq95
 returns-then-run-eq95 c = underscore_run (limit_at c.args.code c.args.minus) c.args.base c.args.run.now c.if-run-eq0.false c.if-run-eq95.true
-
-pub digits_down-requires : goal.digits_down-requires
-digits_down-requires c =
-    let h : to_z w64 (of_z w64 c.lowest.result) ≡ c.lowest.result = search rules in
-    (c.requires.0, c.requires.1, self _ (limit_at c.args.code true) (h ∙ c.lowest.ensures))
 
 pub returns-then-minus : goal.returns-then-minus
 returns-then-minus c =

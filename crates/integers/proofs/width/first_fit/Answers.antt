@@ -1,11 +1,6 @@
-use mathlib.Core.Bool.{Bool}
-use mathlib.Core.Path.{◌∙◌, ap, sym}
 use borrow.Author.Tests.{le-leb, lt-leb}
 use Rattle.integers.specs.Width.{first_fit}
 use Rattle.integers.proofs.width.first_fit.Goals as goal
-
-pub returns-then-minus : goal.returns-then-minus
-returns-then-minus c = c.first_signed.ensures ∙ ap (λ (m : Bool). first_fit m c.args.magnitude) (sym c.if-minus.true)
 
 pub returns-then-magnitude-le255 : goal.returns-then-magnitude-le255
 unfolding first_fit

@@ -12,19 +12,10 @@ cast : (n k : ℕ) → n ≡ 10 ^ k → k ≤ 15 → T (in_float binary64 (pos n
 cast n k e h = in-float n (subst (λ (x : ℕ). x ≤ 2 ^ 53) (sym e) (power_small k h))
 
 pub int_to_float-result : goal.int_to_float-result
-int_to_float-result c = cast c.tens-whole.result c.args.k c.tens-whole.ensures (omega arith)
-
-pub returns-then-k-le15 : goal.returns-then-k-le15
-returns-then-k-le15 c = ap (λ (n : ℕ). of_int binary64 (pos n)) c.tens-whole.ensures
-
-pub int_to_float-result-2 : goal.int_to_float-result-2
-int_to_float-result-2 c = cast c.tens-low.result 15 c.tens-low.ensures (lit≤ tt)
-
-pub int_to_float-result-3 : goal.int_to_float-result-3
-int_to_float-result-3 c = cast c.tens-high.result (c.args.k - 15) c.tens-high.ensures (omega (arith, c.requires))
+int_to_float-result c = cast c.pow-whole.result c.args.k c.pow-whole.ensures (omega arith)
 
 pub returns : goal.returns
 returns c =
-    ap₂ (λ (a b : ℕ). mul binary64 (of_int binary64 (pos a)) (of_int binary64 (pos b))) c.tens-low.ensures c.tens-high.ensures
+    ap₂ (λ (a b : ℕ). mul binary64 (of_int binary64 (pos a)) (of_int binary64 (pos b))) c.pow-low.ensures c.pow-high.ensures
     ∙ product 15 (c.args.k - 15) (lit≤ tt) (omega (arith, c.requires))
     ∙ ap (λ (n : ℕ). of_int binary64 (pos (10 ^ n))) (omega arith)

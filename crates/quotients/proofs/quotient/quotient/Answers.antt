@@ -1,14 +1,8 @@
-use native.Mathlib.Nat.{le_trans, le_of_lt}
 use mathlib.Core.Path.{ap}
-use lib.Dec.{lit≤}
 use lib.IntN.{pos}
 use lib.Ieee.{Float, binary64, of_int, div, neg}
 use Rattle.quotients.specs.Quotient.{quotient_of}
-use Rattle.quotients.proofs.Exact.{in-float}
 use Rattle.quotients.proofs.quotient.quotient.Goals as goal
-
-pub int_to_float-q : goal.int_to_float-q
-int_to_float-q c = in-float c.args.m (le_trans (le_of_lt c.requires.m_bound) (lit≤ tt))
 
 pub returns-then-minus : goal.returns-then-minus
 unfolding quotient_of
