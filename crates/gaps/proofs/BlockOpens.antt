@@ -1,5 +1,5 @@
 -- Block comments that are still open: `still` says that the bytes of one may be replaced by its last byte, if that is unpaired, at the level that they leave,
--- and `marks-pass` that a mark `/*` only adds to the level. Assumes nothing.
+-- and `marks_pass` that a mark `/*` only adds to the level. Assumes nothing.
 use Prim.Native.Nat.{◌*◌, ◌+◌, ◌-◌, ◌≤◌, pred, suc, zero, ℕ}
 use native.Mathlib.Nat.{add-zero}
 use native.Mathlib.Numerals.{add-one}

@@ -1,9 +1,9 @@
 -- A text in whitespace or in an open comment may be replaced by the shortest one that leaves the same open.
 --     ways          which gap a text begins with, and what is open behind it
---     canon-short   `canon s` is no longer than s
---     canon-gap     whatever follows, the gap is that of `canon s`, told further on
---     open-on       and the same is open
---     canon-on      so `canon` of two pieces is `canon` of the first's and the second, unless the text is refused with 5
+--     canon_short   `canon s` is no longer than s
+--     canon_gap     whatever follows, the gap is that of `canon s`, told further on
+--     open_on       and the same is open
+--     canon_on      so `canon` of two pieces is `canon` of the first's and the second, unless the text is refused with 5
 -- Assumes nothing.
 use Prim.Native.Nat.{◌*◌, ◌+◌, ◌-◌, ◌≤◌, pred, suc, ℕ}
 use native.Mathlib.Nat.{le_refl}

@@ -1,8 +1,8 @@
 -- Pieces one after the other.
---     front-least       the gap of a text that begins with a front does not end in it
---     within-leaves     a piece that is passed to its end leaves what the answer says, and nothing else
---     begins-told       a place of a piece is a place of the text (`unexpected-told` says so of a refusal), and what begins there is left (`begins-leaves`)
---     passed-cut        behind a piece that is passed to its end, the next says what both say in one
+--     front_least       the gap of a text that begins with a front does not end in it
+--     within_leaves     a piece that is passed to its end leaves what the answer says, and nothing else
+--     begins_told       a place of a piece is a place of the text (`unexpected_told` says so of a refusal), and what begins there is left (`begins_leaves`)
+--     passed_cut        behind a piece that is passed to its end, the next says what both say in one
 -- Assumes nothing.
 use Prim.Native.Nat.{◌+◌, ◌-◌, ◌<◌, ◌≤◌, suc, ℕ}
 use native.Mathlib.Omega.{arith}

@@ -1,9 +1,9 @@
 -- The shortest text that leaves something open.
---     open-front    leaves it open, and nothing else is left of it (`canon-front`)
+--     open_front    leaves it open, and nothing else is left of it (`canon_front`)
 --     open-fits     what a text leaves open can be so left
---     front-short   is no longer than any text that leaves it open; `level-on` bounds the level that a piece comes to
+--     front_short   is no longer than any text that leaves it open; `level_on` bounds the level that a piece comes to
 -- Assumes nothing.
-use Prim.Native.Nat.{◌*◌, ◌+◌, ◌-◌, ◌≤◌, pred, suc, ℕ}
+use Prim.Native.Nat.{◌*◌, ◌+◌, ◌≤◌, pred, suc, ℕ}
 use native.Mathlib.Omega.{arith}
 use mathlib.Core.Bool.{Bool, cond, false, true}
 use mathlib.Core.List.{List, [], ◌++◌, ◌∷◌, append-nil}

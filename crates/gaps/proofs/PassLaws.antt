@@ -36,8 +36,7 @@ use Rattle.gaps.proofs.Standing.{Comment, Halts, closed_item, gap_closed, gap_la
 use Rattle.gaps.specs.Opens.{block_open, by_open, front, last_byte, later_by, marks, open_from, open_of, unpaired}
 use Rattle.gaps.specs.Passes.{passed_by, passed_of}
 use Rattle.gaps.specs.inner.Steps.{behind_end, block_at, clear_at, line_at, rest_by, rest_of, step_by}
-use Rattle.gaps.specs.declared.block.Rest.{Rest}
-use Rattle.gaps.specs.declared.block.Rest.TheVariants as rests
+use Rattle.std.proofs.Common.{Result, Ok, Err}
 use Rattle.gaps.specs.declared.pass.Passed.{Passed}
 use Rattle.gaps.specs.declared.pass.Passed.TheVariants as passed
 use Rattle.gaps.specs.declared.state.Open.{Open}
@@ -300,9 +299,9 @@ unfolding line_at
 line_none_at s i j e h = ap (behind_end s Line) (line_none (drop i s) i (omega (arith, length-drop i s)))
 
 -- by how far a block comment goes
-abbrev pub passed_rest : List ℕ → Rest → Passed
-passed_rest s (rests.Closed n) = clear_at s n
-passed_rest s (rests.Still o) = passed.Within o
+abbrev pub passed_rest : List ℕ → Result ℕ Open → Passed
+passed_rest s (Ok n) = clear_at s n
+passed_rest s (Err o) = passed.Within o
 
 pub block_rest_at : (s : List ℕ) (i k : ℕ) → block_at s i k ≡ passed_rest s (rest_of s i k)
 unfolding block_at rest_of
@@ -313,9 +312,9 @@ block_rest_at s i k = go (block_from (drop i s) (suc k) i)
     go Unclosed = refl
 
 -- it ends within the piece
-abbrev pub RestSized : List ℕ → Rest → Type 0
-RestSized s (rests.Closed n) = n ≤ length s
-RestSized s (rests.Still o) = Unit {0}
+abbrev pub RestSized : List ℕ → Result ℕ Open → Type 0
+RestSized s (Ok n) = n ≤ length s
+RestSized s (Err o) = Unit {0}
 
 pub rest_sized : (s : List ℕ) (i k : ℕ) → i ≤ length s → RestSized s (rest_of s i k)
 unfolding rest_of

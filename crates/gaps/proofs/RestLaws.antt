@@ -12,7 +12,6 @@ use lib.Seq.{drop-drop}
 use borrow.Author.Tests.{eqb-false, not-true}
 use Rattle.comments.proofs.BlockLaws.{Decided, block_passes, block_short, decided}
 use Rattle.comments.specs.Blocks.{block_from, decision_of}
-use Rattle.comments.specs.declared.block.CommentEnd.TheVariants.{Closed}
 use Rattle.comments.specs.declared.block.Decision.{Decision}
 use Rattle.comments.specs.declared.block.Decision.TheVariants as decision
 use Rattle.search.specs.inner.Others.{neither}
@@ -22,13 +21,12 @@ use Rattle.text.specs.Runs.{run}
 use Rattle.gaps.proofs.BlockOpens.{after_open, open_step, other_open}
 use Rattle.gaps.specs.Opens.{block_open, unpaired}
 use Rattle.gaps.specs.inner.Steps.{rest_by, rest_of}
-use Rattle.gaps.specs.declared.block.Rest.{Rest}
-use Rattle.gaps.specs.declared.block.Rest.TheVariants as rest
+use Rattle.std.proofs.Common.{Result, Ok, Err}
 use Rattle.gaps.specs.declared.state.Open.{Open}
 use Rattle.gaps.specs.declared.state.Open.TheVariants.{Block}
 
 -- at the place i, where `level` comments are open
-unfoldable pub rest_at : List ℕ → ℕ → ℕ → Rest
+unfoldable pub rest_at : List ℕ → ℕ → ℕ → Result ℕ Open
 rest_at s i level = rest_by (block_open (drop i s) (pred level)) (block_from (drop i s) level i)
 
 -- ---- one decision
@@ -55,7 +53,7 @@ open_decided s i k h = go (decision_of (get_or s i 0) (get_or s (i + 1) 0) (suc 
 -- what it says of the comment
 abbrev pub RestBy : List ℕ → ℕ → ℕ → Decision → Type 0
 RestBy s i level decision.Open = rest_at s i level ≡ rest_at s (i + 2) (level + 1)
-RestBy s i level decision.CloseLast = rest_at s i level ≡ rest.Closed (i + 2)
+RestBy s i level decision.CloseLast = rest_at s i level ≡ Ok (i + 2)
 RestBy s i level decision.CloseInner = (level ≡ 1 → ⊥) × (rest_at s i level ≡ rest_at s (i + 2) (level - 1))
 RestBy s i level decision.PassOn = rest_at s i level ≡ rest_at s (i + 1) level
 
@@ -100,7 +98,7 @@ short [] k p = refl
 short (a ∷ []) k p = refl
 short (a ∷ b ∷ t) k p = absurd (not-suc-le-zero (le_of_suc-le-suc (le_of_suc-le-suc p)))
 
-pub rest_short : (s : List ℕ) (i level : ℕ) → length s - i < 2 → rest_at s i level ≡ rest.Still (Block (pred level) (unpaired (get_or s i 0)))
+pub rest_short : (s : List ℕ) (i level : ℕ) → length s - i < 2 → rest_at s i level ≡ Err (Block (pred level) (unpaired (get_or s i 0)))
 unfolding rest_at
 rest_short s i level h =
     ap₂ rest_by (short (drop i s) (pred level) (rw (length-drop i s) h) ∙ ap (λ (b : ℕ). Block (pred level) (unpaired b)) (head_at s i)) (block_short s i level h)

@@ -1,5 +1,5 @@
 -- One blank or comment of a piece. Assumes nothing.
-use Prim.Native.Nat.{◌-◌, ◌<◌, ℕ}
+use Prim.Native.Nat.{◌<◌, ℕ}
 use native.Mathlib.Omega.{arith}
 use mathlib.Core.List.{List}
 use mathlib.Core.Path.{◌∙◌, ◌≡◌, ap, refl, sym}
@@ -12,15 +12,15 @@ use Rattle.comments.specs.declared.block.CommentEnd.TheVariants.{Closed, Unclose
 use Rattle.gaps.proofs.BlockOpens.{block_moved, later_end}
 use Rattle.gaps.specs.Opens.{block_open}
 use Rattle.gaps.specs.inner.Steps.{rest_by, rest_of, step_by}
-use Rattle.gaps.specs.declared.block.Rest.{Rest}
-use Rattle.gaps.specs.declared.block.Rest.TheVariants as rest
+use Rattle.std.proofs.Common.{Result, Ok, Err}
+use Rattle.gaps.specs.declared.state.Open.{Open}
 use Rattle.gaps.specs.declared.step.Step.{Step}
 use Rattle.gaps.specs.declared.step.Step.TheVariants as step
 
 -- what a block comment comes to, by how far it goes
-abbrev pub step_rest : Rest → Step
-step_rest (rest.Closed n) = step.On n
-step_rest (rest.Still o) = step.Still o
+abbrev pub step_rest : Result ℕ Open → Step
+step_rest (Ok n) = step.On n
+step_rest (Err o) = step.Still o
 
 by_end : (s : List ℕ) (c : CommentEnd) → step_by s (block_item c) ≡ step_rest (rest_by (block_open (drop 2 s) 0) (later_end 2 c))
 by_end s (Closed n) = ap step.On (omega arith)

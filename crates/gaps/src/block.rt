@@ -7,13 +7,6 @@ use crate::state::Open;
 use comments::{Decision, decide};
 use text::bytes::peek;
 
-// How far a block comment goes: behind the mark that closes it, or to the piece's end, where this is open.
-#[derive(Clone, Copy)]
-pub enum Rest {
-    Closed(usize),
-    Still(Open),
-}
-
 // A byte that may be the first of a mark, and 0 for every other.
 pub fn mark_byte(b: u8) -> u8
     ensures { result ≡ unpaired b }
@@ -27,8 +20,8 @@ pub fn mark_byte(b: u8) -> u8
     0
 }
 
-// From a place in a block comment with so many others around it.
-pub fn block_rest(s: &[u8], from: usize, around: u32) -> Rest
+// Where a block comment with so many others around it ends, from a place in it on: behind the mark that closes it, or what is open at the piece's end.
+pub fn block_rest(s: &[u8], from: usize, around: u32) -> Result<usize, Open>
     requires { (from ≤ length s.now) × (around + length s.now < 2 ^ 32) }
     ensures { result ≡ rest_of s.now from around }
 {
@@ -40,7 +33,7 @@ pub fn block_rest(s: &[u8], from: usize, around: u32) -> Rest
         if s.len() - i < 2 {
             let others = level - 1;
             let last = mark_byte(peek(s, i));
-            return Rest::Still(Open::Block(others as u32, last));
+            return Err(Open::Block(others as u32, last));
         }
         match decide(s[i], s[i + 1], level) {
             Decision::Open => {
@@ -48,7 +41,7 @@ pub fn block_rest(s: &[u8], from: usize, around: u32) -> Rest
                 i += 2;
             }
             Decision::CloseLast => {
-                return Rest::Closed(i + 2);
+                return Ok(i + 2);
             }
             Decision::CloseInner => {
                 level -= 1;

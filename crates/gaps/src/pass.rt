@@ -5,7 +5,7 @@ ghost use Rattle.gaps.specs.Passes.{passed_of};
 ghost use Rattle.gaps.specs.inner.Steps.{clear_at, line_at, block_at};
 ghost use Rattle.gaps.specs.declared.state.Open.TheVariants.{Slash, Block};
 
-use crate::block::{Rest, block_rest, mark_byte};
+use crate::block::{block_rest, mark_byte};
 use crate::state::Open;
 use crate::step::{Step, step_at};
 use comments::{Decision, decide, is_blank};
@@ -72,8 +72,8 @@ fn from_block(s: &[u8], from: usize, around: u32) -> Passed
 {
     let rest = block_rest(s, from, around);
     match rest {
-        Rest::Closed(i) => from_clear(s, i),
-        Rest::Still(o) => Passed::Within(o),
+        Ok(i) => from_clear(s, i),
+        Err(o) => Passed::Within(o),
     }
 }
 

@@ -3,7 +3,7 @@ ghost use Rattle.std.specs.Prelude.{◌≡◌, ◌<◌, ◌^◌, length};
 ghost use Rattle.comments.specs.Gaps.{comment_of, item_of};
 ghost use Rattle.gaps.specs.inner.Steps.{step_by};
 
-use crate::block::{Rest, block_rest};
+use crate::block::block_rest;
 use crate::state::Open;
 use comments::{CommentEnd, line_comment};
 use text::bytes::peek;
@@ -51,8 +51,8 @@ fn comment_step(s: &[u8]) -> Step
     if b == b'*' {
         let rest = block_rest(s, 2, 0);
         return match rest {
-            Rest::Closed(n) => Step::On(n),
-            Rest::Still(o) => Step::Still(o),
+            Ok(n) => Step::On(n),
+            Err(o) => Step::Still(o),
         };
     }
     let taken = 1 + char_len(&s[1..]);

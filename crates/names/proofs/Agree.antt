@@ -1,8 +1,8 @@
 -- Names as they are computed (specs/Identifiers.antt) are exactly the names of specs/Names.antt, over any bytes.
---     chars-run, run-chars     how far the characters of a class reach
---     name-agrees, no_name     names
---     raw-agrees               raw names
---     wide-nothing, wide-name  the token at a character above U+007F
+--     chars_run, run_chars     how far the characters of a class reach
+--     name_agrees, no_name     names
+--     raw_agrees               raw names
+--     wide_nothing, wide_name  the token at a character above U+007F
 -- Assumes nothing.
 use Prim.Native.Nat.{ℕ, zero, suc, ◌+◌, ◌≤◌, ◌<◌}
 use native.Mathlib.Omega.{arith}

@@ -5,7 +5,7 @@ use native.Mathlib.Omega.{arith}
 use mathlib.Core.Bool.{Bool}
 use mathlib.Core.List.{List, [], ◌∷◌}
 use mathlib.Core.Path.{◌∙◌, ◌≡◌, ap, refl, subst, sym}
-use lib.ListN.{drop, get_or, length, length-drop, take}
+use lib.ListN.{drop, length, length-drop, take}
 use lib.Seq.{drop-drop}
 use Rattle.text.proofs.AheadLaws.{char_le, char_nil}
 use Rattle.text.proofs.Lists.{tail_part}

@@ -1,5 +1,5 @@
 -- Laws of names and raw names: how far they reach. Assumes nothing.
-use Prim.Native.Nat.{◌+◌, ◌-◌, ◌≤◌, ℕ, ◌<◌}
+use Prim.Native.Nat.{◌+◌, ◌≤◌, ℕ, ◌<◌}
 use native.Mathlib.Omega.{arith}
 use mathlib.Core.Bool.{true, cond, false}
 use mathlib.Core.List.{List, [], ◌∷◌}

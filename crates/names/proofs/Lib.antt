@@ -1,3 +1,4 @@
+pub mod StartLaws
 pub mod CharLaws
 pub mod NearLaws
 pub mod IdentifierLaws

@@ -1,5 +1,5 @@
 -- Names stop: nothing behind a byte that no name takes in, a quiet byte or `/`, changes what is read in front of it. Assumes nothing.
-use Prim.Native.Nat.{◌+◌, ◌<◌, ◌≤◌, ℕ, suc}
+use Prim.Native.Nat.{◌+◌, ◌<◌, ◌≤◌, ℕ}
 use native.Mathlib.Omega.{arith}
 use mathlib.Core.Bool.{Bool, ◌&&◌, ◌||◌, false, not, true, cond}
 use mathlib.Core.List.{List, [], ◌++◌, ◌∷◌}
@@ -18,7 +18,7 @@ use Rattle.names.specs.declared.Identifier.TheVariants.{Missing, Name, RawName}
 use Rattle.names.specs.declared.Word.{Word}
 use Rattle.names.specs.declared.Word.TheVariants.{Float, Plain, Raw, Refused as NotName}
 use Rattle.text.proofs.Choices.{and_true, or_left, or_right, cond_cases}
-use Rattle.text.proofs.Stops.{behind, Stopped, always, on₂, Reach, bind, on, sum, empty_stopped}
+use Rattle.text.proofs.Stops.{Stopped, always, on₂, Reach, bind, on, sum}
 use Rattle.text.proofs.ClassLaws.{all_of, first_ascii, next_ascii, raw_ascii}
 use Rattle.text.proofs.WordLaws.{differs, starts_past, starts_stopped}
 use Rattle.text.specs.Classes.{digit, ascii_first, ascii_next, ascii_raw, ident_first, ident_next, ident_raw, letter, one_of, within}

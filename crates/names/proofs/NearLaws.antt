@@ -1,14 +1,12 @@
 -- Characters that are told without the table: they are of the class, and behind a run of them the class's own run goes on. Assumes nothing.
 use Prim.Native.Nat.{ℕ, zero, suc, ◌+◌, ◌*◌, ◌%◌, ◌≤◌, ◌<◌}
 use native.Mathlib.Omega.{arith}
-use native.Mathlib.Nat.{not-suc-le-zero}
 use mathlib.Core.Bool.{Bool, true, false, cond, ◌&&◌, ◌||◌}
 use mathlib.Core.List.{List, [], ◌∷◌}
 use mathlib.Core.Path.{◌∙◌, ◌≡◌, ap, refl, subst, sym}
-use lib.Dec.{eqb, ltb}
+use lib.Dec.{ltb}
 use lib.ListN.{drop, get_or, length}
-use borrow.Author.Tests.{eqb-false, le-ltb, lt-leb, lt-ltb, ltb-false, ne_eqb}
-use Rattle.names.proofs.CharLaws.{chars_none}
+use borrow.Author.Tests.{le-ltb, lt-leb, lt-ltb, ltb-false, ne_eqb}
 use Rattle.names.specs.Characters.{ascii_char, by_char_width, char_if, chars, chars_from, ident_char, near, usual_pair, wide_ahead}
 use Rattle.names.specs.Identifiers.{name_len}
 use Rattle.names.specs.declared.Class.{Class}

@@ -1,5 +1,5 @@
 -- Names and raw names at the front of a part, as the crate reads them.
-use Rattle.std.specs.Prelude.{ℕ, ◌+◌, Bool, cond, List, drop, eqb, ltb}
+use Rattle.std.specs.Prelude.{ℕ, ◌+◌, cond, List, drop, eqb, ltb}
 use Rattle.text.specs.Classes.{ident_first, ident_next, ident_raw}
 use Rattle.names.specs.Characters.{char_if, chars}
 use Rattle.names.specs.Starts.{begins_string, begins_raw}

@@ -7,29 +7,14 @@ ghost use Rattle.text.specs.Words.{starts_with};
 pub fn starts_with2(s: &[u8], a: u8, b: u8) -> bool
     ensures { result ≡ starts_with (a ∷ b ∷ []) s.now }
 {
-    if s.len() < 2 {
-        return false;
-    }
-    if s[0] != a {
-        return false;
-    }
-    s[1] == b
+    s.starts_with(&[a, b])
 }
 
 // A word of three bytes.
 pub fn starts_with3(s: &[u8], a: u8, b: u8, c: u8) -> bool
     ensures { result ≡ starts_with (a ∷ b ∷ c ∷ []) s.now }
 {
-    if s.len() < 3 {
-        return false;
-    }
-    if s[0] != a {
-        return false;
-    }
-    if s[1] != b {
-        return false;
-    }
-    s[2] == c
+    s.starts_with(&[a, b, c])
 }
 
 // Whether a string, a byte string or a byte literal begins at the front.

@@ -1,20 +1,16 @@
 -- A plain token is the token that stands at the front of its part. Assumes nothing.
 use Prim.Native.Nat.{ℕ, ◌<◌, ◌≤◌}
-use native.Mathlib.Nat.{le_refl}
 use native.Mathlib.Omega.{arith}
-use mathlib.Core.Bool.{Bool, true, cond, ◌&&◌, not}
+use mathlib.Core.Bool.{true}
 use mathlib.Core.List.{List, [], ◌∷◌}
-use mathlib.Core.Path.{◌≡◌, ap, refl, sym, ◌∙◌}
+use mathlib.Core.Path.{◌≡◌, ap, refl, ◌∙◌}
 use lib.Dec.{eqb, ltb}
 use lib.ListN.{get_or, length}
-use borrow.Author.Tests.{eqb-true, eqb-false, lt-ltb, ltb-true, ne_eqb, not-true}
-use Rattle.text.proofs.Choices.{and_true, cond_cases}
-use Rattle.text.proofs.ClassLaws.{blank_ascii, one_of_all}
-use Rattle.text.specs.Classes.{blank1, blank_width, one_of, within}
+use borrow.Author.Tests.{eqb-true, lt-ltb, ltb-true, ne_eqb}
+use Rattle.text.proofs.Choices.{cond_cases}
+use Rattle.text.proofs.ClassLaws.{one_of_all}
+use Rattle.text.specs.Classes.{blank1, one_of, within}
 use Rattle.comments.proofs.GapFronts.{clear_front, clear_byte}
-use Rattle.comments.specs.Gaps.{gap_of}
-use Rattle.comments.specs.declared.gap.Gap.TheVariants.{Clear}
-use Rattle.comments.specs.declared.gap.Item.TheVariants.{Other}
 use Rattle.reading.specs.Tokens.{token}
 use Rattle.tokens.proofs.RonLaws.{is_token}
 use Rattle.tokens.specs.Lexemes.{lexeme, lexeme_of}

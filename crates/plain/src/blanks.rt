@@ -9,12 +9,5 @@ use comments::is_blank;
 pub fn count_blanks(s: &[u8]) -> usize
     ensures { result ≡ run blank1 s.now }
 {
-    let mut i = 0;
-    while i < s.len() {
-        if !is_blank(s[i]) {
-            return i;
-        }
-        i += 1;
-    }
-    i
+    s.iter().position(|&b| !is_blank(b)).unwrap_or(s.len())
 }

@@ -1,3 +1,4 @@
+pub mod RunPlaces
 pub mod NameRuns
 pub mod PartLaws
 pub mod PlainNames

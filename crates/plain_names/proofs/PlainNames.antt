@@ -1,6 +1,5 @@
 -- A plain name is the token that the token reader reads there. Assumes nothing.
-use Prim.Native.Nat.{ℕ, pred, ◌+◌, ◌<◌, ◌≤◌}
-use native.Mathlib.Nat.{not-suc-le-zero}
+use Prim.Native.Nat.{ℕ, ◌+◌, ◌<◌, ◌≤◌}
 use native.Mathlib.Omega.{arith}
 use mathlib.Core.Bool.{Bool, true, false, cond, not, ◌&&◌}
 use mathlib.Core.List.{List, [], ◌∷◌}
@@ -8,13 +7,12 @@ use mathlib.Core.Path.{◌≡◌, ap, refl, sym, subst, ◌∙◌}
 use lib.Dec.{eqb, leb, ltb}
 use lib.ListN.{get_or, length, drop}
 use lib.Seq.{get_or-drop}
-use borrow.Author.Tests.{ltb-true, lt-ltb, le-ltb, lt-leb, ne_eqb, not-true}
+use borrow.Author.Tests.{ltb-true, lt-ltb, le-ltb, ne_eqb, not-true}
 use Rattle.text.proofs.Choices.{and_false, and_true, either, lt_or_le, chosen, cond_same}
-use Rattle.text.proofs.ClassLaws.{above, below, blank_ascii, first_ascii}
-use Rattle.text.proofs.Lists.{head_at}
+use Rattle.text.proofs.ClassLaws.{above, below, first_ascii}
 use Rattle.text.proofs.RunLaws.{run_le, run_more, run_holds}
 use Rattle.text.proofs.WordLaws.{starts_three, starts_two}
-use Rattle.text.specs.Classes.{ascii_first, ascii_next, blank1, blank_width, digit, ident_first, letter, within}
+use Rattle.text.specs.Classes.{ascii_first, ascii_next, blank1, digit, ident_first, letter, within}
 use Rattle.text.specs.Runs.{run}
 use Rattle.text.specs.Words.{starts_with}
 use Rattle.comments.proofs.GapFronts.{clear_front, clear_byte}

@@ -13,14 +13,9 @@ use text::classes::{is_ascii_first, is_ascii_next};
 fn name_len(s: &[u8]) -> usize
     ensures { result ≡ run ascii_next s.now }
 {
-    let mut i = 0;
-    while i < s.len() {
-        if !is_ascii_next(s[i] as u32) {
-            return i;
-        }
-        i += 1;
-    }
-    i
+    s.iter()
+        .position(|&b| !is_ascii_next(u32::from(b)))
+        .unwrap_or(s.len())
 }
 
 // Whether the part begins with `inf` or `NaN`: the first byte decides nearly always.

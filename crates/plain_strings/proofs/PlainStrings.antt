@@ -1,12 +1,11 @@
 -- A plain string is the token that the token reader reads there. Assumes nothing.
 use Prim.Native.Nat.{ℕ, ◌+◌, ◌-◌, ◌<◌, ◌≤◌}
 use native.Mathlib.Omega.{arith}
-use mathlib.Core.Bool.{Bool, true, false, cond, ◌&&◌}
-use mathlib.Core.List.{List, [], ◌∷◌}
-use mathlib.Core.Path.{◌≡◌, ap, refl, sym, ◌∙◌}
+use mathlib.Core.Bool.{Bool, false, cond, ◌&&◌}
+use mathlib.Core.List.{List}
+use mathlib.Core.Path.{◌≡◌, ap, refl, ◌∙◌}
 use lib.Dec.{eqb}
-use lib.ListN.{get_or, length, drop}
-use lib.Seq.{get_or-drop}
+use lib.ListN.{get_or, drop}
 use borrow.Author.Tests.{eq-eqb, eqb-true}
 use Rattle.text.proofs.Choices.{and_true, chosen}
 use Rattle.text.specs.Runs.{run}

@@ -1,4 +1,4 @@
--- How far strings, chars and byte literals reach: `string-bounded`, `byte-string-bounded`, `char-bounded`, `byte-bounded`. Assumes nothing.
+-- How far strings, chars and byte literals reach: `string_bounded`, `byte_string_bounded`, `char_bounded`, `byte_bounded`. Assumes nothing.
 use Prim.Native.Nat.{◌+◌, ◌<◌, ◌≤◌, suc, zero, ℕ}
 use native.Mathlib.Omega.{arith}
 use mathlib.Core.Bool.{Bool, ◌&&◌, ◌||◌, cond, false}

@@ -1,4 +1,4 @@
--- Accepted strings, chars and byte literals are decided by their own bytes: `string-closed`, `byte-string-closed`, `char-closed`, `byte-closed` say that
+-- Accepted strings, chars and byte literals are decided by their own bytes: `string_closed`, `byte_string_closed`, `char_closed`, `byte_closed` say that
 -- nothing behind them changes the answer. Assumes nothing.
 use Prim.Native.Nat.{◌+◌, ◌-◌, ◌<◌, ◌≤◌, suc, zero, ℕ}
 use native.Mathlib.Omega.{arith}

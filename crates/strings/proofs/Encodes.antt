@@ -1,4 +1,4 @@
--- A decoded string is UTF-8 where its text is: `string-encoded`. Assumes nothing.
+-- A decoded string is UTF-8 where its text is: `string_encoded`. Assumes nothing.
 use Prim.Native.Nat.{◌+◌, ◌<◌, ◌≤◌, suc, zero, ℕ}
 use native.Mathlib.Omega.{arith}
 use mathlib.Core.Bool.{◌&&◌, false, true}

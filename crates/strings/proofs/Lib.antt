@@ -1,3 +1,4 @@
+pub mod RunPlaces
 pub mod PieceLaws
 pub mod CharLaws
 pub mod CursorLaws

@@ -5,7 +5,7 @@ use Rattle.text.specs.Refusals.{expected_string, expected_byte_string}
 use Rattle.escapes.specs.declared.answers.Mode.{Mode}
 use Rattle.escapes.specs.declared.answers.Mode.TheVariants.{Str, Bytes}
 use Rattle.strings.specs.declared.literal.LiteralAnswer.{LiteralAnswer}
-use Rattle.strings.specs.declared.literal.LiteralAnswer.TheVariants.{Read, Refused}
+use Rattle.strings.specs.declared.literal.LiteralAnswer.TheVariants.{Refused}
 use Rattle.strings.specs.Pieces.{body_of, decoded_of}
 use Rattle.strings.specs.Quoted.{quoted_of}
 use Rattle.strings.specs.Raw.{raw_of, raw_contents}

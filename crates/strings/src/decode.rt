@@ -14,11 +14,7 @@ fn copy(t: &[u8], out: &mut [u8])
     requires { length t.now ≤ length out.old }
     ensures { out.new ≡ into_out t.now out.old }
 {
-    let mut i = 0;
-    while i < t.len() {
-        out[i] = t[i];
-        i += 1;
-    }
+    out[..t.len()].copy_from_slice(t);
 }
 
 // What a piece decodes to, at the front of out.

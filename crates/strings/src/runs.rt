@@ -5,6 +5,8 @@ ghost use Rattle.text.specs.Classes.{continuation_blank};
 ghost use Rattle.strings.specs.Pieces.{plain, unquoted};
 ghost use Rattle.strings.specs.Raw.{hash};
 
+use text::classes::is_string_continuation_whitespace;
+
 // How many bytes stand before the first quote.
 pub fn find_quote(s: &[u8]) -> usize
     ensures { result ≡ run unquoted s.now }
@@ -23,26 +25,14 @@ pub fn find_end(s: &[u8]) -> usize
 pub fn count_hashes(s: &[u8]) -> usize
     ensures { result ≡ run hash s.now }
 {
-    let mut i = 0;
-    while i < s.len() {
-        if s[i] != b'#' {
-            return i;
-        }
-        i += 1;
-    }
-    i
+    s.iter().position(|&b| b != b'#').unwrap_or(s.len())
 }
 
 // How many bytes of continuation whitespace stand at the front.
 pub fn count_blanks(s: &[u8]) -> usize
     ensures { result ≡ run continuation_blank s.now }
 {
-    let mut i = 0;
-    while i < s.len() {
-        if !text::classes::is_string_continuation_whitespace(s[i]) {
-            return i;
-        }
-        i += 1;
-    }
-    i
+    s.iter()
+        .position(|&b| !is_string_continuation_whitespace(b))
+        .unwrap_or(s.len())
 }

@@ -9,8 +9,7 @@ use Rattle.comments.specs.declared.gap.Item.{Item}
 use Rattle.comments.specs.declared.gap.Item.TheVariants.{Blank, LineOpen, BlockOpen, Unexpected, Ended, Other}
 use Rattle.gaps.specs.Opens.{block_open, open_from}
 use Rattle.gaps.specs.Passes.{passed_by}
-use Rattle.gaps.specs.declared.block.Rest.{Rest}
-use Rattle.gaps.specs.declared.block.Rest.TheVariants as rest
+use Rattle.std.specs.Prelude.{Result, Ok, Err}
 use Rattle.gaps.specs.declared.pass.Passed.{Passed}
 use Rattle.gaps.specs.declared.pass.Passed.TheVariants as passed
 use Rattle.gaps.specs.declared.state.Open.{Open}
@@ -19,12 +18,12 @@ use Rattle.gaps.specs.declared.step.Step.{Step}
 use Rattle.gaps.specs.declared.step.Step.TheVariants as step
 
 -- How far a block comment goes, by its end.
-abbrev pub rest_by : Open → CommentEnd → Rest
-rest_by left (Closed n) = rest.Closed n
-rest_by left Unclosed = rest.Still left
+abbrev pub rest_by : Open → CommentEnd → Result ℕ Open
+rest_by left (Closed n) = Ok n
+rest_by left Unclosed = Err left
 
 -- From the place i in a block comment with `level` others around it.
-unfoldable pub rest_of : List ℕ → ℕ → ℕ → Rest
+unfoldable pub rest_of : List ℕ → ℕ → ℕ → Result ℕ Open
 rest_of s i level = rest_by (block_open (drop i s) level) (block_from (drop i s) (suc level) i)
 
 -- What an item comes to that s begins with.

@@ -1,6 +1,5 @@
 use mathlib.Core.Path.{◌∙◌, ap, sym}
 use lib.ListN.{get_or}
-use borrow.Author.Rules.{rules}
 use borrow.Author.Tests.{eq-eqb, ne_eqb}
 use Rattle.strings.proofs.QuotedLaws.{byte_string_short}
 use Rattle.strings.specs.Strings.{byte_string_of}

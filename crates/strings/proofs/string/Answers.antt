@@ -1,7 +1,6 @@
 use native.Mathlib.Omega.{arith}
 use mathlib.Core.Path.{◌∙◌, ap}
 use lib.ListN.{get_or-eq_default, get_or}
-use borrow.Author.Rules.{rules}
 use borrow.Author.Tests.{eq-eqb, ne_eqb}
 use Rattle.strings.specs.Strings.{string_of}
 use Rattle.strings.specs.declared.literal.LiteralAnswer.TheVariants.{Refused}

@@ -1,6 +1,5 @@
-use Prim.Native.Nat.{◌+◌, ◌-◌, ◌<◌, ◌≤◌, ℕ}
+use Prim.Native.Nat.{◌+◌, ◌<◌, ◌≤◌}
 use native.Mathlib.Omega.{arith}
-use mathlib.Core.List.{List}
 use mathlib.Core.Path.{◌∙◌, ◌≡◌, refl, subst, sym}
 use lib.ListN.{drop, length, length-drop}
 use borrow.Author.Rules.{rules}
@@ -26,39 +25,6 @@ returns-then-s-i-lt2 c =
     let there : block_from (drop c.find_either-i.result (c.args.s.now)) (c.loop-i.level) c.find_either-i.result ≡ block_end (c.args.s.now) = sym (block_passes (c.args.s.now) (c.loop-i.i) (c.loop-i.level) c.find_either-i.result c.find_either-i.ensures) ∙ c.loop-i.invariant.3 in
     sym (block_short c.args.s.now c.find_either-i.result c.loop-i.level c.if-s-i-lt2.true) ∙ there
 
-pub bounds-s-i : goal.bounds-s-i
-bounds-s-i c =
-    let within : (c.loop-i.i ≤ c.find_either-i.result) × (c.find_either-i.result ≤ length (c.args.s.now)) = omega (arith, c.find_either-i.ensures, run_le (neither 0x2a 0x2f) (drop (c.loop-i.i) (c.args.s.now)), length-drop (c.loop-i.i) (c.args.s.now)) in
-    omega (arith, within)
-
-pub overflow_add-i : goal.overflow_add-i
-overflow_add-i c =
-    let within : (c.loop-i.i ≤ c.find_either-i.result) × (c.find_either-i.result ≤ length (c.args.s.now)) = omega (arith, c.find_either-i.ensures, run_le (neither 0x2a 0x2f) (drop (c.loop-i.i) (c.args.s.now)), length-drop (c.loop-i.i) (c.args.s.now)) in
-    omega (arith, within)
-
-pub bounds-s-i-in-loop-i : goal.bounds-s-i-in-loop-i
-bounds-s-i-in-loop-i c =
-    let within : (c.loop-i.i ≤ c.find_either-i.result) × (c.find_either-i.result ≤ length (c.args.s.now)) = omega (arith, c.find_either-i.ensures, run_le (neither 0x2a 0x2f) (drop (c.loop-i.i) (c.args.s.now)), length-drop (c.loop-i.i) (c.args.s.now)) in
-    omega (arith, within)
-
-pub overflow_add-level : goal.overflow_add-level
-overflow_add-level c =
-    let within : (c.loop-i.i ≤ c.find_either-i.result) × (c.find_either-i.result ≤ length (c.args.s.now)) = omega (arith, c.find_either-i.ensures, run_le (neither 0x2a 0x2f) (drop (c.loop-i.i) (c.args.s.now)), length-drop (c.loop-i.i) (c.args.s.now)) in
-    let two : (c.loop-i.i ≤ c.find_either-i.result) × (c.find_either-i.result + 1 < length (c.args.s.now)) = omega (arith, within, c.if-s-i-lt2.false) in
-    omega (arith, two)
-
-pub overflow_add-i-in-Open : goal.overflow_add-i-in-Open
-overflow_add-i-in-Open c =
-    let within : (c.loop-i.i ≤ c.find_either-i.result) × (c.find_either-i.result ≤ length (c.args.s.now)) = omega (arith, c.find_either-i.ensures, run_le (neither 0x2a 0x2f) (drop (c.loop-i.i) (c.args.s.now)), length-drop (c.loop-i.i) (c.args.s.now)) in
-    let two : (c.loop-i.i ≤ c.find_either-i.result) × (c.find_either-i.result + 1 < length (c.args.s.now)) = omega (arith, within, c.if-s-i-lt2.false) in
-    omega (arith, two)
-
-pub loop-i-smaller-in-Open : goal.loop-i-smaller-in-Open
-loop-i-smaller-in-Open c =
-    let within : (c.loop-i.i ≤ c.find_either-i.result) × (c.find_either-i.result ≤ length (c.args.s.now)) = omega (arith, c.find_either-i.ensures, run_le (neither 0x2a 0x2f) (drop (c.loop-i.i) (c.args.s.now)), length-drop (c.loop-i.i) (c.args.s.now)) in
-    let two : (c.loop-i.i ≤ c.find_either-i.result) × (c.find_either-i.result + 1 < length (c.args.s.now)) = omega (arith, within, c.if-s-i-lt2.false) in
-    omega (arith, two)
-
 pub loop-i-preserved-in-Open : goal.loop-i-preserved-in-Open
 loop-i-preserved-in-Open c =
     let within : (c.loop-i.i ≤ c.find_either-i.result) × (c.find_either-i.result ≤ length (c.args.s.now)) = omega (arith, c.find_either-i.ensures, run_le (neither 0x2a 0x2f) (drop (c.loop-i.i) (c.args.s.now)), length-drop (c.loop-i.i) (c.args.s.now)) in
@@ -68,12 +34,6 @@ loop-i-preserved-in-Open c =
     let w = told Open c.in-Open.is in
     (omega (arith, two), omega arith, omega (arith, two), sym w ∙ there)
 
-pub overflow_add-result : goal.overflow_add-result
-overflow_add-result c =
-    let within : (c.loop-i.i ≤ c.find_either-i.result) × (c.find_either-i.result ≤ length (c.args.s.now)) = omega (arith, c.find_either-i.ensures, run_le (neither 0x2a 0x2f) (drop (c.loop-i.i) (c.args.s.now)), length-drop (c.loop-i.i) (c.args.s.now)) in
-    let two : (c.loop-i.i ≤ c.find_either-i.result) × (c.find_either-i.result + 1 < length (c.args.s.now)) = omega (arith, within, c.if-s-i-lt2.false) in
-    omega (arith, two)
-
 pub returns-in-CloseLast : goal.returns-in-CloseLast
 returns-in-CloseLast c =
     let within : (c.loop-i.i ≤ c.find_either-i.result) × (c.find_either-i.result ≤ length (c.args.s.now)) = omega (arith, c.find_either-i.ensures, run_le (neither 0x2a 0x2f) (drop (c.loop-i.i) (c.args.s.now)), length-drop (c.loop-i.i) (c.args.s.now)) in
@@ -81,18 +41,6 @@ returns-in-CloseLast c =
     let two : (c.loop-i.i ≤ c.find_either-i.result) × (c.find_either-i.result + 1 < length (c.args.s.now)) = omega (arith, within, c.if-s-i-lt2.false) in
     let told : (k : Decision) → c.decide.result ≡ k → Decided (c.args.s.now) c.find_either-i.result (c.loop-i.level) k = λ k e. subst (Decided (c.args.s.now) c.find_either-i.result (c.loop-i.level)) (sym c.decide.ensures ∙ e) (decided (c.args.s.now) c.find_either-i.result (c.loop-i.level) (two).1) in
     sym (told CloseLast c.in-CloseLast.is) ∙ there
-
-pub overflow_add-i-in-CloseInner : goal.overflow_add-i-in-CloseInner
-overflow_add-i-in-CloseInner c =
-    let within : (c.loop-i.i ≤ c.find_either-i.result) × (c.find_either-i.result ≤ length (c.args.s.now)) = omega (arith, c.find_either-i.ensures, run_le (neither 0x2a 0x2f) (drop (c.loop-i.i) (c.args.s.now)), length-drop (c.loop-i.i) (c.args.s.now)) in
-    let two : (c.loop-i.i ≤ c.find_either-i.result) × (c.find_either-i.result + 1 < length (c.args.s.now)) = omega (arith, within, c.if-s-i-lt2.false) in
-    omega (arith, two)
-
-pub loop-i-smaller-in-CloseInner : goal.loop-i-smaller-in-CloseInner
-loop-i-smaller-in-CloseInner c =
-    let within : (c.loop-i.i ≤ c.find_either-i.result) × (c.find_either-i.result ≤ length (c.args.s.now)) = omega (arith, c.find_either-i.ensures, run_le (neither 0x2a 0x2f) (drop (c.loop-i.i) (c.args.s.now)), length-drop (c.loop-i.i) (c.args.s.now)) in
-    let two : (c.loop-i.i ≤ c.find_either-i.result) × (c.find_either-i.result + 1 < length (c.args.s.now)) = omega (arith, within, c.if-s-i-lt2.false) in
-    omega (arith, two)
 
 pub loop-i-preserved-in-CloseInner : goal.loop-i-preserved-in-CloseInner
 loop-i-preserved-in-CloseInner c =
@@ -102,18 +50,6 @@ loop-i-preserved-in-CloseInner c =
     let told : (k : Decision) → c.decide.result ≡ k → Decided (c.args.s.now) c.find_either-i.result (c.loop-i.level) k = λ k e. subst (Decided (c.args.s.now) c.find_either-i.result (c.loop-i.level)) (sym c.decide.ensures ∙ e) (decided (c.args.s.now) c.find_either-i.result (c.loop-i.level) (two).1) in
     let w = told CloseInner c.in-CloseInner.is in
     (omega (arith, two), omega (arith, w.0), omega (arith, two), sym w.1 ∙ there)
-
-pub overflow_add-i-in-PassOn : goal.overflow_add-i-in-PassOn
-overflow_add-i-in-PassOn c =
-    let within : (c.loop-i.i ≤ c.find_either-i.result) × (c.find_either-i.result ≤ length (c.args.s.now)) = omega (arith, c.find_either-i.ensures, run_le (neither 0x2a 0x2f) (drop (c.loop-i.i) (c.args.s.now)), length-drop (c.loop-i.i) (c.args.s.now)) in
-    let two : (c.loop-i.i ≤ c.find_either-i.result) × (c.find_either-i.result + 1 < length (c.args.s.now)) = omega (arith, within, c.if-s-i-lt2.false) in
-    omega (arith, two)
-
-pub loop-i-smaller : goal.loop-i-smaller
-loop-i-smaller c =
-    let within : (c.loop-i.i ≤ c.find_either-i.result) × (c.find_either-i.result ≤ length (c.args.s.now)) = omega (arith, c.find_either-i.ensures, run_le (neither 0x2a 0x2f) (drop (c.loop-i.i) (c.args.s.now)), length-drop (c.loop-i.i) (c.args.s.now)) in
-    let two : (c.loop-i.i ≤ c.find_either-i.result) × (c.find_either-i.result + 1 < length (c.args.s.now)) = omega (arith, within, c.if-s-i-lt2.false) in
-    omega (arith, two)
 
 pub loop-i-preserved : goal.loop-i-preserved
 loop-i-preserved c =

@@ -1,15 +1,7 @@
-use Prim.Native.Nat.{◌+◌, ◌-◌, ◌<◌, ◌≤◌, ℕ}
-use native.Mathlib.Omega.{arith}
-use mathlib.Core.List.{List}
-use mathlib.Core.Path.{◌∙◌, ◌≡◌, refl, subst, sym}
-use lib.ListN.{drop, length, length-drop}
-use borrow.Author.Rules.{rules}
-use Rattle.comments.proofs.BlockLaws.{Decided, block_passes, block_short, decided}
+use Prim.Native.Nat.{◌+◌, ◌-◌, ◌<◌, ◌≤◌}
+use mathlib.Core.Path.{◌≡◌}
+use lib.ListN.{drop, length}
 use Rattle.comments.specs.Blocks.{block_end, block_from}
-use Rattle.comments.specs.declared.block.Decision.{Decision}
-use Rattle.comments.specs.declared.block.Decision.TheVariants.{Open, CloseLast, CloseInner, PassOn}
-use Rattle.search.specs.inner.Others.{neither}
-use Rattle.text.proofs.RunLaws.{run_le}
 use Rattle.comments.proofs.block.block_comment.Given as goal
 
 abbrev pub invariant-loop-i : goal.invariant-loop-i

@@ -1,8 +1,7 @@
 use mathlib.Core.Path.{◌∙◌, sym}
-use borrow.Author.Rules.{rules}
 use borrow.Author.Tests.{eq-eqb, ne_eqb}
 use Rattle.text.proofs.Choices.{or_false, or_true}
-use Rattle.text.specs.Classes.{blank1, within}
+use Rattle.text.specs.Classes.{blank1}
 use Rattle.comments.proofs.gap.is_blank.Goals as goal
 
 pub returns-then-b-eq32 : goal.returns-then-b-eq32

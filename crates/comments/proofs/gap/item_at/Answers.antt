@@ -1,8 +1,5 @@
-use Prim.Native.Nat.{ℕ}
-use mathlib.Core.List.{List}
 use mathlib.Core.Path.{◌∙◌, ◌≡◌, sym}
 use lib.ListN.{get_or}
-use borrow.Author.Rules.{rules}
 use Rattle.comments.proofs.GapLaws.{item_blank, item_comment}
 use Rattle.text.specs.Classes.{blank_width}
 use Rattle.comments.proofs.gap.item_at.Goals as goal

@@ -1,6 +1,5 @@
 use Prim.Native.Nat.{◌+◌, ◌-◌, ◌<◌, ℕ}
 use native.Mathlib.Omega.{arith}
-use mathlib.Core.List.{List}
 use mathlib.Core.Path.{◌∙◌, ◌≡◌, ap, subst, sym}
 use lib.ListN.{drop, length, length-drop, length-take, take}
 use borrow.Author.Rules.{rules}

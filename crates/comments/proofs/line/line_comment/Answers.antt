@@ -1,7 +1,6 @@
 use Prim.Native.Nat.{◌+◌}
 use native.Mathlib.Omega.{arith}
 use mathlib.Core.Path.{◌∙◌, ◌≡◌, ap, sym}
-use borrow.Author.Rules.{rules}
 use Rattle.comments.proofs.LineLaws.{line_found, line_none}
 use Rattle.comments.specs.Lines.{line_end}
 use Rattle.comments.specs.declared.block.CommentEnd.TheVariants.{Closed}

@@ -1,6 +1,5 @@
 use Prim.Native.Nat.{◌+◌, ◌-◌, ◌<◌, ◌≤◌, pred, ℕ}
 use native.Mathlib.Omega.{arith}
-use mathlib.Core.List.{List}
 use mathlib.Core.Path.{◌∙◌, ◌≡◌, ap, ap₂, subst, sym}
 use lib.ListN.{drop, length, length-drop}
 use borrow.Author.Rules.{rules}
@@ -11,7 +10,7 @@ use Rattle.text.proofs.RunLaws.{run_le}
 use Rattle.gaps.proofs.RestLaws.{RestBy, rest_decided, rest_passes, rest_short, rest_start, rest_at}
 use Rattle.gaps.specs.Opens.{unpaired}
 use Rattle.gaps.specs.inner.Steps.{rest_of}
-use Rattle.gaps.specs.declared.block.Rest.TheVariants as rest
+use Rattle.std.proofs.Common.{Err}
 use Rattle.gaps.specs.declared.state.Open.TheVariants.{Block}
 use Rattle.gaps.proofs.block.block_rest.Goals as goal
 
@@ -23,51 +22,13 @@ overflow_sub-s c =
     let within : (c.loop-i.i ≤ c.find_either-i.result) × (c.find_either-i.result ≤ length (c.args.s.now)) = omega (arith, c.find_either-i.ensures, run_le (neither 0x2a 0x2f) (drop (c.loop-i.i) (c.args.s.now)), length-drop (c.loop-i.i) (c.args.s.now)) in
     omega (arith, within)
 
-pub overflow_cast-result : goal.overflow_cast-result
-overflow_cast-result c =
-    let within : (c.loop-i.i ≤ c.find_either-i.result) × (c.find_either-i.result ≤ length (c.args.s.now)) = omega (arith, c.find_either-i.ensures, run_le (neither 0x2a 0x2f) (drop (c.loop-i.i) (c.args.s.now)), length-drop (c.loop-i.i) (c.args.s.now)) in
-    omega (arith, within)
-
 pub returns-then-s-i-lt2 : goal.returns-then-s-i-lt2
 returns-then-s-i-lt2 c =
     let there : rest_at (c.args.s.now) c.find_either-i.result (c.loop-i.level) ≡ rest_of (c.args.s.now) c.args.from c.args.around = sym (rest_passes (c.args.s.now) (c.loop-i.i) (c.loop-i.level) c.find_either-i.result c.find_either-i.ensures) ∙ c.loop-i.invariant.3 in
     let e : c.loop-i.level - 1 ≡ pred c.loop-i.level = omega arith in
-    ap₂ (λ (n b : ℕ). rest.Still (Block n b)) e (c.mark_byte-last.ensures ∙ ap unpaired c.peek.ensures)
+    ap₂ (λ (n b : ℕ). Err (Block n b)) e (c.mark_byte-last.ensures ∙ ap unpaired c.peek.ensures)
     ∙ sym (rest_short c.args.s.now c.find_either-i.result c.loop-i.level c.if-s-i-lt2.true)
     ∙ there
-
-pub bounds-s-i : goal.bounds-s-i
-bounds-s-i c =
-    let within : (c.loop-i.i ≤ c.find_either-i.result) × (c.find_either-i.result ≤ length (c.args.s.now)) = omega (arith, c.find_either-i.ensures, run_le (neither 0x2a 0x2f) (drop (c.loop-i.i) (c.args.s.now)), length-drop (c.loop-i.i) (c.args.s.now)) in
-    omega (arith, within)
-
-pub overflow_add-i : goal.overflow_add-i
-overflow_add-i c =
-    let within : (c.loop-i.i ≤ c.find_either-i.result) × (c.find_either-i.result ≤ length (c.args.s.now)) = omega (arith, c.find_either-i.ensures, run_le (neither 0x2a 0x2f) (drop (c.loop-i.i) (c.args.s.now)), length-drop (c.loop-i.i) (c.args.s.now)) in
-    omega (arith, within)
-
-pub bounds-s-i-in-loop-i : goal.bounds-s-i-in-loop-i
-bounds-s-i-in-loop-i c =
-    let within : (c.loop-i.i ≤ c.find_either-i.result) × (c.find_either-i.result ≤ length (c.args.s.now)) = omega (arith, c.find_either-i.ensures, run_le (neither 0x2a 0x2f) (drop (c.loop-i.i) (c.args.s.now)), length-drop (c.loop-i.i) (c.args.s.now)) in
-    omega (arith, within)
-
-pub overflow_add-level-in-Open : goal.overflow_add-level-in-Open
-overflow_add-level-in-Open c =
-    let within : (c.loop-i.i ≤ c.find_either-i.result) × (c.find_either-i.result ≤ length (c.args.s.now)) = omega (arith, c.find_either-i.ensures, run_le (neither 0x2a 0x2f) (drop (c.loop-i.i) (c.args.s.now)), length-drop (c.loop-i.i) (c.args.s.now)) in
-    let two : (c.loop-i.i ≤ c.find_either-i.result) × (c.find_either-i.result + 1 < length (c.args.s.now)) = omega (arith, within, c.if-s-i-lt2.false) in
-    omega (arith, two)
-
-pub overflow_add-i-in-Open : goal.overflow_add-i-in-Open
-overflow_add-i-in-Open c =
-    let within : (c.loop-i.i ≤ c.find_either-i.result) × (c.find_either-i.result ≤ length (c.args.s.now)) = omega (arith, c.find_either-i.ensures, run_le (neither 0x2a 0x2f) (drop (c.loop-i.i) (c.args.s.now)), length-drop (c.loop-i.i) (c.args.s.now)) in
-    let two : (c.loop-i.i ≤ c.find_either-i.result) × (c.find_either-i.result + 1 < length (c.args.s.now)) = omega (arith, within, c.if-s-i-lt2.false) in
-    omega (arith, two)
-
-pub loop-i-smaller-in-Open : goal.loop-i-smaller-in-Open
-loop-i-smaller-in-Open c =
-    let within : (c.loop-i.i ≤ c.find_either-i.result) × (c.find_either-i.result ≤ length (c.args.s.now)) = omega (arith, c.find_either-i.ensures, run_le (neither 0x2a 0x2f) (drop (c.loop-i.i) (c.args.s.now)), length-drop (c.loop-i.i) (c.args.s.now)) in
-    let two : (c.loop-i.i ≤ c.find_either-i.result) × (c.find_either-i.result + 1 < length (c.args.s.now)) = omega (arith, within, c.if-s-i-lt2.false) in
-    omega (arith, two)
 
 pub loop-i-preserved-in-Open : goal.loop-i-preserved-in-Open
 loop-i-preserved-in-Open c =
@@ -78,12 +39,6 @@ loop-i-preserved-in-Open c =
     let w = told decision.Open c.in-Open.is in
     (omega (arith, two), omega arith, omega (arith, two), sym w ∙ there)
 
-pub overflow_add-result : goal.overflow_add-result
-overflow_add-result c =
-    let within : (c.loop-i.i ≤ c.find_either-i.result) × (c.find_either-i.result ≤ length (c.args.s.now)) = omega (arith, c.find_either-i.ensures, run_le (neither 0x2a 0x2f) (drop (c.loop-i.i) (c.args.s.now)), length-drop (c.loop-i.i) (c.args.s.now)) in
-    let two : (c.loop-i.i ≤ c.find_either-i.result) × (c.find_either-i.result + 1 < length (c.args.s.now)) = omega (arith, within, c.if-s-i-lt2.false) in
-    omega (arith, two)
-
 pub returns-in-CloseLast : goal.returns-in-CloseLast
 returns-in-CloseLast c =
     let within : (c.loop-i.i ≤ c.find_either-i.result) × (c.find_either-i.result ≤ length (c.args.s.now)) = omega (arith, c.find_either-i.ensures, run_le (neither 0x2a 0x2f) (drop (c.loop-i.i) (c.args.s.now)), length-drop (c.loop-i.i) (c.args.s.now)) in
@@ -91,18 +46,6 @@ returns-in-CloseLast c =
     let two : (c.loop-i.i ≤ c.find_either-i.result) × (c.find_either-i.result + 1 < length (c.args.s.now)) = omega (arith, within, c.if-s-i-lt2.false) in
     let told : (k : Decision) → c.decide.result ≡ k → RestBy (c.args.s.now) c.find_either-i.result (c.loop-i.level) k = λ k e. subst (RestBy (c.args.s.now) c.find_either-i.result (c.loop-i.level)) (sym c.decide.ensures ∙ e) (rest_decided (c.args.s.now) c.find_either-i.result (c.loop-i.level) c.loop-i.invariant.1 (two).1) in
     sym (told decision.CloseLast c.in-CloseLast.is) ∙ there
-
-pub overflow_add-i-in-CloseInner : goal.overflow_add-i-in-CloseInner
-overflow_add-i-in-CloseInner c =
-    let within : (c.loop-i.i ≤ c.find_either-i.result) × (c.find_either-i.result ≤ length (c.args.s.now)) = omega (arith, c.find_either-i.ensures, run_le (neither 0x2a 0x2f) (drop (c.loop-i.i) (c.args.s.now)), length-drop (c.loop-i.i) (c.args.s.now)) in
-    let two : (c.loop-i.i ≤ c.find_either-i.result) × (c.find_either-i.result + 1 < length (c.args.s.now)) = omega (arith, within, c.if-s-i-lt2.false) in
-    omega (arith, two)
-
-pub loop-i-smaller-in-CloseInner : goal.loop-i-smaller-in-CloseInner
-loop-i-smaller-in-CloseInner c =
-    let within : (c.loop-i.i ≤ c.find_either-i.result) × (c.find_either-i.result ≤ length (c.args.s.now)) = omega (arith, c.find_either-i.ensures, run_le (neither 0x2a 0x2f) (drop (c.loop-i.i) (c.args.s.now)), length-drop (c.loop-i.i) (c.args.s.now)) in
-    let two : (c.loop-i.i ≤ c.find_either-i.result) × (c.find_either-i.result + 1 < length (c.args.s.now)) = omega (arith, within, c.if-s-i-lt2.false) in
-    omega (arith, two)
 
 pub loop-i-preserved-in-CloseInner : goal.loop-i-preserved-in-CloseInner
 loop-i-preserved-in-CloseInner c =
@@ -112,18 +55,6 @@ loop-i-preserved-in-CloseInner c =
     let told : (k : Decision) → c.decide.result ≡ k → RestBy (c.args.s.now) c.find_either-i.result (c.loop-i.level) k = λ k e. subst (RestBy (c.args.s.now) c.find_either-i.result (c.loop-i.level)) (sym c.decide.ensures ∙ e) (rest_decided (c.args.s.now) c.find_either-i.result (c.loop-i.level) c.loop-i.invariant.1 (two).1) in
     let w = told decision.CloseInner c.in-CloseInner.is in
     (omega (arith, two), omega (arith, w.0), omega (arith, two), sym w.1 ∙ there)
-
-pub overflow_add-i-in-PassOn : goal.overflow_add-i-in-PassOn
-overflow_add-i-in-PassOn c =
-    let within : (c.loop-i.i ≤ c.find_either-i.result) × (c.find_either-i.result ≤ length (c.args.s.now)) = omega (arith, c.find_either-i.ensures, run_le (neither 0x2a 0x2f) (drop (c.loop-i.i) (c.args.s.now)), length-drop (c.loop-i.i) (c.args.s.now)) in
-    let two : (c.loop-i.i ≤ c.find_either-i.result) × (c.find_either-i.result + 1 < length (c.args.s.now)) = omega (arith, within, c.if-s-i-lt2.false) in
-    omega (arith, two)
-
-pub loop-i-smaller : goal.loop-i-smaller
-loop-i-smaller c =
-    let within : (c.loop-i.i ≤ c.find_either-i.result) × (c.find_either-i.result ≤ length (c.args.s.now)) = omega (arith, c.find_either-i.ensures, run_le (neither 0x2a 0x2f) (drop (c.loop-i.i) (c.args.s.now)), length-drop (c.loop-i.i) (c.args.s.now)) in
-    let two : (c.loop-i.i ≤ c.find_either-i.result) × (c.find_either-i.result + 1 < length (c.args.s.now)) = omega (arith, within, c.if-s-i-lt2.false) in
-    omega (arith, two)
 
 pub loop-i-preserved : goal.loop-i-preserved
 loop-i-preserved c =

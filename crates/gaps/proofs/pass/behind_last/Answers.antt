@@ -1,10 +1,8 @@
-use Prim.Native.Nat.{◌+◌, ◌-◌, pred, ℕ}
+use Prim.Native.Nat.{◌-◌, pred, ℕ}
 use native.Mathlib.Numerals.{add-one}
 use native.Mathlib.Omega.{arith}
-use mathlib.Core.List.{List}
 use mathlib.Core.Path.{◌∙◌, ◌≡◌, ap, sym}
 use lib.ListN.{get_or}
-use Rattle.comments.proofs.RuleLaws.{not_last}
 use Rattle.comments.specs.Blocks.{decision_of}
 use Rattle.comments.specs.declared.block.Decision.{Decision}
 use Rattle.comments.specs.declared.block.Decision.TheVariants as decision
@@ -18,13 +16,6 @@ use Rattle.gaps.proofs.pass.behind_last.Goals as goal
 
 pub returns-then-s-eq0 : goal.returns-then-s-eq0
 returns-then-s-eq0 c = ap (λ (b : ℕ). passed.Within (Block c.args.around b)) c.mark_byte.ensures ∙ sym (last_none _ _ _ c.if-s-eq0.true)
-
-pub from_block-requires : goal.from_block-requires
-from_block-requires c = omega arith
-
-pub overflow_sub-around : goal.overflow_sub-around
-overflow_sub-around c =
-    omega (arith, not_last c.args.last (get_or c.args.s.now 0 0) (c.args.around + 1) (sym c.decide.ensures ∙ c.in-CloseInner.is))
 
 pub returns-in-Open : goal.returns-in-Open
 returns-in-Open c =

@@ -1,4 +1,4 @@
-use Prim.Native.Nat.{◌-◌, ◌≤◌, ℕ}
+use Prim.Native.Nat.{ℕ}
 use Rattle.comments.proofs.GapLaws.{item_blank1}
 use Rattle.comments.specs.Gaps.{item_of}
 use Rattle.gaps.proofs.PassLaws.{StepSized, after_step, clear_on, clear_out, clear_step, step_sized}
@@ -7,14 +7,11 @@ use Rattle.gaps.specs.declared.step.Step.{Step}
 use Rattle.gaps.specs.inner.Steps.{clear_at, step_by}
 use Rattle.text.proofs.Lists.{tail_part}
 use borrow.Author.Rules.{rules}
-use lib.ListN.{drop, length, length-drop}
+use lib.ListN.{drop, length-drop}
 use mathlib.Core.List.{List}
-use mathlib.Core.Path.{◌∙◌, ◌≡◌, ap, refl, subst, sym}
+use mathlib.Core.Path.{◌∙◌, ◌≡◌, ap, subst, sym}
 use native.Mathlib.Omega.{arith}
 use Rattle.gaps.proofs.pass.from_clear.Goals as goal
-
-pub loop-i-init : goal.loop-i-init
-loop-i-init c = (search rules, refl)
 
 pub loop-i-preserved-then-is_blank : goal.loop-i-preserved-then-is_blank
 loop-i-preserved-then-is_blank c =

@@ -1,6 +1,5 @@
 use mathlib.Core.Path.{◌∙◌, sym}
 use Rattle.gaps.proofs.PassLaws.{line_found_at, line_none_at}
-use borrow.Author.Rules.{rules}
 use Rattle.gaps.proofs.pass.from_line.Goals as goal
 
 pub returns-then-i-s : goal.returns-then-i-s

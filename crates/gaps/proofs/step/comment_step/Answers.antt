@@ -1,6 +1,5 @@
 use Prim.Native.Nat.{◌+◌, ◌-◌, ◌<◌, ℕ}
 use native.Mathlib.Omega.{arith}
-use mathlib.Core.List.{List}
 use mathlib.Core.Path.{◌∙◌, ◌≡◌, ap, subst, sym}
 use lib.ListN.{drop, length, length-drop, length-take, take}
 use borrow.Author.Rules.{rules}
@@ -48,17 +47,17 @@ returns-in-Unclosed c =
     ∙ ap (step_by (c.args.s.now)) (sym (comment_line (c.args.s.now) (two) c.if-s-ne47.false c.if-b-eq47.true)) in
     line_step _ c.in-Unclosed.is
 
-pub returns-in-Closed-rest : goal.returns-in-Closed-rest
-returns-in-Closed-rest c =
+pub returns-in-Ok : goal.returns-in-Ok
+returns-in-Ok c =
     let two : 1 < length (c.args.s.now) = omega arith in
     let rest_step : step_rest c.block_rest-rest.result ≡ step_by (c.args.s.now) (comment_of (c.args.s.now)) = ap step_rest c.block_rest-rest.ensures ∙ sym (block_step (c.args.s.now) (two) c.if-s-ne47.false c.if-b-eq42.true) in
-    sym (ap step_rest c.in-Closed-rest.is) ∙ rest_step
+    sym (ap step_rest c.in-Ok.is) ∙ rest_step
 
-pub returns-in-Still : goal.returns-in-Still
-returns-in-Still c =
+pub returns-in-Err : goal.returns-in-Err
+returns-in-Err c =
     let two : 1 < length (c.args.s.now) = omega arith in
     let rest_step : step_rest c.block_rest-rest.result ≡ step_by (c.args.s.now) (comment_of (c.args.s.now)) = ap step_rest c.block_rest-rest.ensures ∙ sym (block_step (c.args.s.now) (two) c.if-s-ne47.false c.if-b-eq42.true) in
-    sym (ap step_rest c.in-Still.is) ∙ rest_step
+    sym (ap step_rest c.in-Err.is) ∙ rest_step
 
 pub overflow_add-taken-2 : goal.overflow_add-taken-2
 overflow_add-taken-2 c =

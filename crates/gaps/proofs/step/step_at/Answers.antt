@@ -1,8 +1,5 @@
-use Prim.Native.Nat.{ℕ}
-use mathlib.Core.List.{List}
 use mathlib.Core.Path.{◌∙◌, ◌≡◌, ap, sym}
 use lib.ListN.{get_or}
-use borrow.Author.Rules.{rules}
 use Rattle.comments.proofs.GapLaws.{item_blank, item_comment}
 use Rattle.text.specs.Classes.{blank_width}
 use Rattle.gaps.specs.inner.Steps.{step_by}

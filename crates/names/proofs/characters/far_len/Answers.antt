@@ -1,6 +1,4 @@
 use mathlib.Core.Path.{◌∙◌, sym}
-use borrow.Author.Rules.{rules}
-use borrow.Author.Tests.{not-true}
 use Rattle.names.proofs.CharLaws.{chars_none}
 use Rattle.names.proofs.NearLaws.{far_none}
 use Rattle.names.specs.Characters.{ident_char}

@@ -1,5 +1,4 @@
 use mathlib.Core.Path.{◌∙◌, sym}
-use borrow.Author.Rules.{rules}
 use Rattle.names.proofs.NearLaws.{near_below, near_wide}
 use Rattle.names.proofs.characters.is_near.Goals as goal
 

@@ -1,5 +1,4 @@
 use mathlib.Core.Path.{◌∙◌, sym}
-use borrow.Author.Rules.{rules}
 use Rattle.names.proofs.NearLaws.{pair_above, pair_below, pair_high, pair_is, pair_low}
 use Rattle.names.proofs.characters.is_usual_pair.Goals as goal
 

@@ -1,17 +1,11 @@
-use Prim.Native.Nat.{◌+◌, ◌-◌, ◌≤◌}
 use native.Mathlib.Omega.{arith}
 use mathlib.Core.Bool.{Bool, cond}
-use mathlib.Core.Path.{◌∙◌, ◌≡◌, ap, sym}
-use lib.ListN.{drop, length}
+use mathlib.Core.Path.{◌∙◌, ap, sym}
 use borrow.Author.Rules.{rules}
-use borrow.Author.Tests.{not-false, not-true}
 use Rattle.names.proofs.CharLaws.{part_char, part_fits, run_ends, run_on, run_stops}
 use Rattle.names.proofs.NearLaws.{near_at}
-use Rattle.names.specs.Characters.{chars, ident_char, near}
+use Rattle.names.specs.Characters.{ident_char, near}
 use Rattle.names.proofs.characters.near_len.Goals as goal
-
-pub loop-i-init : goal.loop-i-init
-loop-i-init c = (search rules, omega arith)
 
 pub returns-then-not-is_ascii_char : goal.returns-then-not-is_ascii_char
 returns-then-not-is_ascii_char c = sym (run_stops (near (ident_char c.args.class)) c.args.s.now c.loop-i.i (near_at c.args.class c.args.s.now c.loop-i.i (search rules) c.if-a-lt128.true ∙ ap (λ (t : Bool). cond t 1 0) (sym c.is_ascii_char.ensures ∙ c.if-not-is_ascii_char.true))) ∙ c.loop-i.invariant.1
@@ -24,9 +18,6 @@ returns-then-n-eq0 c = sym (run_stops (near (ident_char c.args.class)) c.args.s.
 
 pub overflow_add-i-else-a-lt128 : goal.overflow_add-i-else-a-lt128
 overflow_add-i-else-a-lt128 c = omega (arith, part_fits (near (ident_char c.args.class)) c.args.s.now c.loop-i.i _ c.near_if-n.ensures)
-
-pub loop-i-smaller : goal.loop-i-smaller
-loop-i-smaller c = omega (arith, c.if-n-eq0.false, part_fits (near (ident_char c.args.class)) c.args.s.now c.loop-i.i _ c.near_if-n.ensures)
 
 pub loop-i-preserved : goal.loop-i-preserved
 loop-i-preserved c = (omega (arith, part_fits (near (ident_char c.args.class)) c.args.s.now c.loop-i.i _ c.near_if-n.ensures), sym (run_on (near (ident_char c.args.class)) c.args.s.now c.loop-i.i _ (part_char (near (ident_char c.args.class)) c.args.s.now c.loop-i.i _ c.near_if-n.ensures) (omega (arith, c.if-n-eq0.false))) ∙ c.loop-i.invariant.1)

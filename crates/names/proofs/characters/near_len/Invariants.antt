@@ -1,12 +1,6 @@
 use Prim.Native.Nat.{◌+◌, ◌-◌, ◌≤◌}
-use native.Mathlib.Omega.{arith}
-use mathlib.Core.Bool.{Bool, cond}
-use mathlib.Core.Path.{◌∙◌, ◌≡◌, ap, sym}
+use mathlib.Core.Path.{◌≡◌}
 use lib.ListN.{drop, length}
-use borrow.Author.Rules.{rules}
-use borrow.Author.Tests.{not-false, not-true}
-use Rattle.names.proofs.CharLaws.{part_char, part_fits, run_ends, run_on, run_stops}
-use Rattle.names.proofs.NearLaws.{near_at}
 use Rattle.names.specs.Characters.{chars, ident_char, near}
 use Rattle.names.proofs.characters.near_len.Given as goal
 

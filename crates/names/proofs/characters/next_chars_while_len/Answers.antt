@@ -2,7 +2,6 @@ use Prim.Native.Nat.{ℕ, ◌+◌}
 use native.Mathlib.Omega.{arith}
 use mathlib.Core.Path.{◌∙◌, ap, ap₂, refl, sym}
 use lib.ListN.{drop, length-drop}
-use borrow.Author.Rules.{rules}
 use Rattle.names.proofs.CharLaws.{chars_le}
 use Rattle.names.proofs.NearLaws.{near_run, run_done}
 use Rattle.names.specs.Characters.{char_if, chars, ident_char, near}

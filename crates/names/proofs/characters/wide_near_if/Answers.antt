@@ -1,6 +1,5 @@
 use mathlib.Core.Bool.{Bool, cond}
 use mathlib.Core.Path.{◌∙◌, ap, sym}
-use borrow.Author.Rules.{rules}
 use Rattle.names.specs.Characters.{char_if, ident_char, near}
 use Rattle.text.specs.Utf8.{char_len}
 use Rattle.names.proofs.characters.wide_near_if.Goals as goal

@@ -1,5 +1,4 @@
 use mathlib.Core.Path.{sym, ◌∙◌}
-use borrow.Author.Rules.{rules}
 use Rattle.names.specs.Classify.{begins_float}
 use Rattle.names.proofs.classify.begins_float.Goals as goal
 

@@ -1,5 +1,4 @@
 use mathlib.Core.Path.{sym, ◌∙◌}
-use borrow.Author.Rules.{rules}
 use Rattle.names.specs.Classify.{missing}
 use Rattle.names.proofs.classify.missing.Goals as goal
 

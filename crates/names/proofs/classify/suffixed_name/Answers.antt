@@ -1,5 +1,4 @@
 use mathlib.Core.Path.{sym, ◌∙◌}
-use borrow.Author.Rules.{rules}
 use Rattle.names.specs.Classify.{suffixed}
 use Rattle.names.proofs.classify.suffixed_name.Goals as goal
 

@@ -1,5 +1,4 @@
 use mathlib.Core.Path.{◌∙◌, ap, subst, sym}
-use borrow.Author.Rules.{rules}
 use Rattle.names.proofs.IdentifierLaws.{Within, skip_within}
 use Rattle.names.specs.Classify.{by_identifier, word_of}
 use Rattle.names.proofs.classify.word.Goals as goal

@@ -1,6 +1,4 @@
 use mathlib.Core.Path.{◌∙◌, sym}
-use borrow.Author.Rules.{rules}
-use borrow.Author.Tests.{not-true}
 use Rattle.names.proofs.NearLaws.{no_name}
 use Rattle.names.proofs.identifiers.far_name_len.Goals as goal
 

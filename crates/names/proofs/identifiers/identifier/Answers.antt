@@ -1,5 +1,4 @@
 use mathlib.Core.Path.{◌∙◌, sym}
-use borrow.Author.Rules.{rules}
 use Rattle.names.proofs.IdentifierLaws.{raw_long}
 use Rattle.names.specs.Identifiers.{identifier_of}
 use Rattle.names.proofs.identifiers.identifier.Goals as goal

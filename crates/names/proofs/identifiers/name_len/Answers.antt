@@ -1,9 +1,8 @@
 use Prim.Native.Nat.{◌-◌, ◌≤◌, ℕ}
 use native.Mathlib.Omega.{arith}
 use mathlib.Core.List.{List}
-use mathlib.Core.Path.{◌∙◌, ◌≡◌, ap, refl, sym}
+use mathlib.Core.Path.{◌≡◌, refl, sym}
 use lib.ListN.{drop, length, length-drop, take}
-use borrow.Author.Rules.{rules}
 use Rattle.names.proofs.CharLaws.{chars_le}
 use Rattle.names.proofs.NearLaws.{near_name}
 use Rattle.names.specs.Characters.{chars, near}
@@ -14,9 +13,6 @@ use Rattle.names.proofs.identifiers.name_len.Goals as goal
 
 more : (s : List ℕ) (i n : ℕ) → n ≡ chars ident_next (take (length s - i) (drop i s)) → n ≤ length s - i
 more s i n e = omega (arith, on_part (chars ident_next) s i n n e refl, chars_le ident_next (drop i s), length-drop i s)
-
-pub far_name_len-requires : goal.far_name_len-requires
-far_name_len-requires c = sym c.near_if-n.ensures ∙ c.if-n-eq0.true
 
 pub slice_bounds-next_chars_while_len-count : goal.slice_bounds-next_chars_while_len-count
 slice_bounds-next_chars_while_len-count c = omega (arith, c.near_if-n.ensures, char_le (near ident_first) c.args.s.now)

@@ -1,5 +1,4 @@
 use mathlib.Core.Path.{sym}
-use borrow.Author.Rules.{rules}
 use borrow.Author.Tests.{eq-eqb, ne_eqb}
 use Rattle.names.specs.Identifiers.{plain_of}
 use Rattle.names.proofs.identifiers.plain.Goals as goal

@@ -1,5 +1,4 @@
 use mathlib.Core.Path.{sym}
-use borrow.Author.Rules.{rules}
 use borrow.Author.Tests.{eq-eqb, le-ltb, lt-ltb, ne_eqb}
 use Rattle.names.specs.Identifiers.{strict_of}
 use Rattle.names.proofs.identifiers.strict.Goals as goal

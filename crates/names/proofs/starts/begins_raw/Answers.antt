@@ -1,4 +1,3 @@
-use borrow.Author.Rules.{rules}
 use Rattle.names.specs.Starts.{begins_raw}
 use Rattle.names.proofs.starts.begins_raw.Goals as goal
 

@@ -1,5 +1,4 @@
 use mathlib.Core.Path.{sym, ◌∙◌}
-use borrow.Author.Rules.{rules}
 use Rattle.names.specs.Starts.{begins_string}
 use Rattle.names.proofs.starts.begins_string.Goals as goal
 

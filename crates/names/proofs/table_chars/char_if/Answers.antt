@@ -1,7 +1,6 @@
 use native.Mathlib.Omega.{arith}
 use mathlib.Core.Bool.{Bool, cond}
 use mathlib.Core.Path.{◌∙◌, ap, sym}
-use borrow.Author.Rules.{rules}
 use Rattle.names.proofs.NearLaws.{near_char}
 use Rattle.names.specs.Characters.{char_if, ident_char}
 use Rattle.text.specs.Utf8.{char_len}

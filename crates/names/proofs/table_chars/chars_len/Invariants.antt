@@ -1,9 +1,6 @@
 use Prim.Native.Nat.{◌+◌, ◌-◌, ◌≤◌}
-use native.Mathlib.Omega.{arith}
-use mathlib.Core.Path.{◌∙◌, ◌≡◌, sym}
+use mathlib.Core.Path.{◌≡◌}
 use lib.ListN.{drop, length}
-use borrow.Author.Rules.{rules}
-use Rattle.names.proofs.CharLaws.{part_char, part_fits, run_ends, run_on, run_stops}
 use Rattle.names.specs.Characters.{chars, ident_char}
 use Rattle.names.proofs.table_chars.chars_len.Given as goal
 

@@ -4,7 +4,6 @@ use mathlib.Core.Path.{subst, sym}
 use borrow.Author.Tests.{le-ltb, lt-ltb}
 use Rattle.plain_strings.proofs.PlainStrings.{two_quotes}
 use Rattle.plain.specs.inner.Plain.{plain_of}
-use borrow.Author.Rules.{rules}
 use Rattle.plain.proofs.forms.plain.Goals as goal
 
 pub returns-then-name-gt0 : goal.returns-then-name-gt0

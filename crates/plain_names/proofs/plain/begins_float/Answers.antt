@@ -1,5 +1,4 @@
 use mathlib.Core.Path.{◌∙◌, sym}
-use borrow.Author.Rules.{rules}
 use borrow.Author.Tests.{ne_eqb}
 use Rattle.plain_names.proofs.PartLaws.{float_i, float_n, no_float}
 use Rattle.plain_names.proofs.plain.begins_float.Goals as goal

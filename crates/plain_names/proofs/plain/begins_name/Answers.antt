@@ -1,6 +1,4 @@
-use native.Mathlib.Omega.{arith}
 use mathlib.Core.Path.{sym}
-use borrow.Author.Rules.{rules}
 use Rattle.plain_names.proofs.PartLaws.{below_letters}
 use Rattle.plain_names.proofs.plain.begins_name.Goals as goal
 

@@ -1,8 +1,6 @@
 use Prim.Native.Nat.{◌+◌}
 use native.Mathlib.Omega.{arith}
 use mathlib.Core.Path.{◌∙◌, sym}
-use borrow.Author.Rules.{rules}
-use borrow.Author.Tests.{not-false, not-true}
 use Rattle.plain_names.proofs.PartLaws.{from_first, none_behind, not_first, run_behind}
 use Rattle.text.proofs.RunLaws.{run_le}
 use Rattle.text.specs.Classes.{ascii_next}

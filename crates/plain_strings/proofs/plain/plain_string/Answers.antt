@@ -6,7 +6,6 @@ use Rattle.text.proofs.RunLaws.{run_le}
 use Rattle.text.specs.Runs.{run}
 use Rattle.strings.specs.Pieces.{plain}
 use Rattle.plain_strings.proofs.PartLaws.{not_quote, not_closed, escaped, closed}
-use borrow.Author.Rules.{rules}
 use Rattle.plain_strings.proofs.plain.plain_string.Goals as goal
 
 pub returns-then-s-ne34 : goal.returns-then-s-ne34

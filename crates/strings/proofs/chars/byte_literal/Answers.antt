@@ -4,7 +4,6 @@ use mathlib.Core.Bool.{false, true}
 use mathlib.Core.Path.{◌∙◌, ◌≡◌, ap, subst, sym}
 use lib.Dec.{eqb}
 use lib.ListN.{drop, get_or}
-use borrow.Author.Rules.{rules}
 use borrow.Author.Tests.{not-false, not-true}
 use Rattle.cursor.proofs.CharLaws.{found_here, lost_here}
 use Rattle.cursor.specs.Cursor.{cursor_at, moved_by}
@@ -48,28 +47,6 @@ returns-then-mark c =
     let marked : (c.consume_char-mark.result.cursor ≡ moved_by 1 (moved_by 1 (moved_by 1 (cursor_at 0)))) × (eqb (get_or c.args.s.now 2 0) 0x5C ≡ true) = let s = c.args.s.now in
     found_here s (moved_by 1 (moved_by 1 (cursor_at 0))) 0x5C (omega arith) c.consume_char-mark.result (c.consume_char-mark.ensures ∙ ap (λ (k : ParserCursor). consumed_of s k 0x5C) (opened).0) c.if-mark.true in
     c.escaped_byte.ensures ∙ byte_marked c.args.s.now (begun).1 (opened).1 (marked).1
-
-pub slice_bounds-char_len-count : goal.slice_bounds-char_len-count
-slice_bounds-char_len-count c =
-    let begun : (c.consume_char-begun.result.cursor ≡ moved_by 1 (cursor_at 0)) × (eqb (get_or c.args.s.now 0 0) 0x62 ≡ true) = let s = c.args.s.now in
-    found_here s (cursor_at 0) 0x62 (omega arith) c.consume_char-begun.result (c.consume_char-begun.ensures ∙ ap (λ (k : ParserCursor). consumed_of s k 0x62) c.at.ensures) (not-false _ c.if-not-begun.false) in
-    let opened : (c.consume_char-opened.result.cursor ≡ moved_by 1 (moved_by 1 (cursor_at 0))) × (eqb (get_or c.args.s.now 1 0) 0x27 ≡ true) = let s = c.args.s.now in
-    found_here s (moved_by 1 (cursor_at 0)) 0x27 (omega arith) c.consume_char-opened.result (c.consume_char-opened.ensures ∙ ap (λ (k : ParserCursor). consumed_of s k 0x27) (begun).0) (not-false _ c.if-not-opened.false) in
-    let place : c.consume_char-opened.result.cursor.cursor ≡ 2 = ap (λ (k : ParserCursor). k.cursor) (opened).0 in
-    let peeked : c.peek.result ≡ get_or c.args.s.now 2 0 = c.peek.ensures ∙ ap (λ (n : ℕ). get_or c.args.s.now n 0) (place) in
-    let wide : 0x80 ≤ get_or c.args.s.now 2 0 = omega (arith, c.if-peek-ge128.true, peeked) in
-    omega (arith, place, wide_inside c.args.s.now (wide))
-
-pub slice_bounds-char_len-start : goal.slice_bounds-char_len-start
-slice_bounds-char_len-start c =
-    let begun : (c.consume_char-begun.result.cursor ≡ moved_by 1 (cursor_at 0)) × (eqb (get_or c.args.s.now 0 0) 0x62 ≡ true) = let s = c.args.s.now in
-    found_here s (cursor_at 0) 0x62 (omega arith) c.consume_char-begun.result (c.consume_char-begun.ensures ∙ ap (λ (k : ParserCursor). consumed_of s k 0x62) c.at.ensures) (not-false _ c.if-not-begun.false) in
-    let opened : (c.consume_char-opened.result.cursor ≡ moved_by 1 (moved_by 1 (cursor_at 0))) × (eqb (get_or c.args.s.now 1 0) 0x27 ≡ true) = let s = c.args.s.now in
-    found_here s (moved_by 1 (cursor_at 0)) 0x27 (omega arith) c.consume_char-opened.result (c.consume_char-opened.ensures ∙ ap (λ (k : ParserCursor). consumed_of s k 0x27) (begun).0) (not-false _ c.if-not-opened.false) in
-    let place : c.consume_char-opened.result.cursor.cursor ≡ 2 = ap (λ (k : ParserCursor). k.cursor) (opened).0 in
-    let peeked : c.peek.result ≡ get_or c.args.s.now 2 0 = c.peek.ensures ∙ ap (λ (n : ℕ). get_or c.args.s.now n 0) (place) in
-    let wide : 0x80 ≤ get_or c.args.s.now 2 0 = omega (arith, c.if-peek-ge128.true, peeked) in
-    omega (arith, place, wide_inside c.args.s.now (wide))
 
 pub overflow_add-at : goal.overflow_add-at
 overflow_add-at c =

@@ -1,4 +1,3 @@
-use borrow.Author.Rules.{rules}
 use mathlib.Core.Path.{◌∙◌, ◌≡◌, ap, sym}
 use Rattle.cursor.specs.declared.skip.Step.TheVariants.{Moved, Refused}
 use Rattle.cursor.specs.declared.skip.Step.{Step}

@@ -1,5 +1,3 @@
-use Prim.Native.Nat.{◌<◌}
-use borrow.Author.Rules.{rules}
 use lib.Dec.{eqb}
 use lib.ListN.{get_or}
 use mathlib.Core.Bool.{true}

@@ -1,4 +1,3 @@
-use borrow.Author.Rules.{rules}
 use lib.ListN.{drop}
 use mathlib.Core.Path.{◌∙◌, ◌≡◌, ap, sym}
 use Rattle.cursor.specs.declared.escape.Escaped.TheVariants.{Ascii, Utf8, Refused}

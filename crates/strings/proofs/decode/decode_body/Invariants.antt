@@ -1,15 +1,7 @@
-use Prim.Native.Nat.{◌-◌, ◌+◌}
-use native.Mathlib.Omega.{arith}
-use mathlib.Core.List.{[]}
-use mathlib.Core.Path.{◌≡◌, ◌∙◌, refl, sym}
-use lib.ListN.{length, drop, length-drop, take}
-use lib.Seq.{length-take-le}
-use borrow.Author.Rules.{rules}
-use Rattle.strings.proofs.Decodings.{Decoding, all_written, backslash_room, decoded_backslash, decoded_end, decoded_plain, decoded_quote, decoded_spoilt, go_on, plain_room}
-use Rattle.strings.proofs.PieceLaws.{decoded_length, fine_writable}
-use Rattle.strings.specs.Pieces.{bytes_of}
-use Rattle.text.proofs.Lists.{tail_part}
-use Rattle.text.specs.Classes.{within}
+use Prim.Native.Nat.{◌-◌}
+use mathlib.Core.Path.{◌≡◌}
+use lib.ListN.{length}
+use Rattle.strings.proofs.Decodings.{Decoding}
 use Rattle.strings.proofs.decode.decode_body.Given as goal
 
 abbrev pub invariant-loop-at : goal.invariant-loop-at

@@ -3,7 +3,6 @@ use native.Mathlib.Omega.{arith}
 use mathlib.Core.List.{List, ◌++◌}
 use mathlib.Core.Path.{◌∙◌, ap, sym}
 use lib.ListN.{drop, length, length-drop}
-use borrow.Author.Rules.{rules}
 use Rattle.strings.proofs.Wholes.{byte_string_whole}
 use Rattle.strings.specs.Strings.{into_out, byte_string_decoded}
 use Rattle.text.proofs.Lists.{tail_part}

@@ -1,7 +1,6 @@
 use Prim.Native.Nat.{◌+◌, ℕ}
 use native.Mathlib.Omega.{arith}
 use mathlib.Core.Path.{◌∙◌, ap, sym}
-use borrow.Author.Rules.{rules}
 use Rattle.escapes.specs.declared.answers.EscapeAnswer.TheVariants.{Ascii, Utf8, Refused}
 use Rattle.strings.proofs.PieceLaws.{fits}
 use Rattle.strings.specs.Pieces.{behind_backslash, by_escape}

@@ -1,5 +1,4 @@
 use mathlib.Core.Path.{◌∙◌, sym}
-use borrow.Author.Rules.{rules}
 use Rattle.strings.proofs.PieceLaws.{encode_length}
 use Rattle.strings.specs.Pieces.{decoded_len}
 use Rattle.strings.proofs.pieces.decoded_len.Goals as goal

@@ -1,6 +1,5 @@
 use mathlib.Core.Path.{◌∙◌, ap}
 use lib.ListN.{get_or}
-use borrow.Author.Rules.{rules}
 use borrow.Author.Tests.{eq-eqb, ne_eqb}
 use Rattle.strings.specs.Pieces.{piece_of}
 use Rattle.strings.specs.declared.pieces.Piece.TheVariants.{Plain}

@@ -1,7 +1,6 @@
 use native.Mathlib.Omega.{arith}
 use mathlib.Core.Path.{◌∙◌}
 use Rattle.strings.proofs.SimpleLaws.{no_backslash, nothing_behind, by_letter}
-use borrow.Author.Rules.{rules}
 use Rattle.strings.proofs.pieces.simple_escape.Goals as goal
 
 pub returns-then-s-at-ne92 : goal.returns-then-s-at-ne92

@@ -1,10 +1,8 @@
-use Prim.Native.Nat.{◌+◌, ◌-◌, ◌≤◌, ℕ}
+use Prim.Native.Nat.{◌+◌, ℕ}
 use native.Mathlib.Omega.{arith}
-use mathlib.Core.Bool.{false, true}
-use mathlib.Core.Path.{◌∙◌, ◌≡◌, ap, refl, sym}
-use lib.ListN.{drop, length, length-drop}
-use borrow.Author.Rules.{rules}
-use Rattle.escapes.proofs.Decoded.{decoded}
+use mathlib.Core.Bool.{true}
+use mathlib.Core.Path.{◌∙◌, ap, sym}
+use lib.ListN.{drop}
 use Rattle.strings.proofs.QuotedLaws.{backslash_size, backslash_step, end_step, plain_size, plain_step, quote_step, spoilt_size, spoilt_step}
 use Rattle.strings.specs.Pieces.{body_of}
 use Rattle.strings.specs.Quoted.{measured}
@@ -17,24 +15,9 @@ use Rattle.strings.specs.declared.pieces.Decoded.TheVariants.{Ascii}
 use Rattle.strings.proofs.SimpleLaws.{simple_piece}
 use Rattle.strings.proofs.quoted.body.Goals as goal
 
-pub loop-at-init : goal.loop-at-init
-loop-at-init c = (search rules, search rules, refl)
-
-pub overflow_add-at : goal.overflow_add-at
-overflow_add-at c = omega (arith, (backslash_size c.args.m c.args.s.now c.args.start c.loop-at.from c.loop-at.at c.loop-at.decoded c.loop-at.escaped c.loop-at-test.true 2 (Ascii (simple_of (get_or (drop c.loop-at.at c.args.s.now) 1 0))) (simple_piece c.args.m (drop c.loop-at.at c.args.s.now) (sym c.simple_escape.ensures ∙ c.if-simple_escape.true))).1)
-
-pub overflow_add-decoded : goal.overflow_add-decoded
-overflow_add-decoded c = omega (arith, (backslash_size c.args.m c.args.s.now c.args.start c.loop-at.from c.loop-at.at c.loop-at.decoded c.loop-at.escaped c.loop-at-test.true 2 (Ascii (simple_of (get_or (drop c.loop-at.at c.args.s.now) 1 0))) (simple_piece c.args.m (drop c.loop-at.at c.args.s.now) (sym c.simple_escape.ensures ∙ c.if-simple_escape.true))).1)
-
-pub loop-at-smaller-then-simple_escape : goal.loop-at-smaller-then-simple_escape
-loop-at-smaller-then-simple_escape c = omega (arith, (backslash_size c.args.m c.args.s.now c.args.start c.loop-at.from c.loop-at.at c.loop-at.decoded c.loop-at.escaped c.loop-at-test.true 2 (Ascii (simple_of (get_or (drop c.loop-at.at c.args.s.now) 1 0))) (simple_piece c.args.m (drop c.loop-at.at c.args.s.now) (sym c.simple_escape.ensures ∙ c.if-simple_escape.true))).1)
-
 pub loop-at-preserved-then-simple_escape : goal.loop-at-preserved-then-simple_escape
 unfolding decoded_len
 loop-at-preserved-then-simple_escape c = let z = backslash_size c.args.m c.args.s.now c.args.start c.loop-at.from c.loop-at.at c.loop-at.decoded c.loop-at.escaped c.loop-at-test.true 2 (Ascii (simple_of (get_or (drop c.loop-at.at c.args.s.now) 1 0))) (simple_piece c.args.m (drop c.loop-at.at c.args.s.now) (sym c.simple_escape.ensures ∙ c.if-simple_escape.true)) in (omega (arith, z.1), omega (arith, z.1), c.loop-at.invariant.2 ∙ backslash_step c.args.m c.args.s.now c.args.start c.loop-at.from c.loop-at.at c.loop-at.decoded c.loop-at.escaped c.loop-at-test.true 2 (Ascii (simple_of (get_or (drop c.loop-at.at c.args.s.now) 1 0))) (simple_piece c.args.m (drop c.loop-at.at c.args.s.now) (sym c.simple_escape.ensures ∙ c.if-simple_escape.true)))
-
-pub next_piece-p-requires : goal.next_piece-p-requires
-next_piece-p-requires c = simp tail_part (omega (arith, length-drop c.loop-at.at c.args.s.now))
 
 pub returns-in-Quote : goal.returns-in-Quote
 returns-in-Quote c = sym (c.loop-at.invariant.2 ∙ quote_step c.args.m c.args.s.now c.args.start c.loop-at.from c.loop-at.at c.loop-at.decoded c.loop-at.escaped c.loop-at-test.true (simp tail_part at (sym c.in-Quote.is ∙ c.next_piece-p.ensures)))

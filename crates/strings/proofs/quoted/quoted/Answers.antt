@@ -1,7 +1,6 @@
 use native.Mathlib.Omega.{arith}
 use mathlib.Core.Path.{◌∙◌, sym}
 use lib.ListN.{drop, length, length-drop}
-use borrow.Author.Rules.{rules}
 use borrow.Author.Tests.{le-ltb, lt-ltb}
 use Rattle.strings.proofs.QuotedLaws.{quoted_none, quoted_plain}
 use Rattle.strings.specs.Pieces.{plain, unquoted}

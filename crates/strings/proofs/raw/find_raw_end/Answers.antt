@@ -1,18 +1,11 @@
-use Prim.Native.Nat.{◌+◌, ◌-◌, ◌≤◌}
-use native.Mathlib.Nat.{zero-add}
+use Prim.Native.Nat.{◌+◌}
 use native.Mathlib.Omega.{arith}
-use mathlib.Core.Path.{◌≡◌}
-use lib.ListN.{drop, length, length-drop}
-use borrow.Author.Rules.{rules}
+use lib.ListN.{drop, length-drop}
 use Rattle.strings.proofs.RawLaws.{at_quote, raw_here, raw_more, raw_none, raw_on}
 use Rattle.strings.specs.Pieces.{unquoted}
-use Rattle.strings.specs.Raw.{raw_end}
 use Rattle.text.proofs.Lists.{tail_part}
 use Rattle.text.proofs.RunLaws.{run_le}
 use Rattle.strings.proofs.raw.find_raw_end.Goals as goal
-
-pub loop-i-init : goal.loop-i-init
-loop-i-init c = (search rules, zero-add (raw_end c.args.n c.args.t.now))
 
 pub overflow_add-q : goal.overflow_add-q
 overflow_add-q c = omega (arith, simp tail_part at c.find_quote.ensures, run_le unquoted (drop c.loop-i.i c.args.t.now), length-drop c.loop-i.i c.args.t.now)

@@ -1,14 +1,7 @@
 use Prim.Native.Nat.{◌+◌, ◌-◌, ◌≤◌}
-use native.Mathlib.Nat.{zero-add}
-use native.Mathlib.Omega.{arith}
 use mathlib.Core.Path.{◌≡◌}
-use lib.ListN.{drop, length, length-drop}
-use borrow.Author.Rules.{rules}
-use Rattle.strings.proofs.RawLaws.{at_quote, raw_here, raw_more, raw_none, raw_on}
-use Rattle.strings.specs.Pieces.{unquoted}
+use lib.ListN.{drop, length}
 use Rattle.strings.specs.Raw.{raw_end}
-use Rattle.text.proofs.Lists.{tail_part}
-use Rattle.text.proofs.RunLaws.{run_le}
 use Rattle.strings.proofs.raw.find_raw_end.Given as goal
 
 abbrev pub invariant-loop-i : goal.invariant-loop-i

@@ -2,7 +2,6 @@ use Prim.Native.Nat.{◌+◌}
 use native.Mathlib.Omega.{arith}
 use mathlib.Core.Path.{◌∙◌, ◌≡◌, ap, sym}
 use lib.ListN.{get_or-eq_default, drop, length-drop}
-use borrow.Author.Rules.{rules}
 use Rattle.strings.proofs.RawLaws.{raw_le, raw_missing, raw_read, raw_unclosed}
 use Rattle.strings.specs.Raw.{hash}
 use Rattle.strings.specs.declared.literal.LiteralAnswer.TheVariants.{Refused}

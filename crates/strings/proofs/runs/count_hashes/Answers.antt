@@ -1,23 +1,13 @@
-use Prim.Native.Nat.{◌+◌, ◌-◌, ◌≤◌}
-use native.Mathlib.Nat.{zero-add}
-use native.Mathlib.Omega.{arith}
-use mathlib.Core.Path.{◌≡◌}
-use lib.ListN.{drop, length}
-use borrow.Author.Rules.{rules}
-use borrow.Author.Tests.{eq-eqb, ne_eqb}
+use mathlib.Core.Bool.{not}
+use mathlib.Core.Path.{◌∙◌}
+use Rattle.std.proofs.Common.{rules, tests}
+use Rattle.std.proofs.lemmas.Iterator.{YieldsList-from_slice}
+use Rattle.std.proofs.lemmas.Iterator.Search.{position_from_yields_List}
+use Rattle.strings.proofs.RunPlaces.{run_place}
 use Rattle.strings.specs.Raw.{hash}
-use Rattle.text.proofs.RunLaws.{run_end, run_more, run_out}
-use Rattle.text.specs.Runs.{run}
 use Rattle.strings.proofs.runs.count_hashes.Goals as goal
 
-pub loop-i-init : goal.loop-i-init
-loop-i-init c = (search rules, zero-add (run hash c.args.s.now))
-
-pub returns-then-s-i-ne35 : goal.returns-then-s-i-ne35
-returns-then-s-i-ne35 c = omega (arith, c.loop-i.invariant.1, run_out hash c.args.s.now c.loop-i.i (search rules) (ne_eqb _ _ c.if-s-i-ne35.true))
-
-pub loop-i-preserved : goal.loop-i-preserved
-loop-i-preserved c = (search rules, omega (arith, c.loop-i.invariant.1, run_more hash c.args.s.now c.loop-i.i (search rules) (eq-eqb _ _ c.if-s-i-ne35.false)))
-
 pub returns : goal.returns
-returns c = omega (arith, c.loop-i.invariant.1, run_end hash c.args.s.now c.loop-i.i (search rules))
+returns c =
+    let found = position_from_yields_List (λ b. not (hash b)) _ _ c.position.result c.position.ensures.ran (YieldsList-from_slice c.args.s.now cc) (λ x b q k. search (rules, tests)) in
+    c.unwrap_or.ensures ∙ run_place hash c.args.s.now c.position.result found

@@ -1,6 +1,5 @@
 use native.Mathlib.Nat.{zero-add}
 use mathlib.Core.Path.{◌∙◌}
-use borrow.Author.Rules.{rules}
 use Rattle.search.specs.inner.Others.{neither}
 use Rattle.strings.specs.Pieces.{plain}
 use Rattle.text.specs.Runs.{run}

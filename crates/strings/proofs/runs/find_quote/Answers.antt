@@ -1,6 +1,5 @@
 use native.Mathlib.Nat.{zero-add}
 use mathlib.Core.Path.{◌∙◌}
-use borrow.Author.Rules.{rules}
 use Rattle.search.specs.inner.Others.{other}
 use Rattle.strings.specs.Pieces.{unquoted}
 use Rattle.text.specs.Runs.{run}
