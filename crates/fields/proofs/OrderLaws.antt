@@ -4,11 +4,11 @@ use native.Mathlib.Omega.{arith}
 use mathlib.Core.Path.{◌∙◌, ◌≡◌, ap, ap₂, refl, sym}
 use mathlib.Core.List.{List, [], ◌∷◌}
 use mathlib.Core.Bool.{Bool, true, false}
-use lib.Dec.{eqb, ltb}
+use lib.Dec.{ltb}
 use borrow.Author.Tests.{eq-eqb, le-ltb, lt-ltb, ltb-false, ltb-true, ne_eqb}
 use Rattle.text.proofs.Choices.{bool_cases, either}
 use Rattle.std.specs.Cmp.Lexicographic.{slice_cmp}
-use Rattle.std.specs.Ordering.{is_lt, nat_cmp, ordering_then}
+use Rattle.std.specs.Ordering.{nat_cmp}
 use Rattle.std.specs.declared.cmp.Ordering.{Ordering}
 use Rattle.std.specs.declared.cmp.Ordering.TheVariants.{Less as Before, Equal as Same, Greater as Behind}
 use Rattle.fields.specs.inner.Order.{order_of, by_order, comes_before}
@@ -57,13 +57,6 @@ order_is (a ∷ s) (b ∷ t) = heads a b s t (order_is s t) (first-of a b)
     heads a b s t e (less h) = rw (lt-ltb a b h)
     heads a b s t e (alike h) = rw (le-ltb a b (omega arith), le-ltb b a (omega arith), eq-eqb a b h) e
     heads a b s t e (more h) = rw (le-ltb a b (omega arith), ne_eqb a b (λ f. omega arith), lt-ltb b a h)
-
--- of one name the entries decide
-pub by_order_is : (o : Ordering) (x y : ℕ) → is_lt (ordering_then o (nat_cmp x y)) ≡ by_order o x y
-by_order_is Before x y = refl
-by_order_is Behind x y = refl
-by_order_is Same x y =
-    either (bool_cases (ltb x y)) (λ e. rw e) (λ e. either (bool_cases (eqb x y)) (λ f. rw (e, f)) (λ f. rw (e, f)))
 
 behind_not : {A : Type 0} {x : Ordering} → x ≡ Behind → x ≡ Before → A
 behind_not e f = let z : ◌≡◌ {A = ℕ} 0 1 = cc in absurd (omega arith)
