@@ -2,7 +2,7 @@
 // brackets, and within the limit of a walk that accepts (document 01, module 10).
 #![tactic(auto)]
 
-ghost use Rattle.std.specs.Prelude.{◌≡◌, ◌+◌, ◌-◌, ◌^◌, ◌<◌, ◌≤◌, max, length};
+ghost use Rattle.std.specs.Prelude.{◌≡◌, ◌+◌, ◌^◌, ◌<◌, ◌≤◌, length};
 ghost use Rattle.rows.specs.Rows.{room_of, entries_of};
 ghost use Rattle.grammar.specs.Kinds.{kinds_of};
 ghost use Rattle.grammar.specs.Refused.{open_behind};
@@ -18,21 +18,9 @@ fn open_behind(side: Side, n: usize) -> usize
 {
     match side {
         Side::Opens => n + 1,
-        Side::Closes => one_less(n),
+        Side::Closes => n.saturating_sub(1),
         Side::Neither => n,
     }
-}
-
-fn one_less(n: usize) -> usize
-    ensures { result ≡ n - 1 }
-{
-    if n == 0 { 0 } else { n - 1 }
-}
-
-fn larger(a: usize, b: usize) -> usize
-    ensures { result ≡ max a b }
-{
-    if a < b { b } else { a }
 }
 
 // The most brackets that are open at once in the first `count` entries.
@@ -45,7 +33,7 @@ pub fn deepest(tape: &[u32], count: usize) -> usize
     for i in 0..count {
         let kind = kind_of(row::entry(tape, i).kind);
         deep = open_behind(side_of(kind), deep);
-        most = larger(most, deep);
+        most = most.max(deep);
     }
     most
 }

@@ -16,8 +16,8 @@ use Rattle.fields.specs.declared.again.Again.{Again}
 use Rattle.fields.specs.declared.again.Again.TheVariants.{Nowhere, At}
 use Rattle.fields.specs.inner.Again.{earlier, In, Repeats, FirstIn, nowhere, at}
 use Rattle.fields.specs.Fields.{same}
-use Rattle.fields.specs.declared.again.Looked.{Looked}
-use Rattle.fields.specs.declared.again.Looked.TheVariants.{Told}
+use Rattle.std.specs.declared.option.Option.{Option}
+use Rattle.std.specs.declared.option.Option.TheVariants.{Some}
 use Rattle.fields.specs.inner.Order.{comes_before, paired_of, Tells, told}
 
 -- ---- there is one first
@@ -29,10 +29,10 @@ first_unique nm es a b (at j r l) (nowhere f) = absurd (f j r)
 first_unique nm es a b (at j r l) (at i s m) = let z : j ≡ i = omega (arith, l i s, m j r) in ap At z
 
 -- what a look tells is it
-pub told_first : (nm : ℕ → List ℕ) (es : List ℕ) (r : Looked) (a : Again) → r ≡ Told a → Tells nm es r → FirstIn nm es a
+pub told_first : (nm : ℕ → List ℕ) (es : List ℕ) (r : Option Again) (a : Again) → r ≡ Some a → Tells nm es r → FirstIn nm es a
 told_first nm es r a e t = out (subst (Tells nm es) e t)
   where
-    out : {b : Again} → Tells nm es (Told b) → FirstIn nm es b
+    out : {b : Again} → Tells nm es (Some b) → FirstIn nm es b
     out (told f) = f
 
 -- ---- the least of some numbers

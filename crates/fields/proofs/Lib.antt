@@ -1,6 +1,5 @@
 pub mod SameLaws
 pub mod RawLaws
-pub mod NameLaws
 pub mod Readable
 pub mod OrderLaws
 pub mod FirstLaws

@@ -5,10 +5,12 @@ use mathlib.Core.Path.{◌∙◌, ◌≡◌, ap, ap₂, refl, sym}
 use mathlib.Core.List.{List, [], ◌∷◌}
 use mathlib.Core.Bool.{Bool, true, false}
 use lib.Dec.{ltb}
-use borrow.Author.Tests.{le-ltb, lt-ltb, ltb-false, ltb-true}
+use borrow.Author.Tests.{eq-eqb, le-ltb, lt-ltb, ltb-false, ltb-true, ne_eqb}
 use Rattle.text.proofs.Choices.{bool_cases, either}
-use Rattle.fields.specs.declared.comparing.Order.{Order}
-use Rattle.fields.specs.declared.comparing.Order.TheVariants.{Before, Same, Behind}
+use Rattle.std.specs.Cmp.Lexicographic.{slice_cmp}
+use Rattle.std.specs.Ordering.{nat_cmp}
+use Rattle.std.specs.declared.cmp.Ordering.{Ordering}
+use Rattle.std.specs.declared.cmp.Ordering.TheVariants.{Less as Before, Equal as Same, Greater as Behind}
 use Rattle.fields.specs.inner.Order.{order_of, by_order, comes_before}
 
 true_false : {t : Bool} → t ≡ true → t ≡ false → ⊥
@@ -43,13 +45,26 @@ module _ (a b : ℕ) (s t : List ℕ) where
   unfolding order_of
   head_alike h = rw (le-ltb a b (omega arith), le-ltb b a (omega arith))
 
-behind_not : {A : Type 0} {x : Order} → x ≡ Behind → x ≡ Before → A
+-- it is the library's order of lists of numbers
+pub order_is : (s t : List ℕ) → slice_cmp nat_cmp s t ≡ order_of s t
+unfolding order_of
+order_is [] [] = refl
+order_is [] (b ∷ t) = refl
+order_is (a ∷ s) [] = refl
+order_is (a ∷ s) (b ∷ t) = heads a b s t (order_is s t) (first-of a b)
+  where
+    heads : (a b : ℕ) (s t : List ℕ) → slice_cmp nat_cmp s t ≡ order_of s t → First a b → slice_cmp nat_cmp (a ∷ s) (b ∷ t) ≡ order_of (a ∷ s) (b ∷ t)
+    heads a b s t e (less h) = rw (lt-ltb a b h)
+    heads a b s t e (alike h) = rw (le-ltb a b (omega arith), le-ltb b a (omega arith), eq-eqb a b h) e
+    heads a b s t e (more h) = rw (le-ltb a b (omega arith), ne_eqb a b (λ f. omega arith), lt-ltb b a h)
+
+behind_not : {A : Type 0} {x : Ordering} → x ≡ Behind → x ≡ Before → A
 behind_not e f = let z : ◌≡◌ {A = ℕ} 0 1 = cc in absurd (omega arith)
 
-same_before : {A : Type 0} {x : Order} → x ≡ Same → x ≡ Before → A
+same_before : {A : Type 0} {x : Ordering} → x ≡ Same → x ≡ Before → A
 same_before e f = let z : ◌≡◌ {A = ℕ} 0 1 = cc in absurd (omega arith)
 
-same_behind : {A : Type 0} {x : Order} → x ≡ Same → x ≡ Behind → A
+same_behind : {A : Type 0} {x : Ordering} → x ≡ Same → x ≡ Behind → A
 same_behind e f = let z : ◌≡◌ {A = ℕ} 0 1 = cc in absurd (omega arith)
 
 order_same : (s t : List ℕ) → order_of s t ≡ Same → s ≡ t
@@ -105,7 +120,7 @@ module _ (nm : ℕ → List ℕ) where
   pub before_less : (x y : ℕ) → comes_before nm x y ≡ true → Less nm x y
   before_less x y e = decided (order_of (nm x) (nm y)) refl e
     where
-      decided : (o : Order) → order_of (nm x) (nm y) ≡ o → by_order o x y ≡ true → Less nm x y
+      decided : (o : Ordering) → order_of (nm x) (nm y) ≡ o → by_order o x y ≡ true → Less nm x y
       decided Before h e = by-name h
       decided Same h e = by_entry (order_same (nm x) (nm y) h) (ltb-true x y e)
       decided Behind h e = absurd (true_false e refl)

@@ -1,17 +1,14 @@
--- Two names are the same bytes exactly where they are one list; and the loops that compare them. Assumes nothing.
-use Prim.Native.Nat.{◌+◌, ◌<◌, ◌≤◌, suc, ℕ}
+-- Two names are the same bytes exactly where they are one list. Assumes nothing.
+use Prim.Native.Nat.{ℕ}
 use native.Mathlib.Omega.{arith}
-use mathlib.Core.Bool.{false, true}
+use mathlib.Core.Bool.{Bool, ◌&&◌, false, true}
 use mathlib.Core.List.{List, [], ◌∷◌}
 use mathlib.Core.Path.{◌∙◌, ◌≡◌, ap, ap₂, refl, sym}
 use lib.Dec.{eqb}
-use lib.ListN.{drop, drop_of_length-le, get_or, length}
-use borrow.Author.Tests.{eq-eqb, eqb-true, lt-ltb, le-ltb, ne_eqb}
-use Rattle.text.proofs.Choices.{and_false, and_true}
-use Rattle.text.proofs.Lists.{front}
+use lib.Pointwise.{pointwise}
+use borrow.Author.Tests.{eq-eqb, eqb-true}
+use Rattle.text.proofs.Choices.{and_true}
 use Rattle.fields.specs.Fields.{same}
-use Rattle.fields.specs.declared.comparing.Order.TheVariants.{Before, Behind, Same}
-use Rattle.fields.specs.inner.Order.{order_of}
 
 -- ---- what `same` says
 
@@ -35,50 +32,10 @@ same_not a b n e =
     let z : ◌≡◌ {A = ℕ} 0 1 = cc in
     omega arith
 
--- other lengths
-pub same_length : (a b : List ℕ) → (length a ≡ length b → ⊥) → same a b ≡ false
+-- it is the library's `==` of lists of numbers
+pub same_each : (a b : List ℕ) → pointwise eqb a b ≡ same a b
 unfolding same
-same_length [] [] n = absurd (n refl)
-same_length [] (b ∷ t) n = refl
-same_length (a ∷ s) [] n = refl
-same_length (a ∷ s) (b ∷ t) n = rw (same_length s t (λ e. n (ap suc e))) (and_false (eqb a b))
-
--- ---- from a place on, as a loop asks for it
-
-module _ (a b : List ℕ) (i : ℕ) where
-  pub same_end : length a ≤ i → length b ≤ i → same (drop i a) (drop i b) ≡ true
-  unfolding same
-  same_end h k = rw (drop_of_length-le a h, drop_of_length-le b k)
-
-  pub same_differ : i < length a → i < length b → (get_or a i 0 ≡ get_or b i 0 → ⊥) → same (drop i a) (drop i b) ≡ false
-  unfolding same
-  same_differ h k n = rw (front a i h, front b i k, ne_eqb _ _ n)
-
-  pub same_more : i < length a → i < length b → get_or a i 0 ≡ get_or b i 0 → same (drop i a) (drop i b) ≡ same (drop (i + 1) a) (drop (i + 1) b)
-  unfolding same
-  same_more h k e = rw (front a i h, front b i k, eq-eqb (get_or a i 0) (get_or b i 0) e)
-
-  pub order_end : length a ≤ i → length b ≤ i → order_of (drop i a) (drop i b) ≡ Same
-  unfolding order_of
-  order_end h k = rw (drop_of_length-le a h, drop_of_length-le b k)
-
-  pub order_short : length a ≤ i → i < length b → order_of (drop i a) (drop i b) ≡ Before
-  unfolding order_of
-  order_short h k = rw (drop_of_length-le a h, front b i k)
-
-  pub order_long : i < length a → length b ≤ i → order_of (drop i a) (drop i b) ≡ Behind
-  unfolding order_of
-  order_long h k = rw (front a i h, drop_of_length-le b k)
-
-  pub order_below : i < length a → i < length b → get_or a i 0 < get_or b i 0 → order_of (drop i a) (drop i b) ≡ Before
-  unfolding order_of
-  order_below h k l = rw (front a i h, front b i k, lt-ltb (get_or a i 0) (get_or b i 0) l)
-
-  pub order_above : i < length a → i < length b → get_or b i 0 < get_or a i 0 → order_of (drop i a) (drop i b) ≡ Behind
-  unfolding order_of
-  order_above h k l = rw (front a i h, front b i k, le-ltb (get_or a i 0) (get_or b i 0) (omega arith), lt-ltb (get_or b i 0) (get_or a i 0) l)
-
-  pub order_more : i < length a → i < length b → get_or b i 0 ≤ get_or a i 0 → get_or a i 0 ≤ get_or b i 0
-      → order_of (drop i a) (drop i b) ≡ order_of (drop (i + 1) a) (drop (i + 1) b)
-  unfolding order_of
-  order_more h k l m = rw (front a i h, front b i k, le-ltb (get_or a i 0) (get_or b i 0) l, le-ltb (get_or b i 0) (get_or a i 0) m)
+same_each [] [] = refl
+same_each [] (b ∷ t) = refl
+same_each (a ∷ s) [] = refl
+same_each (a ∷ s) (b ∷ t) = ap (λ (r : Bool). eqb a b && r) (same_each s t)

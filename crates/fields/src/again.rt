@@ -6,8 +6,8 @@ ghost use Rattle.fields.specs.inner.Again.{earlier as earlierOf};
 ghost use Rattle.fields.specs.declared.again.Again.TheVariants.{Nowhere};
 ghost use Rattle.fields.specs.inner.Order.{comes_before, slot_of, paired_of, AllNamed, SameEntries, Tells};
 
-use crate::comparing::{Order, compare, same_name};
-use crate::names::name_from;
+use crate::comparing::{compare, same_name};
+use crate::names::{name_from, name_if_any};
 use rows::row;
 
 // The entry that names a field again, or none.
@@ -15,13 +15,6 @@ use rows::row;
 pub enum Again {
     Nowhere,
     At(usize),
-}
-
-// What a look at neighbours tells: the answer, or that the fields were not sorted.
-#[derive(Clone, Copy)]
-pub enum Looked {
-    Told(Again),
-    Unsorted,
 }
 
 // The earlier of two.
@@ -131,83 +124,19 @@ fn comes_before(text: &[u8], tape: &[u32], x: u16, y: u16) -> bool
     ensures { result ≡ comes_before (name_at text.now tape.now) x y }
 {
     let order = compare(text, tape, x, y);
-    match order {
-        Order::Before => true,
-        Order::Behind => false,
-        Order::Same => x < y,
-    }
+    order.then(x.cmp(&y)).is_lt()
 }
 
-// Two fields change places.
-fn swap(fields: &mut [u16], p: usize, q: usize)
-    requires { (p < length fields.old) × (q < length fields.old) }
-    ensures { SameEntries fields.old fields.new }
-{
-    let x = fields[p];
-    fields[p] = fields[q];
-    fields[q] = x;
-}
-
-// Of the two places below p in a heap of n fields the one that holds the later field.
-fn below(text: &[u8], tape: &[u32], fields: &[u16], p: usize, n: usize) -> usize
-    requires { (2 * p + 1 < n) × (n ≤ length fields.now) × AllNamed text.now tape.now fields.now }
-    ensures { (p < result) × (result < n) }
-{
-    let left = 2 * p + 1;
-    if left + 1 < n {
-        let right = left + 1;
-        if comes_before(text, tape, fields[left], fields[right]) {
-            return right;
-        }
-    }
-    left
-}
-
-// The field at a place goes down until no later one is below it.
-fn sift(text: &[u8], tape: &[u32], fields: &mut [u16], from: usize, n: usize)
-    requires { (n ≤ length fields.old) × AllNamed text.now tape.now fields.old }
-    ensures { SameEntries fields.old fields.new }
-{
-    let mut p = from;
-    while p < n / 2 {
-        let q = below(text, tape, &fields[..], p, n);
-        if !comes_before(text, tape, fields[p], fields[q]) {
-            return;
-        }
-        swap(fields, p, q);
-        p = q;
-    }
-}
-
-// Every field stands behind those below it.
-fn heap(text: &[u8], tape: &[u32], fields: &mut [u16])
-    requires { AllNamed text.now tape.now fields.old }
-    ensures { SameEntries fields.old fields.new }
-{
-    let n = fields.len();
-    let mut p = n / 2;
-    while 0 < p {
-        p -= 1;
-        sift(text, tape, fields, p, n);
-    }
-}
-
-// Heap sort: by names, and of one name by entries. That it sorts is not proved, since the look at neighbours tells.
+// By names, and of one name by entries. That it sorts is not proved, since the look at neighbours tells.
 fn sort(text: &[u8], tape: &[u32], fields: &mut [u16])
     requires { AllNamed text.now tape.now fields.old }
     ensures { SameEntries fields.old fields.new }
 {
-    heap(text, tape, fields);
-    let mut n = fields.len();
-    while 1 < n {
-        n -= 1;
-        swap(fields, 0, n);
-        sift(text, tape, fields, 0, n);
-    }
+    fields.sort_unstable_by_key(|x| (name_if_any(text, tape, *x), *x));
 }
 
-// Of sorted fields those of one name are neighbours.
-fn neighbours(text: &[u8], tape: &[u32], fields: &[u16]) -> Looked
+// Of sorted fields those of one name are neighbours; none where the fields were not sorted.
+fn neighbours(text: &[u8], tape: &[u32], fields: &[u16]) -> Option<Again>
     requires { AllNamed text.now tape.now fields.now }
     ensures { Tells (name_at text.now tape.now) fields.now result }
 {
@@ -216,13 +145,13 @@ fn neighbours(text: &[u8], tape: &[u32], fields: &[u16]) -> Looked
         let x = fields[p - 1];
         let y = fields[p];
         if !comes_before(text, tape, x, y) {
-            return Looked::Unsorted;
+            return None;
         }
         if same_name(text, tape, x, y) {
             found = earlier(found, Again::At(y as usize));
         }
     }
-    Looked::Told(found)
+    Some(found)
 }
 
 // The first of the fields that repeats one; they are left in another order.
@@ -235,9 +164,8 @@ pub fn first_again(text: &[u8], tape: &[u32], fields: &mut [u16]) -> Again
         return few(text, tape, &fields[..]);
     }
     sort(text, tape, fields);
-    let looked = neighbours(text, tape, &fields[..]);
-    match looked {
-        Looked::Told(found) => found,
-        Looked::Unsorted => each(text, tape, &fields[..]),
+    match neighbours(text, tape, &fields[..]) {
+        Some(found) => found,
+        None => each(text, tape, &fields[..]),
     }
 }

@@ -9,26 +9,19 @@ pub fn close_round(inside: Frame) -> Move
     ensures { result ≡ close_round inside }
 {
     match inside {
-        Frame::Top => Move::Bad,
-        Frame::Square => Move::Bad,
-        Frame::Key => Move::Bad,
-        Frame::Pair => Move::Bad,
         Frame::Tuple => Move::Pop,
         Frame::Struct => Move::Pop,
+        _ => Move::Bad,
     }
 }
 
-// A closing square bracket.
+// A closing square bracket. This and the next two differ in the bracket alone: public names, beside which one function with a parameter would be a fourth.
 pub fn close_square(inside: Frame) -> Move
     ensures { result ≡ close_square inside }
 {
     match inside {
-        Frame::Top => Move::Bad,
-        Frame::Tuple => Move::Bad,
-        Frame::Struct => Move::Bad,
-        Frame::Key => Move::Bad,
-        Frame::Pair => Move::Bad,
         Frame::Square => Move::Pop,
+        _ => Move::Bad,
     }
 }
 
@@ -37,12 +30,8 @@ pub fn close_pair(inside: Frame) -> Move
     ensures { result ≡ close_pair inside }
 {
     match inside {
-        Frame::Top => Move::Bad,
-        Frame::Square => Move::Bad,
-        Frame::Tuple => Move::Bad,
-        Frame::Struct => Move::Bad,
-        Frame::Key => Move::Bad,
         Frame::Pair => Move::Pop,
+        _ => Move::Bad,
     }
 }
 
@@ -51,12 +40,8 @@ pub fn close_key(inside: Frame) -> Move
     ensures { result ≡ close_key inside }
 {
     match inside {
-        Frame::Top => Move::Bad,
-        Frame::Square => Move::Bad,
-        Frame::Tuple => Move::Bad,
-        Frame::Struct => Move::Bad,
-        Frame::Pair => Move::Bad,
         Frame::Key => Move::Pop,
+        _ => Move::Bad,
     }
 }
 
@@ -65,12 +50,11 @@ pub fn comma(inside: Frame) -> Move
     ensures { result ≡ comma inside }
 {
     match inside {
-        Frame::Top => Move::Bad,
-        Frame::Key => Move::Bad,
         Frame::Square => Move::Stay(Want::Item, Frame::Square),
         Frame::Tuple => Move::Stay(Want::Item, Frame::Tuple),
         Frame::Struct => Move::Stay(Want::Field, Frame::Struct),
         Frame::Pair => Move::Stay(Want::Item, Frame::Key),
+        _ => Move::Bad,
     }
 }
 
@@ -79,11 +63,7 @@ pub fn colon(inside: Frame) -> Move
     ensures { result ≡ colon inside }
 {
     match inside {
-        Frame::Top => Move::Bad,
-        Frame::Square => Move::Bad,
-        Frame::Tuple => Move::Bad,
-        Frame::Struct => Move::Bad,
-        Frame::Pair => Move::Bad,
         Frame::Key => Move::Stay(Want::Must, Frame::Pair),
+        _ => Move::Bad,
     }
 }

@@ -59,26 +59,14 @@ fn rest_in_order(tape: &[u32], count: usize, limit: usize, from: usize, behind: 
     ensures { result ≡ in_order_from (entries_of (count - from) (drop (width * from) tape.now)) behind limit }
 {
     let mut at = behind;
-    let mut i = from;
-    while i < count {
+    for i in from..count {
         let e = row::entry(tape, i);
         if !is_orderly(at, e) {
             return false;
         }
         at = e.end;
-        i += 1;
     }
     ends_within(at, limit)
-}
-
-// How many rows have seven behind them: eight at a time can begin there.
-fn before_seven(count: usize) -> usize
-    ensures { result ≡ count - 7 }
-{
-    if count < 7 {
-        return 0;
-    }
-    count - 7
 }
 
 // Whether the first `count` entries are in order, and the last ends within the limit: twice four at a time, since walk and repair ask it of every row.
@@ -88,7 +76,8 @@ pub fn in_order(tape: &[u32], count: usize, limit: usize) -> bool
 {
     let mut at: u32 = 0;
     let mut i = 0;
-    let stop = before_seven(count);
+    // Eight can begin only at a row with seven behind it.
+    let stop = count.saturating_sub(7);
     while i < stop {
         if !four_orderly(tape, i, at) {
             return false;

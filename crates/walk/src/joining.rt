@@ -8,7 +8,7 @@ ghost use Rattle.grammar.specs.declared.ends.Verdict.TheVariants.{Accepted};
 use grammar::kinds::{Side, side_at};
 use rows::row;
 
-// The entry numbers of the open brackets lie in `open`, `depth` of them; an accepted walk has no more than 128.
+// The entry numbers of the open brackets lie in `open`, `depth` of them, since nothing here takes heap memory; an accepted walk has no more than 128.
 pub fn join(tape: &[u32], count: usize, links: &mut [u32])
     requires { (count ≤ room_of (length tape.now)) × (count ≤ length links.old) × (count ≤ 65536)
         × (walk_of (kinds_of (entries_of count tape.now)) 128 ≡ Accepted) }

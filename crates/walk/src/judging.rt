@@ -66,9 +66,7 @@ fn still_open(
 {
     let mut found = so_far;
     let mut to = top;
-    let mut d = depth;
-    while 0 < d {
-        d -= 1;
+    for d in (0..depth).rev() {
         found = closed(text, tape, fields, bases[d], to, found);
         to = bases[d];
     }
@@ -99,7 +97,8 @@ fn noted(fields: &mut [u16], top: usize, want: Want, i: usize) -> usize
 }
 
 // The open brackets around the innermost one lie in `outer`, `depth` of them; the entries that name the fields of all of them lie in `fields`, `top` of
-// them, and those of each bracket from its number in `bases` on.
+// them, and those of each bracket from its number in `bases` on. Arrays with their lengths, since nothing here takes heap memory;
+// and a loop that counts, since it ends with a verdict: a `for` has no value, and what would stand behind it would never run.
 fn judge_in(text: &[u8], tape: &[u32], count: usize, limit: usize, fields: &mut [u16]) -> Verdict
     requires { (count ≤ room_of (length tape.now)) × (limit ≤ 128) × (count ≤ 65536)
         × (in_order (entries_of count tape.now) (length text.now) ≡ true) × (raws_fit text.now (entries_of count tape.now) ≡ true)
@@ -144,48 +143,14 @@ fn judge_in(text: &[u8], tape: &[u32], count: usize, limit: usize, fields: &mut 
     told(again, verdict)
 }
 
-// An array that is lent as an array first: then no proof computes its length.
-fn judge_lent(
-    text: &[u8],
-    tape: &[u32],
-    count: usize,
-    limit: usize,
-    fields: &mut [u16; 32768],
-) -> Verdict
+// With room for N fields: at most every second entry names one, and a shorter array has less to clear.
+fn judge_within<const N: usize>(text: &[u8], tape: &[u32], count: usize, limit: usize) -> Verdict
     requires { (count ≤ room_of (length tape.now)) × (limit ≤ 128) × (count ≤ 65536)
-        × (in_order (entries_of count tape.now) (length text.now) ≡ true) × (raws_fit text.now (entries_of count tape.now) ≡ true) }
+        × (in_order (entries_of count tape.now) (length text.now) ≡ true) × (raws_fit text.now (entries_of count tape.now) ≡ true)
+        × (count ≤ 2 * N) × (N ≤ 32768) }
     ensures { result ≡ named_walk (name_at text.now tape.now) (kinds_of (entries_of count tape.now)) limit }
 {
-    judge_in(text, tape, count, limit, fields)
-}
-
-// Up to 65,536 entries: at most every second names a field.
-fn judge_all(text: &[u8], tape: &[u32], count: usize, limit: usize) -> Verdict
-    requires { (count ≤ room_of (length tape.now)) × (limit ≤ 128) × (count ≤ 65536)
-        × (in_order (entries_of count tape.now) (length text.now) ≡ true) × (raws_fit text.now (entries_of count tape.now) ≡ true) }
-    ensures { result ≡ named_walk (name_at text.now tape.now) (kinds_of (entries_of count tape.now)) limit }
-{
-    let mut fields = [0u16; 32768];
-    judge_lent(text, tape, count, limit, &mut fields)
-}
-
-// Up to 8,192 entries, with less to clear.
-fn judge_some(text: &[u8], tape: &[u32], count: usize, limit: usize) -> Verdict
-    requires { (count ≤ room_of (length tape.now)) × (limit ≤ 128) × (count ≤ 8192)
-        × (in_order (entries_of count tape.now) (length text.now) ≡ true) × (raws_fit text.now (entries_of count tape.now) ≡ true) }
-    ensures { result ≡ named_walk (name_at text.now tape.now) (kinds_of (entries_of count tape.now)) limit }
-{
-    let mut fields = [0u16; 4096];
-    judge_in(text, tape, count, limit, &mut fields)
-}
-
-// Up to 512 entries.
-fn judge_few(text: &[u8], tape: &[u32], count: usize, limit: usize) -> Verdict
-    requires { (count ≤ room_of (length tape.now)) × (limit ≤ 128) × (count ≤ 512)
-        × (in_order (entries_of count tape.now) (length text.now) ≡ true) × (raws_fit text.now (entries_of count tape.now) ≡ true) }
-    ensures { result ≡ named_walk (name_at text.now tape.now) (kinds_of (entries_of count tape.now)) limit }
-{
-    let mut fields = [0u16; 256];
+    let mut fields = [0u16; N];
     judge_in(text, tape, count, limit, &mut fields)
 }
 
@@ -196,10 +161,10 @@ pub fn judge(text: &[u8], tape: &[u32], count: usize, limit: usize) -> Verdict
     ensures { result ≡ named_walk (name_at text.now tape.now) (kinds_of (entries_of count tape.now)) limit }
 {
     if count <= 512 {
-        return judge_few(text, tape, count, limit);
+        return judge_within::<256>(text, tape, count, limit);
     }
     if count <= 8192 {
-        return judge_some(text, tape, count, limit);
+        return judge_within::<4096>(text, tape, count, limit);
     }
-    judge_all(text, tape, count, limit)
+    judge_within::<32768>(text, tape, count, limit)
 }

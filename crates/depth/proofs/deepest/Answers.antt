@@ -17,7 +17,7 @@ loop-i-preserved c =
     let kind : c.kind_of-kind.result ≡ kind_of (entry_at c.args.tape.now c.loop-i.i).kind =
     c.kind_of-kind.ensures ∙ ap (λ (x : Entry). kind_of x.kind) c.entry.ensures in
     let side : c.side_of.result ≡ side_of (kind_of (entry_at c.args.tape.now c.loop-i.i).kind) = c.side_of.ensures ∙ ap side_of kind in
-    (search rules, deep_turns c.args.tape.now c.args.count c.loop-i.deep c.loop-i.most c.loop-i.i c.loop-i.invariant.1 (omega arith) c.open_behind-deep.result c.larger-most.result (c.open_behind-deep.ensures ∙ ap (λ (x : Side). open_behind x c.loop-i.deep) side) c.larger-most.ensures)
+    (search rules, deep_turns c.args.tape.now c.args.count c.loop-i.deep c.loop-i.most c.loop-i.i c.loop-i.invariant.1 (omega arith) c.open_behind-deep.result c.max-most.result (c.open_behind-deep.ensures ∙ ap (λ (x : Side). open_behind x c.loop-i.deep) side) c.max-most.ensures)
 
 pub returns : goal.returns
 returns c = deep_ends c.args.tape.now c.args.count c.loop-i.deep c.loop-i.most c.loop-i.i c.loop-i.invariant.1 (omega arith)

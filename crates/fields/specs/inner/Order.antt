@@ -1,26 +1,26 @@
 -- The order of names that a long list of fields is sorted by: byte by byte, and of one name by the entry. Any order would do.
 use Rattle.std.specs.Prelude.{ℕ, ◌+◌, ◌-◌, ◌*◌, ◌%◌, Bool, true, false, cond, List, [], ◌∷◌, ◌≡◌, ltb, length, get_or}
-use Rattle.fields.specs.declared.comparing.Order.{Order}
-use Rattle.fields.specs.declared.comparing.Order.TheVariants.{Before, Same, Behind}
+use Rattle.std.specs.declared.option.Option.{Option}
+use Rattle.std.specs.declared.option.Option.TheVariants.{Some, None}
+use Rattle.std.specs.declared.cmp.Ordering.{Ordering}
+use Rattle.std.specs.declared.cmp.Ordering.TheVariants.{Less, Equal, Greater}
 use Rattle.fields.specs.declared.again.Again.{Again}
 use Rattle.fields.specs.declared.again.Again.TheVariants.{At}
-use Rattle.fields.specs.declared.again.Looked.{Looked}
-use Rattle.fields.specs.declared.again.Looked.TheVariants.{Told, Unsorted}
 use Rattle.fields.specs.inner.Again.{earlier, In, FirstIn}
 use Rattle.fields.specs.Names.{HasName}
 
 -- The first byte that differs decides; where one list goes on, it stands behind.
-unfoldable pub order_of : List ℕ → List ℕ → Order
-order_of [] [] = Same
-order_of [] (b ∷ t) = Before
-order_of (a ∷ s) [] = Behind
-order_of (a ∷ s) (b ∷ t) = cond (ltb a b) Before (cond (ltb b a) Behind (order_of s t))
+unfoldable pub order_of : List ℕ → List ℕ → Ordering
+order_of [] [] = Equal
+order_of [] (b ∷ t) = Less
+order_of (a ∷ s) [] = Greater
+order_of (a ∷ s) (b ∷ t) = cond (ltb a b) Less (cond (ltb b a) Greater (order_of s t))
 
 -- Of one name the earlier entry stands first.
-abbrev pub by_order : Order → ℕ → ℕ → Bool
-by_order Before x y = true
-by_order Same x y = ltb x y
-by_order Behind x y = false
+abbrev pub by_order : Ordering → ℕ → ℕ → Bool
+by_order Less x y = true
+by_order Equal x y = ltb x y
+by_order Greater x y = false
 
 -- Entry x comes before entry y.
 abbrev pub comes_before : (ℕ → List ℕ) → ℕ → ℕ → Bool
@@ -45,6 +45,6 @@ unfoldable pub paired_of : Again → ℕ → ℕ → Again
 paired_of found x y = cond (ltb x y) (earlier found (At y)) (cond (ltb y x) (earlier found (At x)) found)
 
 -- What a look at neighbours tells is the first that repeats.
-pub data Tells (nm : ℕ → List ℕ) (es : List ℕ) : Looked → Type 0 where
-  told : {a : Again} → FirstIn nm es a → Tells nm es (Told a)
-  unsorted : Tells nm es Unsorted
+pub data Tells (nm : ℕ → List ℕ) (es : List ℕ) : Option Again → Type 0 where
+  told : {a : Again} → FirstIn nm es a → Tells nm es (Some a)
+  unsorted : Tells nm es None

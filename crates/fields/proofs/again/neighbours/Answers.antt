@@ -18,12 +18,6 @@ comes_before-requires c = (named_at c.args.text.now c.args.tape.now c.args.field
 pub returns-then-not-comes_before : goal.returns-then-not-comes_before
 returns-then-not-comes_before c = unsorted
 
-pub same_name-requires : goal.same_name-requires
-same_name-requires c = (named_at c.args.text.now c.args.tape.now c.args.fields.now c.requires _ (omega (arith, c.loop-p-test.true)), named_at c.args.text.now c.args.tape.now c.args.fields.now c.requires _ (omega (arith, c.loop-p-test.true)))
-
-pub overflow_cast-y : goal.overflow_cast-y
-overflow_cast-y c = omega (arith, c.type_inv.fields c.loop-p.p)
-
 pub loop-p-preserved : goal.loop-p-preserved
 loop-p-preserved c = (
   omega arith,

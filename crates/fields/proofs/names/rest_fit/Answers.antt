@@ -1,14 +1,11 @@
 use Prim.Native.Nat.{◌*◌, ◌-◌}
 use native.Mathlib.Omega.{arith}
-use mathlib.Core.Path.{◌∙◌, ap, refl, sym}
+use mathlib.Core.Path.{◌∙◌, ap, sym}
 use lib.ListN.{drop}
 use Rattle.rows.specs.Rows.{entries_of, entry_at, width}
 use Rattle.fields.specs.Names.{raw_fits, raws_fit}
 use Rattle.fields.proofs.RawLaws.{fit_bad, fit_done, fit_on, row_at, row_fit}
 use Rattle.fields.proofs.names.rest_fit.Goals as goal
-
-pub loop-i-init : goal.loop-i-init
-loop-i-init c = (c.requires.1, refl)
 
 pub raw_fits-requires : goal.raw_fits-requires
 raw_fits-requires c = row_fit c.args.text.now _ (entry_at c.args.tape.now c.loop-i.i) c.entry.ensures (row_at c.args.text.now c.args.tape.now c.args.count c.requires.2 c.loop-i.i (omega arith))

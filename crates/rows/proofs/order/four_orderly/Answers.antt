@@ -1,6 +1,4 @@
 use mathlib.Core.Path.{◌∙◌, ap, ap₂, sym}
-use borrow.Author.Rules.{rules}
-use borrow.Author.Tests.{not-false, not-true}
 use Rattle.rows.specs.Order.{four_orderly, orderly}
 use Rattle.rows.specs.declared.Entry.{Entry}
 use Rattle.rows.proofs.order.four_orderly.Goals as goal

@@ -1,9 +1,5 @@
 use Prim.Native.Nat.{◌-◌, ◌≤◌}
-use native.Mathlib.Omega.{arith}
-use mathlib.Core.Path.{◌∙◌, sym}
-use borrow.Author.Rules.{rules}
-use borrow.Author.Tests.{not-false, not-true}
-use Rattle.rows.proofs.OrderLaws.{Left, eight_bad, eight_on, four_bad, order_starts}
+use Rattle.rows.proofs.OrderLaws.{Left}
 use Rattle.rows.specs.Order.{in_order}
 use Rattle.rows.specs.Rows.{entries_of}
 use Rattle.rows.proofs.order.in_order.Given as goal

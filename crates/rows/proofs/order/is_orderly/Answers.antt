@@ -1,4 +1,3 @@
-use borrow.Author.Rules.{rules}
 use borrow.Author.Tests.{le-leb, le-ltb, lt-leb, lt-ltb}
 use Rattle.rows.proofs.OrderLaws.{distance_off, distance_on}
 use Rattle.rows.specs.Order.{orderly}

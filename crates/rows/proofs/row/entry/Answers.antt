@@ -1,4 +1,3 @@
-use borrow.Author.Rules.{rules}
 use Rattle.rows.proofs.RowLaws.{reads}
 use Rattle.rows.proofs.row.entry.Goals as goal
 

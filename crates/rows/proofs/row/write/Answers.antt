@@ -1,6 +1,5 @@
 use native.Mathlib.Omega.{arith}
 use lib.ListN.{length, length-set}
-use borrow.Author.Rules.{rules}
 use Rattle.rows.proofs.RowLaws.{row_fits, stores}
 use Rattle.rows.proofs.row.write.Goals as goal
 

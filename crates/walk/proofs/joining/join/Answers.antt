@@ -1,28 +1,15 @@
 use Prim.Native.Nat.{◌-◌, ◌<◌}
 use native.Mathlib.Omega.{arith}
-use mathlib.Core.Path.{◌∙◌, ap, refl, sym}
+use mathlib.Core.Path.{◌∙◌, ap, sym}
 use lib.ListN.{length-set, get_or}
 use borrow.Author.Rules.{rules}
 use Rattle.rows.specs.declared.Entry.{Entry}
 use Rattle.grammar.specs.Kinds.{kind_of}
-use Rattle.walk.proofs.JoinLaws.{joins_start, joins_end, open-fits, join_opens, close_fits, join_closes, join_passes}
+use Rattle.walk.proofs.JoinLaws.{joins_end, open-fits, join_opens, close_fits, join_closes, join_passes}
 use Rattle.walk.proofs.joining.join.Goals as goal
-
-pub loop-i-init : goal.loop-i-init
-loop-i-init c = (search rules, search rules, refl, refl, joins_start c.args.tape.now c.args.count c.args.links.now _ c.requires.3)
-
-pub offset_bounds-open-depth : goal.offset_bounds-open-depth
-offset_bounds-open-depth c =
-    let opens_fit : c.loop-i.depth < 128 = open-fits c.args.tape.now c.args.count c.args.links.now c.loop-i.«open» c.loop-i.depth c.loop-i.i c.loop-i.links c.loop-i.invariant.4 (kind_of c.entry.result.kind) (omega arith) (ap (λ (x : Entry). kind_of x.kind) c.entry.ensures) (sym c.side_at.ensures ∙ c.in-Opens.is) in
-    omega (arith, opens_fit)
 
 pub bounds-open-depth : goal.bounds-open-depth
 bounds-open-depth c =
-    let opens_fit : c.loop-i.depth < 128 = open-fits c.args.tape.now c.args.count c.args.links.now c.loop-i.«open» c.loop-i.depth c.loop-i.i c.loop-i.links c.loop-i.invariant.4 (kind_of c.entry.result.kind) (omega arith) (ap (λ (x : Entry). kind_of x.kind) c.entry.ensures) (sym c.side_at.ensures ∙ c.in-Opens.is) in
-    omega (arith, opens_fit)
-
-pub overflow_add-depth : goal.overflow_add-depth
-overflow_add-depth c =
     let opens_fit : c.loop-i.depth < 128 = open-fits c.args.tape.now c.args.count c.args.links.now c.loop-i.«open» c.loop-i.depth c.loop-i.i c.loop-i.links c.loop-i.invariant.4 (kind_of c.entry.result.kind) (omega arith) (ap (λ (x : Entry). kind_of x.kind) c.entry.ensures) (sym c.side_at.ensures ∙ c.in-Opens.is) in
     omega (arith, opens_fit)
 
@@ -33,16 +20,6 @@ loop-i-preserved-in-Opens c =
 
 pub overflow_sub-depth : goal.overflow_sub-depth
 overflow_sub-depth c =
-    let closes_fit : (0 < c.loop-i.depth) × (get_or c.loop-i.«open» (c.loop-i.depth - 1) 0 < c.loop-i.i) = close_fits c.args.tape.now c.args.count c.args.links.now c.loop-i.«open» c.loop-i.depth c.loop-i.i c.loop-i.links c.loop-i.invariant.4 (kind_of c.entry.result.kind) (omega arith) (ap (λ (x : Entry). kind_of x.kind) c.entry.ensures) (sym c.side_at.ensures ∙ c.in-Closes.is) in
-    omega (arith, (closes_fit).0, (closes_fit).1)
-
-pub offset_bounds-open-depth-in-Closes : goal.offset_bounds-open-depth-in-Closes
-offset_bounds-open-depth-in-Closes c =
-    let closes_fit : (0 < c.loop-i.depth) × (get_or c.loop-i.«open» (c.loop-i.depth - 1) 0 < c.loop-i.i) = close_fits c.args.tape.now c.args.count c.args.links.now c.loop-i.«open» c.loop-i.depth c.loop-i.i c.loop-i.links c.loop-i.invariant.4 (kind_of c.entry.result.kind) (omega arith) (ap (λ (x : Entry). kind_of x.kind) c.entry.ensures) (sym c.side_at.ensures ∙ c.in-Closes.is) in
-    omega (arith, (closes_fit).0, (closes_fit).1)
-
-pub bounds-open-depth-in-Closes : goal.bounds-open-depth-in-Closes
-bounds-open-depth-in-Closes c =
     let closes_fit : (0 < c.loop-i.depth) × (get_or c.loop-i.«open» (c.loop-i.depth - 1) 0 < c.loop-i.i) = close_fits c.args.tape.now c.args.count c.args.links.now c.loop-i.«open» c.loop-i.depth c.loop-i.i c.loop-i.links c.loop-i.invariant.4 (kind_of c.entry.result.kind) (omega arith) (ap (λ (x : Entry). kind_of x.kind) c.entry.ensures) (sym c.side_at.ensures ∙ c.in-Closes.is) in
     omega (arith, (closes_fit).0, (closes_fit).1)
 

@@ -1,23 +1,10 @@
 use native.Mathlib.Omega.{arith}
-use mathlib.Core.Path.{◌∙◌, ap, subst}
+use mathlib.Core.Path.{◌∙◌, ap}
 use Prim.Native.Nat.{◌+◌, ◌-◌}
 use Rattle.fields.specs.inner.Again.{earlier}
-use Rattle.fields.specs.Names.{HasName, name_at}
-use Rattle.walk.proofs.ClosedLaws.{lent_length, lent_lies, search_tells, lent_back}
+use Rattle.fields.specs.Names.{name_at}
+use Rattle.walk.proofs.ClosedLaws.{search_tells, lent_back}
 use Rattle.walk.proofs.judging.compared.Goals as goal
-
-pub slice_bounds-first_again-end : goal.slice_bounds-first_again-end
-slice_bounds-first_again-end c = c.requires.1.room
-
-pub first_again-requires : goal.first_again-requires
-first_again-requires c =
-    let z = c.requires.1.few in
-    let l = lent_length c.args.fields.now c.args.from (c.args.to - c.args.from) (let y = c.requires.1.room in omega arith) in (
-      omega arith,
-      (λ x p.
-          let l = lent_lies c.args.fields.now c.args.from (c.args.to - c.args.from) (let y = c.requires.1.room in omega arith) x p in
-          subst (HasName c.args.text.now c.args.tape.now) l.there (c.requires.1.named (c.args.from + l.place) (let y = l.inside in omega arith))),
-    )
 
 pub returns : goal.returns
 returns c =

@@ -1,12 +1,9 @@
 use Prim.Native.Nat.{◌-◌}
 use native.Mathlib.Omega.{arith}
-use mathlib.Core.Path.{◌∙◌, refl}
+use mathlib.Core.Path.{◌∙◌}
 use Rattle.fields.specs.Names.{name_at}
 use Rattle.walk.proofs.OpenLaws.{fields_under, rising_next, open_next, open_last}
 use Rattle.walk.proofs.judging.still_open.Goals as goal
-
-pub loop-d-init : goal.loop-d-init
-loop-d-init c = (c.requires.0, c.requires.1, c.requires.2, refl, refl)
 
 pub closed-found-requires : goal.closed-found-requires
 closed-found-requires c =
@@ -23,9 +20,6 @@ loop-d-preserved c =
       open_next (name_at c.args.text.now c.args.tape.now) c.loop-d.fields c.closed-found.new.fields c.args.bases.now c.loop-d.d (c.loop-d.d - 1) c.loop-d.to c.loop-d.found _ (omega arith) c.loop-d.invariant.1 c.closed-found.ensures.kept c.closed-found.ensures.told
           ∙ c.loop-d.invariant.4,
     )
-
-pub compared-requires : goal.compared-requires
-compared-requires c = (omega arith, c.loop-d.invariant.2)
 
 pub returns : goal.returns
 returns c = c.compared.ensures.told ∙ open_last (name_at c.args.text.now c.args.tape.now) c.loop-d.fields c.args.bases.now c.loop-d.d c.loop-d.to c.loop-d.found (omega arith) ∙ c.loop-d.invariant.4

@@ -12,6 +12,3 @@ invariant-loop-d l =
     (l.d ≤ 128) × Rising l.bases l.d l.to × Fields l.text l.tape l.fields l.to × (length l.fields ≡ length l.initial.fields)
     × (earlier l.found (first_of (name_at l.text l.tape) (inner_of l.fields l.bases l.d l.to ∷ outers_of l.fields l.bases l.d))
     ≡ earlier l.initial.found (first_of (name_at l.text l.tape) (inner_of l.initial.fields l.bases l.initial.d l.initial.to ∷ outers_of l.initial.fields l.bases l.initial.d)))
-
-abbrev pub decreases-loop-d : goal.decreases-loop-d
-decreases-loop-d l = l.d

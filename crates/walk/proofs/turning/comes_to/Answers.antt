@@ -29,14 +29,5 @@ returns-then-limit-depth c = subst (λ (r : Refusal). Stops c.args.tape.now c.ar
 pub returns-then-depth-eq0 : goal.returns-then-depth-eq0
 returns-then-depth-eq0 c = subst (λ (r : Refusal). Stops c.args.tape.now c.args.count c.args.limit c.args.i c.args.depth c.args.want c.args.inside (Refused r)) (sym c.not_allowed_here.ensures) (closes_none (steps c.args.tape.now c.args.count c.args.limit c.args.i c.args.depth c.args.want c.args.inside c.kind_of.result _ (omega arith) (c.kind_of.ensures ∙ ap (λ (x : Entry). kind_of x.kind) c.entry.ensures) (sym c.step.ensures ∙ c.in-Pop.is)) c.if-depth-eq0.true)
 
-pub returns-in-Stay : goal.returns-in-Stay
-returns-in-Stay c = steps c.args.tape.now c.args.count c.args.limit c.args.i c.args.depth c.args.want c.args.inside c.kind_of.result _ (omega arith) (c.kind_of.ensures ∙ ap (λ (x : Entry). kind_of x.kind) c.entry.ensures) (sym c.step.ensures ∙ c.in-Stay.is)
-
-pub returns-else-limit-depth : goal.returns-else-limit-depth
-returns-else-limit-depth c = ((steps c.args.tape.now c.args.count c.args.limit c.args.i c.args.depth c.args.want c.args.inside c.kind_of.result _ (omega arith) (c.kind_of.ensures ∙ ap (λ (x : Entry). kind_of x.kind) c.entry.ensures) (sym c.step.ensures ∙ c.in-Push.is)), omega arith)
-
-pub returns-else-depth-eq0 : goal.returns-else-depth-eq0
-returns-else-depth-eq0 c = ((steps c.args.tape.now c.args.count c.args.limit c.args.i c.args.depth c.args.want c.args.inside c.kind_of.result _ (omega arith) (c.kind_of.ensures ∙ ap (λ (x : Entry). kind_of x.kind) c.entry.ensures) (sym c.step.ensures ∙ c.in-Pop.is)), omega arith)
-
 pub returns-in-Bad : goal.returns-in-Bad
 returns-in-Bad c = subst (λ (r : Refusal). Stops c.args.tape.now c.args.count c.args.limit c.args.i c.args.depth c.args.want c.args.inside (Refused r)) (sym c.not_allowed_here-in-Bad.ensures) (not_allowed (steps c.args.tape.now c.args.count c.args.limit c.args.i c.args.depth c.args.want c.args.inside c.kind_of.result _ (omega arith) (c.kind_of.ensures ∙ ap (λ (x : Entry). kind_of x.kind) c.entry.ensures) (sym c.step.ensures ∙ c.in-Bad.is)))

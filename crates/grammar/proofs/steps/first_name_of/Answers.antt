@@ -1,5 +1,0 @@
-use borrow.Author.Rules.{rules}
-use Rattle.grammar.proofs.steps.first_name_of.Goals as goal
-
-pub returns-in-Colon : goal.returns-in-Colon
-returns-in-Colon c = cc
