@@ -1,51 +1,46 @@
--- The loops that set aside and compare, turn by turn. Assumes nothing.
-use Prim.Native.Nat.{ℕ, zero, suc, ◌+◌, ◌<◌, ◌≤◌}
-use native.Mathlib.Omega.{arith}
-use mathlib.Core.Bool.{true, false}
+-- What is set aside, and compared. Assumes nothing.
+use Prim.Native.Nat.{ℕ, ◌≤◌, min}
+use native.Mathlib.Omega.{arith, min_cases}
+use mathlib.Core.Bool.{Bool, ◌&&◌}
 use mathlib.Core.List.{List, [], ◌∷◌, ◌++◌, append-nil}
 use mathlib.Core.Path.{◌≡◌, ap, refl, sym, ◌∙◌}
-use lib.ListN.{length, get_or, drop, take, set, drop_of_length-le, take-append-drop}
+use lib.Dec.{eqb}
+use lib.ListN.{length, drop, take, drop_of_length-le}
+use lib.Pointwise.{pointwise}
 use lib.Seq.{take_all}
+use borrow.Author.Tests.{eq-eqb, ne_eqb, eqb-true, eqb-false}
 use Rattle.lines.specs.Over.{over}
+use Rattle.text.proofs.Choices.{bool_cases, either}
 use Rattle.text.specs.Words.{starts_with}
-use Rattle.text.proofs.WordLaws.{starts_differ, starts_end, starts_more, starts_out}
 
--- what is copied so far, and what is left to copy
-abbrev pub copying : ℕ → List ℕ → List ℕ → List ℕ
-copying i from to = take i to ++ over (drop i from) (drop i to)
-
-pub copy_on : (i : ℕ) (from to : List ℕ) → i < length from → i < length to → copying (suc i) from (set to i (get_or from i 0)) ≡ copying i from to
+over_short : (from to : List ℕ) → length from ≤ length to → from ++ drop (length from) to ≡ over from to
 unfolding over
-copy_on i [] to h k = absurd (omega arith)
-copy_on i (a ∷ from) [] h k = absurd (omega arith)
-copy_on zero (a ∷ from) (b ∷ to) h k = refl
-copy_on (suc i) (a ∷ from) (b ∷ to) h k = ap (λ (l : List ℕ). b ∷ l) (copy_on i from to (omega arith) (omega arith))
+over_short [] to h = refl
+over_short (a ∷ from) [] h = absurd (omega arith)
+over_short (a ∷ from) (b ∷ to) h = ap (λ (l : List ℕ). a ∷ l) (over_short from to (omega arith))
 
--- nothing is left to copy
-pub copy_all : (i : ℕ) (from to : List ℕ) → length from ≤ i → copying i from to ≡ to
+over_long : (from to : List ℕ) → length to ≤ length from → take (length to) from ≡ over from to
 unfolding over
-copy_all i from to h = rw (drop_of_length-le from h) (take-append-drop i to)
+over_long [] [] h = refl
+over_long [] (b ∷ to) h = absurd (omega arith)
+over_long (a ∷ from) [] h = refl
+over_long (a ∷ from) (b ∷ to) h = ap (λ (l : List ℕ). a ∷ l) (over_long from to (omega arith))
 
--- there is no more room
-pub copy_full : (i : ℕ) (from to : List ℕ) → length to ≤ i → copying i from to ≡ to
-unfolding over
-copy_full i from to h = rw (drop_of_length-le to h, take_all i to h) (ap (λ (l : List ℕ). to ++ l) (no-room (drop i from)) ∙ append-nil to)
-  where
-    no-room : (l : List ℕ) → over l [] ≡ []
-    no-room [] = refl
-    no-room (a ∷ l) = refl
+-- as many as there is room for, and behind them what was there
+pub over_front : (from to front : List ℕ) (n : ℕ) → n ≡ min (length from) (length to) → front ≡ take n from → front ++ drop n to ≡ over from to
+over_front from to front n e f =
+    ap (λ (l : List ℕ). l ++ drop n to) f
+    ∙ min_cases (length from) (length to) _
+    (λ p q. ap (λ (k : ℕ). take k from ++ drop k to) (e ∙ q) ∙ ap (λ (l : List ℕ). l ++ drop (length from) to) (take_all (length from) from (omega arith)) ∙ over_short from to (omega arith))
+    λ p q. ap (λ (k : ℕ). take k from ++ drop k to) (e ∙ q) ∙ ap (λ (l : List ℕ). take (length to) from ++ l) (drop_of_length-le to (omega arith)) ∙ append-nil (take (length to) from) ∙ over_long from to (omega arith)
 
--- what is left to compare gives the whole
-module _ (s others : List ℕ) (i : ℕ) (inv : starts_with (drop i s) (drop i others) ≡ starts_with s others) where
-  pub same_short : i < length s → length others ≤ i → false ≡ starts_with s others
-  same_short h k = sym (starts_out s others i h k) ∙ inv
+either_way : (a b : ℕ) → eqb a b ≡ eqb b a
+either_way a b =
+    either (bool_cases (eqb a b)) (λ t. t ∙ sym (eq-eqb b a (sym (eqb-true a b t)))) (λ f. f ∙ sym (ne_eqb b a (λ e. eqb-false a b f (sym e))))
 
-  module _ (h : i < length s) (k : i < length others) where
-    pub same_off : (get_or s i 0 ≡ get_or others i 0 → ⊥) → false ≡ starts_with s others
-    same_off n = sym (starts_differ s others i h k (λ e. n (sym e))) ∙ inv
-
-    pub same_on : get_or s i 0 ≡ get_or others i 0 → starts_with (drop (i + 1) s) (drop (i + 1) others) ≡ starts_with s others
-    same_on e = sym (starts_more s others i h k (sym e)) ∙ inv
-
-  pub same_ends : length s ≤ i → true ≡ starts_with s others
-  same_ends h = sym (starts_end s others i h) ∙ inv
+-- what the slice's own test answers
+pub same_front : (s others : List ℕ) → pointwise eqb s (take (length s) others) ≡ starts_with s others
+unfolding starts_with
+same_front [] others = refl
+same_front (a ∷ s) [] = refl
+same_front (a ∷ s) (b ∷ others) = ap (λ (t : Bool). t && pointwise eqb s (take (length s) others)) (either_way a b) ∙ ap (λ (t : Bool). eqb b a && t) (same_front s others)

@@ -9,8 +9,8 @@ mark_at i = 4294967295 - i % 65536
 unfoldable pub byte_mark_at : ℕ → ℕ
 byte_mark_at i = i % 251
 
--- The numbers with n of them marked from place i on.
-unfoldable pub marked : (ℕ → ℕ) → ℕ → ℕ → List ℕ → List ℕ
+-- The elements with n of them marked from place i on.
+unfoldable pub marked : {X : Type 0} → (ℕ → X) → ℕ → ℕ → List X → List X
 marked mark zero i s = s
 marked mark (suc n) i s = marked mark n (i + 1) (set s i (mark i))
 
@@ -18,3 +18,8 @@ marked mark (suc n) i s = marked mark n (i + 1) (set s i (mark i))
 unfoldable pub kept_from : (ℕ → ℕ) → List ℕ → ℕ → Bool
 kept_from mark [] i = true
 kept_from mark (a ∷ s) i = eqb a (mark i) && kept_from mark s (i + 1)
+
+-- The same for elements that another test compares.
+unfoldable pub kept_by : {X : Type 0} → (X → X → Bool) → (ℕ → X) → List X → ℕ → Bool
+kept_by eq mark [] i = true
+kept_by eq mark (a ∷ s) i = eq a (mark i) && kept_by eq mark s (i + 1)

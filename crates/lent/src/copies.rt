@@ -7,31 +7,13 @@ ghost use Rattle.text.specs.Words.{starts_with};
 pub fn copy(from: &[u32], to: &mut [u32])
     ensures { to.new ≡ over from.now to.old }
 {
-    let n = from.len();
-    let mut i = 0;
-    while i < to.len() {
-        if n <= i {
-            return;
-        }
-        to[i] = from[i];
-        i += 1;
-    }
+    let n = from.len().min(to.len());
+    to[..n].copy_from_slice(&from[..n]);
 }
 
 // Whether the numbers are the first of others.
 pub fn same(s: &[u32], others: &[u32]) -> bool
     ensures { result ≡ starts_with s.now others.now }
 {
-    let n = others.len();
-    let mut i = 0;
-    while i < s.len() {
-        if n <= i {
-            return false;
-        }
-        if s[i] != others[i] {
-            return false;
-        }
-        i += 1;
-    }
-    true
+    others.starts_with(s)
 }

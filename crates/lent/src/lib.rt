@@ -5,4 +5,5 @@
 pub mod bytes;
 pub mod copies;
 pub mod magnitudes;
+mod marks;
 pub mod numbers;

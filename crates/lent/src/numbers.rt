@@ -2,6 +2,8 @@
 ghost use Rattle.std.specs.Prelude.{◌≤◌, ◌≡◌, length, drop};
 ghost use Rattle.lent.specs.Marks.{mark_at, marked, kept_from};
 
+use crate::marks::{self, Markable};
+
 // The mark of a place: larger than any entry or link that a call writes, and not that of the next place.
 pub fn mark_at(i: usize) -> u32
     ensures { result ≡ mark_at i }
@@ -10,27 +12,24 @@ pub fn mark_at(i: usize) -> u32
     4294967295 - low
 }
 
+impl Markable for u32 {
+    ghost mark = { mark_at };
+
+    fn mark_at(i: usize) -> u32 {
+        mark_at(i)
+    }
+}
+
 // Marks every number.
 pub fn mark(s: &mut [u32])
     ensures { s.new ≡ marked mark_at (length s.old) 0 s.old }
 {
-    let mut i: usize = 0;
-    while i < s.len() {
-        s[i] = mark_at(i);
-        i += 1;
-    }
+    marks::mark(s);
 }
 
 // Whether all numbers from a place on still have their marks.
 pub fn kept(s: &[u32], from: usize) -> bool
     ensures { result ≡ kept_from mark_at (drop from s.now) from }
 {
-    let mut i = from;
-    while i < s.len() {
-        if s[i] != mark_at(i) {
-            return false;
-        }
-        i += 1;
-    }
-    true
+    marks::kept(s, from)
 }

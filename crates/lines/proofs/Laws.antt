@@ -5,9 +5,14 @@ use native.Mathlib.Numerals.{add-one}
 use native.Mathlib.Omega.{arith, min_cases}
 use mathlib.Core.Path.{◌≡◌, refl, sym, ap, ◌∙◌}
 use mathlib.Core.List.{List, [], ◌∷◌}
-use lib.ListN.{length, get_or, take, drop, set, length-take, length-drop, drop_of_length-le}
-use lib.Seq.{drop-cons, take_all, take-nil, get_or-drop}
-use borrow.Author.Tests.{eq-eqb, ne_eqb}
+use lib.ListN.{length, get_or, take, drop, set, length-take, length-drop}
+use lib.Seq.{take_all, take-nil, get_or-drop}
+use borrow.Author.Tests.{ltb-false}
+use lib.Dec.{eqb, ltb}
+use Rattle.std.specs.List.{position, position_or_len}
+use Rattle.std.specs.Option.{unwrap_or}
+use Rattle.std.proofs.Common.{Option}
+use Rattle.text.proofs.Choices.{bool_cases, either}
 use Rattle.lines.specs.Find.{find_of}
 use Rattle.lines.specs.Over.{over}
 use Rattle.text.proofs.Lists.{front}
@@ -34,18 +39,21 @@ part_within s a e m h =
 
 -- ---- where a byte first stands
 
-module _ (b : ℕ) (s : List ℕ) (i : ℕ) where
-  pub find_here : i < length s → get_or s i 0 ≡ b → find_of b (drop i s) ≡ 0
-  unfolding find_of
-  find_here h e = rw (front s i h, eq-eqb _ _ e)
+first_place : (b : ℕ) (s : List ℕ) → position_or_len (λ x. eqb x b) s ≡ find_of b s
+unfolding find_of
+first_place b [] = refl
+first_place b (a ∷ s) = rw (first_place b s) (either (bool_cases (eqb a b)) (λ t. rw t refl) (λ f. rw f (omega arith)))
 
-  pub find_next : i < length s → (get_or s i 0 ≡ b → ⊥) → find_of b (drop i s) ≡ suc (find_of b (drop (i + 1) s))
-  unfolding find_of
-  find_next h e = rw (front s i h, ne_eqb _ _ e)
+find_within : (b : ℕ) (s : List ℕ) → find_of b s ≤ length s
+unfolding find_of
+find_within b [] = omega arith
+find_within b (a ∷ s) = either (bool_cases (eqb a b)) (λ t. rw t (omega arith)) (λ f. rw f (omega (arith, find_within b s)))
 
-  pub find_end : length s ≤ i → find_of b (drop i s) ≡ 0
-  unfolding find_of
-  find_end h = rw (drop_of_length-le s h)
+-- what `position` finds, or the length
+pub find_position : (b : ℕ) (s : List ℕ) (o : Option ℕ) → o ≡ position (λ x. eqb x b) s → unwrap_or o (length s) ≡ find_of b s
+find_position b s o e =
+    let n : position_or_len (λ x. eqb x b) s ≡ find_of b s = first_place b s in
+    ap (λ (o : Option ℕ). unwrap_or o (length s)) e ∙ rw n (either (bool_cases (ltb (find_of b s) (length s))) (λ t. rw t refl) (λ f. rw f (omega (arith, find_within b s, ltb-false _ _ f))))
 
 -- ---- bytes over others
 

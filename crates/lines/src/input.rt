@@ -21,11 +21,8 @@ fn shift(buf: &mut [u8], from: usize, to: usize)
     requires { (from ≤ to) × (to ≤ length buf.old) }
     ensures { buf.new ≡ over (take (to - from) (drop from buf.old)) buf.old }
 {
-    let n = to - from;
-    let mut i = 0;
-    while i < n {
+    for i in 0..to - from {
         buf[i] = buf[from + i];
-        i += 1;
     }
 }
 
@@ -34,10 +31,7 @@ fn read_part(stdin: Stdin, part: &mut [u8]) -> usize
     ensures { result ≤ length part.old }
 {
     let mut from = stdin;
-    match from.read(part) {
-        Ok(n) => n,
-        Err(_) => 0,
-    }
+    from.read(part).unwrap_or(0)
 }
 
 // Reads once, behind the n bytes that are there.
@@ -90,14 +84,11 @@ pub fn drain()
     read_on(rest);
 }
 
-// The turns are counted down, since a proved loop has to end.
+// The turns are counted, since a proved loop has to end.
 fn read_on(rest: &mut [u8]) {
-    let mut turns = u64::MAX;
-    while 0 < turns {
-        let n = io::read_full(STDIN_FILENO, rest);
-        if n == 0 {
+    for _ in 0..u64::MAX {
+        if io::read_full(STDIN_FILENO, rest) == 0 {
             return;
         }
-        turns -= 1;
     }
 }

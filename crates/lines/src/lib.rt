@@ -11,7 +11,7 @@ ghost use Rattle.lines.specs.Find.{find_of};
 pub fn least(a: usize, b: usize) -> usize
     ensures { result ≡ min a b }
 {
-    if a < b { a } else { b }
+    a.min(b)
 }
 
 // The bytes from a place to another, as far as there are any.
@@ -29,14 +29,7 @@ pub fn part(s: &[u8], a: usize, e: usize) -> &[u8]
 pub fn find(s: &[u8], b: u8) -> usize
     ensures { result ≡ find_of b s.now }
 {
-    let mut i = 0;
-    while i < s.len() {
-        if s[i] == b {
-            return i;
-        }
-        i += 1;
-    }
-    i
+    s.iter().position(|x| *x == b).unwrap_or(s.len())
 }
 
 // The bytes before the first b, or all.

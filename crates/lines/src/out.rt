@@ -36,8 +36,8 @@ pub fn bytes(out: &mut [u8], at: usize, s: &[u8]) -> usize
     ensures { (out.new, result) ≡ put (out.old, at) s.now }
 {
     let mut to = at;
-    for i in 0..s.len() {
-        to = byte(out, to, s[i]);
+    for b in s {
+        to = byte(out, to, *b);
     }
     to
 }

@@ -1,5 +1,6 @@
 -- Going back by characters, as the loop asks for it. Assumes nothing.
-use Prim.Native.Nat.{ℕ, zero, suc}
+use Prim.Native.Nat.{ℕ, zero, suc, ◌+◌}
+use native.Mathlib.Numerals.{add-one}
 use mathlib.Core.Path.{◌≡◌, refl, sym, ap, ◌∙◌}
 use mathlib.Core.Bool.{Bool, true, false, cond}
 use mathlib.Core.List.{List}
@@ -26,12 +27,12 @@ module _ (s : List ℕ) where
   unfolding chars_back
   back_zero n = refl
 
-  pub back_enough : (p n : ℕ) → n ≡ 0 → chars_back s p n ≡ p
-  back_enough p n e = ap (chars_back s p) e ∙ back_none p
-
   module _ (i p : ℕ) (q : i ≡ suc p) (n : ℕ) where
-    pub back_here : get_or s p 0 ≡ 10 → chars_back s i n ≡ i
-    back_here e = ap (λ (k : ℕ). chars_back s k n) q ∙ back_feed p n e ∙ sym q
+    pub back_enough : n ≡ 0 → chars_back s i n ≡ p + 1
+    back_enough e = ap (λ (k : ℕ). chars_back s k n) q ∙ ap (chars_back s (suc p)) e ∙ back_none (suc p) ∙ sym (add-one p)
+
+    pub back_here : get_or s p 0 ≡ 10 → chars_back s i n ≡ p + 1
+    back_here e = ap (λ (k : ℕ). chars_back s k n) q ∙ back_feed p n e ∙ sym (add-one p)
 
     -- a character's first byte uses one up, and no other byte does
     pub back_char : (m : ℕ) → n ≡ suc m → (get_or s p 0 ≡ 10 → ⊥) → starts_char (get_or s p 0) ≡ true → chars_back s i n ≡ chars_back s p m

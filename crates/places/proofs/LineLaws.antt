@@ -1,15 +1,17 @@
 -- Lines at an index, as the loops ask for them, and what a line is. Assumes nothing.
 use Prim.Native.Nat.{ℕ, zero, suc, ◌+◌, ◌-◌, ◌<◌, ◌≤◌}
 use native.Mathlib.Nat.{not-suc-le-zero}
+use native.Mathlib.Numerals.{add-one}
 use native.Mathlib.Omega.{arith}
 use mathlib.Core.Path.{◌≡◌, refl, sym, ap, ◌∙◌}
 use mathlib.Core.Logic.{◌⊎◌, inl, inr}
-use mathlib.Core.Bool.{Bool, true, false}
+use mathlib.Core.Bool.{Bool}
 use mathlib.Core.List.{List, [], ◌∷◌}
 use lib.Dec.{eqb}
-use lib.ListN.{length, get_or, take, drop, length-take, length-drop, drop_of_length-le}
+use lib.ListN.{length, get_or, take, drop, length-take, length-drop}
 use borrow.Author.Tests.{eq-eqb, ne_eqb, eqb-true, eqb-false}
-use Rattle.text.proofs.Lists.{front, tail_part}
+use Rattle.std.specs.List.{filter}
+use Rattle.text.proofs.Lists.{tail_part}
 use Rattle.text.proofs.Choices.{bool_cases, cond_cases, either, lt_or_le}
 use Rattle.lines.specs.Find.{find_of}
 use Rattle.places.specs.Lines.{count, between, line_feed, line_start, feed_from, line_end}
@@ -26,18 +28,11 @@ module _ (p : ℕ → Bool) where
   pub part_count : (s : List ℕ) (a e : ℕ) → count p (between s a e) ≤ length s
   part_count s a e = omega (arith, count_le (between s a e), length-take (e - a) (drop a s), length-drop a s)
 
-  module _ (s : List ℕ) (i : ℕ) where
-    pub count_more : i < length s → p (get_or s i 0) ≡ true → count p (drop i s) ≡ 1 + count p (drop (i + 1) s)
-    unfolding count
-    count_more h e = rw (front s i h, e) (omega arith)
-
-    pub count_less : i < length s → p (get_or s i 0) ≡ false → count p (drop i s) ≡ count p (drop (i + 1) s)
-    unfolding count
-    count_less h e = rw (front s i h, e)
-
-    pub count_end : length s ≤ i → count p (drop i s) ≡ 0
-    unfolding count
-    count_end h = rw (drop_of_length-le s h)
+  -- those that a filter lets through
+  pub filtered : (s : List ℕ) → length (filter p s) ≡ count p s
+  unfolding count
+  filtered [] = refl
+  filtered (a ∷ s) = either (bool_cases (p a)) (λ e. rw e (ap suc (filtered s))) (λ e. rw e (filtered s))
 
 -- ---- where a line starts
 
@@ -56,8 +51,8 @@ module _ (s : List ℕ) where
   start_zero = refl
 
   module _ (i p : ℕ) (q : i ≡ suc p) where
-    pub start_here : get_or s p 0 ≡ 10 → line_start s i ≡ i
-    start_here e = ap (line_start s) q ∙ start_feed p e ∙ sym q
+    pub start_here : get_or s p 0 ≡ 10 → line_start s i ≡ p + 1
+    start_here e = ap (line_start s) q ∙ start_feed p e ∙ sym (add-one p)
 
     pub start_back : (get_or s p 0 ≡ 10 → ⊥) → line_start s i ≡ line_start s p
     start_back e = ap (line_start s) q ∙ start_other p e

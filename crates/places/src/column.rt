@@ -18,15 +18,7 @@ pub fn starts_char(b: u8) -> bool
 fn chars(s: &[u8]) -> usize
     ensures { result ≡ count starts_char s.now }
 {
-    let mut n: usize = 0;
-    let mut i = 0;
-    while i < s.len() {
-        if starts_char(s[i]) {
-            n += 1;
-        }
-        i += 1;
-    }
-    n
+    s.iter().filter(|b| starts_char(**b)).count()
 }
 
 // Columns are counted from 1, in characters.
@@ -43,20 +35,17 @@ pub fn chars_back(s: &[u8], place: usize, n: usize) -> usize
     ensures { result ≡ chars_back s.now place n }
 {
     let mut left = n;
-    let mut i = place;
-    while 0 < i {
+    for before in (0..place).rev() {
         if left == 0 {
-            return i;
+            return before + 1;
         }
-        let before = i - 1;
         let b = peek(s, before);
         if b == b'\n' {
-            return i;
+            return before + 1;
         }
         if starts_char(b) {
             left -= 1;
         }
-        i = before;
     }
     0
 }

@@ -8,15 +8,7 @@ use text::bytes::peek;
 fn feeds(s: &[u8]) -> usize
     ensures { result ≡ count line_feed s.now }
 {
-    let mut n: usize = 0;
-    let mut i = 0;
-    while i < s.len() {
-        if s[i] == b'\n' {
-            n += 1;
-        }
-        i += 1;
-    }
-    n
+    s.iter().filter(|b| **b == b'\n').count()
 }
 
 // Lines are counted from 1.
@@ -31,13 +23,10 @@ pub fn line_of(s: &[u8], place: usize) -> usize
 pub fn line_start(s: &[u8], place: usize) -> usize
     ensures { result ≡ line_start s.now place }
 {
-    let mut i = place;
-    while 0 < i {
-        let before = i - 1;
+    for before in (0..place).rev() {
         if peek(s, before) == b'\n' {
-            return i;
+            return before + 1;
         }
-        i = before;
     }
     0
 }

@@ -7,10 +7,7 @@ ghost use Rattle.places.specs.Shown.{control, hidden, shown};
 fn is_between(lo: u32, hi: u32, c: u32) -> bool
     ensures { result ≡ within lo hi c }
 {
-    if lo <= c {
-        return c <= hi;
-    }
-    false
+    (lo..=hi).contains(&c)
 }
 
 fn is_control(c: u32) -> bool

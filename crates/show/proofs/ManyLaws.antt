@@ -1,8 +1,10 @@
 -- The turns of the loop that puts out magnitudes and codes. Assumes nothing.
-use Prim.Native.Nat.{ℕ, ◌+◌, ◌<◌, ◌≤◌}
+use Prim.Native.Nat.{ℕ, min, ◌+◌, ◌<◌, ◌≤◌}
+use native.Mathlib.Omega.{arith}
 use mathlib.Core.List.{List, [], ◌∷◌, ◌++◌}
 use mathlib.Core.Path.{◌≡◌, refl, ap, ◌∙◌}
 use lib.ListN.{length, get_or, drop, drop_of_length-le}
+use Rattle.text.proofs.Choices.{either, lt_or_le}
 use Rattle.text.proofs.Lists.{front}
 use Rattle.show.specs.Many.{coded_text, codeds_text}
 
@@ -20,9 +22,9 @@ module _ (between : ℕ) (ms cs : List ℕ) (i : ℕ) where
       ap (λ (s : List ℕ). codeds_text between s (drop i cs)) (front ms i h)
       ∙ ap (λ (s : List ℕ). codeds_text between (get_or ms i 0 ∷ drop (i + 1) ms) s) (front cs i k)
 
-  pub codeds_end : length ms ≤ i → codeds_text between (drop i ms) (drop i cs) ≡ []
+  pub codeds_over : min (length ms) (length cs) ≤ i → codeds_text between (drop i ms) (drop i cs) ≡ []
   unfolding codeds_text
-  codeds_end h = ap (λ (s : List ℕ). codeds_text between s (drop i cs)) (drop_of_length-le ms h)
-
-  pub codeds_short : length cs ≤ i → codeds_text between (drop i ms) (drop i cs) ≡ []
-  codeds_short h = ap (codeds_text between (drop i ms)) (drop_of_length-le cs h) ∙ no_codes between (drop i ms)
+  codeds_over h =
+      either (lt_or_le (length ms) (length cs))
+      (λ l. let n : length ms ≤ i = omega arith in ap (λ (s : List ℕ). codeds_text between s (drop i cs)) (drop_of_length-le ms n))
+      (λ l. let n : length cs ≤ i = omega arith in ap (codeds_text between (drop i ms)) (drop_of_length-le cs n) ∙ no_codes between (drop i ms))

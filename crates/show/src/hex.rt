@@ -21,9 +21,9 @@ pub fn bytes(o: &mut [u8], at: usize, s: &[u8]) -> usize
     ensures { (o.new, result) ≡ put (o.old, at) (hex_text s.now) }
 {
     let mut to = at;
-    for i in 0..s.len() {
-        let high = out::byte(o, to, digit(s[i] / 16));
-        to = out::byte(o, high, digit(s[i]));
+    for b in s {
+        let high = out::byte(o, to, digit(*b / 16));
+        to = out::byte(o, high, digit(*b));
     }
     to
 }

@@ -20,11 +20,7 @@ pub fn integers(o: &mut [u8], at: usize, magnitudes: &[u64], codes: &[u8]) -> us
 {
     let mut to = out::bytes(o, at, b"ok");
     let mut between = b' ';
-    let n = codes.len();
-    for i in 0..magnitudes.len() {
-        if n <= i {
-            return to;
-        }
+    for i in 0..magnitudes.len().min(codes.len()) {
         to = coded(o, to, between, magnitudes[i], codes[i]);
         between = b';';
     }

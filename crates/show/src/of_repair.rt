@@ -22,9 +22,9 @@ pub fn numbers(o: &mut [u8], at: usize, s: &[u32]) -> usize
 {
     let mut to = at;
     let mut between = b';';
-    for i in 0..s.len() {
+    for n in s {
         let a = out::byte(o, to, between);
-        to = number(o, a, s[i]);
+        to = number(o, a, *n);
         between = b' ';
     }
     to

@@ -17,8 +17,8 @@ pub fn links(o: &mut [u8], at: usize, s: &[u32]) -> usize
     ensures { (o.new, result) ≡ put (o.old, at) (links_text s.now) }
 {
     let mut to = out::bytes(o, at, b"ok");
-    for i in 0..s.len() {
-        to = link(o, to, s[i]);
+    for n in s {
+        to = link(o, to, *n);
     }
     to
 }

@@ -1,9 +1,8 @@
 use Prim.Native.Nat.{ℕ, ◌+◌, ◌≤◌}
 use native.Mathlib.Omega.{arith}
 use mathlib.Core.List.{List}
-use mathlib.Core.Path.{◌≡◌, sym, ap, ◌∙◌}
+use mathlib.Core.Path.{sym, ap, ◌∙◌}
 use lib.ListN.{length, drop, drop_of_length-le}
-use borrow.Author.Rules.{rules}
 use Rattle.lines.specs.Find.{find_of}
 use Rattle.text.proofs.Lists.{tail_part}
 use Rattle.lines.proofs.past.Goals as goal

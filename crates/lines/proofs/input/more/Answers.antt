@@ -3,7 +3,6 @@ use native.Mathlib.Omega.{arith}
 use mathlib.Core.List.{List}
 use mathlib.Core.Path.{◌≡◌, refl, ◌∙◌}
 use lib.ListN.{length}
-use borrow.Author.Rules.{rules}
 use Rattle.lines.proofs.InputLaws.{room_true, room_false, moved_front, moved_length, moved_whole}
 use Rattle.lines.proofs.input.more.Goals as goal
 

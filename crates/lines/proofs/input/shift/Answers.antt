@@ -1,8 +1,8 @@
-use Prim.Native.Nat.{ℕ, ◌+◌, ◌-◌, ◌≤◌}
+use Prim.Native.Nat.{ℕ, ◌+◌, ◌-◌}
 use native.Mathlib.Omega.{arith}
 use mathlib.Core.List.{List}
 use mathlib.Core.Path.{◌≡◌, refl, ap, ◌∙◌}
-use lib.ListN.{length, get_or, take, drop, set}
+use lib.ListN.{get_or, take, drop, set}
 use borrow.Author.Rules.{rules}
 use Rattle.lines.specs.Over.{over}
 use Rattle.lines.proofs.Laws.{shift_more}

@@ -1,5 +1,4 @@
 use native.Mathlib.Omega.{arith}
-use borrow.Author.Rules.{rules}
 use Rattle.lines.proofs.OutLaws.{put_in, put_nowhere, put_front}
 use Rattle.lines.proofs.out.byte.Goals as goal
 

@@ -1,5 +1,4 @@
 use mathlib.Core.Path.{ap, ◌∙◌}
-use borrow.Author.Rules.{rules}
 use Rattle.lines.specs.Out.{put}
 use Rattle.lines.proofs.DecimalLaws.{digits_decimal}
 use Rattle.lines.proofs.out.number.Goals as goal

@@ -1,4 +1,3 @@
-use borrow.Author.Rules.{rules}
 use Rattle.lines.specs.Decimal.{decimal, word_of}
 use Rattle.lines.proofs.OutLaws.{put_behind}
 use Rattle.lines.proofs.out.word.Goals as goal

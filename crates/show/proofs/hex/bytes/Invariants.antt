@@ -1,12 +1,8 @@
-use Prim.Native.Nat.{◌-◌}
 use mathlib.Core.Path.{◌≡◌}
 use lib.ListN.{length, drop}
 use Rattle.lines.specs.Out.{put}
 use Rattle.show.specs.Hexes.{hex_text}
 use Rattle.show.proofs.hex.bytes.Given as goal
 
-abbrev pub invariant-loop-i : goal.invariant-loop-i
-invariant-loop-i l = (l.i-end ≡ length l.s) × (length l.o ≡ length l.initial.o) × (put (l.o, l.to) (hex_text (drop l.i l.s)) ≡ put (l.initial.o, l.at) (hex_text l.s))
-
-abbrev pub decreases-loop-i : goal.decreases-loop-i
-decreases-loop-i l = l.i-end - l.i
+abbrev pub invariant-loop-b : goal.invariant-loop-b
+invariant-loop-b l = (length l.o ≡ length l.initial.o) × (put (l.o, l.to) (hex_text (drop l.b-index l.s)) ≡ put (l.initial.o, l.at) (hex_text l.s))

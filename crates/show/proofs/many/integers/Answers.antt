@@ -6,22 +6,13 @@ use lib.ListN.{get_or, drop}
 use Rattle.lines.specs.Ascii.{ascii}
 use Rattle.lines.proofs.OutLaws.{then}
 use Rattle.show.specs.Many.{coded_text, codeds_text, many_text}
-use Rattle.show.proofs.ManyLaws.{codeds_front, codeds_end, codeds_short}
+use Rattle.show.proofs.ManyLaws.{codeds_front, codeds_over}
 use Rattle.show.proofs.ShownLaws.{put_turn, put_done}
 use borrow.Author.Rules.{rules}
 use Rattle.show.proofs.many.integers.Goals as goal
 
 pub loop-i-init : goal.loop-i-init
-loop-i-init c = (refl, refl, refl)
-
-pub returns-then-n-i : goal.returns-then-n-i
-unfolding many_text
-returns-then-n-i c =
-    let ms : List ℕ = c.args.magnitudes.now in
-    let cs : List ℕ = c.args.codes.now in
-    then (c.args.o.now, c.args.at) _ _ (ascii "ok") (codeds_text 32 ms cs) c.bytes-to.ensures
-    (put_done (c.loop-i.o, c.loop-i.to) _ (codeds_text c.loop-i.between (drop c.loop-i.i ms) (drop c.loop-i.i cs))
-    (codeds_short c.loop-i.between ms cs c.loop-i.i (omega arith)) c.loop-i.invariant.2)
+loop-i-init c = (search rules, refl, refl)
 
 pub loop-i-preserved : goal.loop-i-preserved
 loop-i-preserved c =
@@ -41,4 +32,4 @@ returns c =
     let cs : List ℕ = c.args.codes.now in
     then (c.args.o.now, c.args.at) _ _ (ascii "ok") (codeds_text 32 ms cs) c.bytes-to.ensures
     (put_done (c.loop-i.o, c.loop-i.to) _ (codeds_text c.loop-i.between (drop c.loop-i.i ms) (drop c.loop-i.i cs))
-    (codeds_end c.loop-i.between ms cs c.loop-i.i (omega arith)) c.loop-i.invariant.2)
+    (codeds_over c.loop-i.between ms cs c.loop-i.i (omega arith)) c.loop-i.invariant.2)

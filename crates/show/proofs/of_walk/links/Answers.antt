@@ -9,18 +9,17 @@ use Rattle.show.proofs.ShownLaws.{put_turn, put_done, words_front, words_end}
 use borrow.Author.Rules.{rules}
 use Rattle.show.proofs.of_walk.links.Goals as goal
 
-pub loop-i-init : goal.loop-i-init
-loop-i-init c = (refl, refl, refl)
+pub loop-n-init : goal.loop-n-init
+loop-n-init c = (refl, refl)
 
-pub loop-i-preserved : goal.loop-i-preserved
-loop-i-preserved c = (
+pub loop-n-preserved : goal.loop-n-preserved
+loop-n-preserved c = (
   search rules,
-  search rules,
-  put_turn (c.loop-i.o, c.loop-i.to) _ (words_text (drop c.loop-i.i c.args.s.now)) _ (word_of (get_or c.args.s.now c.loop-i.i 0)) _
-      (words_front c.args.s.now c.loop-i.i (omega arith)) c.link-to.ensures c.loop-i.invariant.2,
+  put_turn (c.loop-n.o, c.loop-n.to) _ (words_text (drop c.loop-n.n-index c.args.s.now)) _ (word_of (get_or c.args.s.now c.loop-n.n-index 0)) _
+      (words_front c.args.s.now c.loop-n.n-index (omega arith)) c.link-to.ensures c.loop-n.invariant.1,
 )
 
 pub returns : goal.returns
 unfolding links_text
 returns c = then (c.args.o.now, c.args.at) _ _ (ascii "ok") (words_text c.args.s.now) c.bytes-to.ensures
-    (put_done (c.loop-i.o, c.loop-i.to) _ (words_text (drop c.loop-i.i c.args.s.now)) (words_end c.args.s.now c.loop-i.i (omega arith)) c.loop-i.invariant.2)
+    (put_done (c.loop-n.o, c.loop-n.to) _ (words_text (drop c.loop-n.n-index c.args.s.now)) (words_end c.args.s.now c.loop-n.n-index (omega arith)) c.loop-n.invariant.1)

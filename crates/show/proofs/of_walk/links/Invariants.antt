@@ -1,12 +1,8 @@
-use Prim.Native.Nat.{◌-◌}
 use mathlib.Core.Path.{◌≡◌}
 use lib.ListN.{length, drop}
 use Rattle.lines.specs.Out.{put}
 use Rattle.show.specs.Walks.{words_text}
 use Rattle.show.proofs.of_walk.links.Given as goal
 
-abbrev pub invariant-loop-i : goal.invariant-loop-i
-invariant-loop-i l = (l.i-end ≡ length l.s) × (length l.o ≡ length l.initial.o) × (put (l.o, l.to) (words_text (drop l.i l.s)) ≡ put (l.initial.o, l.initial.to) (words_text l.s))
-
-abbrev pub decreases-loop-i : goal.decreases-loop-i
-decreases-loop-i l = l.i-end - l.i
+abbrev pub invariant-loop-n : goal.invariant-loop-n
+invariant-loop-n l = (length l.o ≡ length l.initial.o) × (put (l.o, l.to) (words_text (drop l.n-index l.s)) ≡ put (l.initial.o, l.initial.to) (words_text l.s))
