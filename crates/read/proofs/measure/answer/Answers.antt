@@ -1,7 +1,6 @@
 use mathlib.Core.Path.{ap, sym}
 use Rattle.read.specs.declared.scanned.Ending.{Ending}
 use Rattle.read.specs.inner.Pass.{told_by}
-use borrow.Author.Rules.{rules}
 use Rattle.read.proofs.measure.answer.Goals as goal
 
 pub returns-in-Complete : goal.returns-in-Complete

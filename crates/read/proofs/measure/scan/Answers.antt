@@ -6,7 +6,6 @@ use Rattle.reading.specs.Readings.{read_from}
 use Rattle.tokens.specs.Ron.{ron_token}
 use Rattle.read.specs.inner.Pass.{scanned_from}
 use Rattle.read.proofs.PassLaws.{few_entries, up_to_all}
-use borrow.Author.Rules.{rules}
 use Rattle.read.proofs.measure.scan.Goals as goal
 
 pub pass-requires : goal.pass-requires

@@ -1,5 +1,3 @@
-use borrow.Author.Tests.{not-false, not-true}
-use borrow.Author.Rules.{rules}
 use Rattle.read.proofs.pass.put.Goals as goal
 
 pub returns-then-not-on : goal.returns-then-not-on

@@ -1,6 +1,5 @@
 use native.Mathlib.Omega.{arith}
 use mathlib.Core.Path.{◌∙◌, ap, refl, sym}
-use borrow.Author.Rules.{rules}
 use Rattle.read.proofs.ReadLaws.{all_laid, fitted_fits, fitted_full, fitted_refused}
 use Rattle.read.specs.Read.{reading_of, told_read}
 use Rattle.text.specs.Refusals.Told.{refused}
