@@ -1,19 +1,18 @@
 -- What a reading answers, by its count and the room. Assumes nothing.
-use Prim.Native.Nat.{ℕ, ◌+◌, ◌<◌, ◌≤◌}
+use Prim.Native.Nat.{ℕ, ◌<◌, ◌≤◌}
 use native.Mathlib.Omega.{arith}
 use mathlib.Core.List.{List}
-use mathlib.Core.Path.{◌≡◌, ap, sym, ◌∙◌}
+use mathlib.Core.Path.{◌≡◌, ap}
 use lib.ListN.{length, take}
 use lib.Seq.{take_all}
 use borrow.Author.Tests.{le-ltb, lt-ltb}
 use Rattle.reading.proofs.Entries.{counted_accepted}
 use Rattle.reading.specs.Readings.{Reading, counted, entries}
 use Rattle.rows.specs.Rows.{laid, room_of}
-use Rattle.text.proofs.Choices.{either, lt_or_le}
 use Rattle.text.specs.Judged.{judged_of}
 use Rattle.text.specs.declared.judge.Judged.TheVariants.{Fit, Refused as NotFit}
 use Rattle.rows.specs.declared.Entry.{Entry}
-use Rattle.text.specs.Refusals.{Told, accepted, no_room, refused, too_long}
+use Rattle.text.specs.Refusals.{Told, accepted, no_room, refused}
 use Rattle.text.specs.declared.refusal.Refusal.{Refusal}
 use Rattle.read.specs.Read.{fitted, laid_by, read_answer, read_tape, reading_of, room_for}
 

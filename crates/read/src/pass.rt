@@ -66,8 +66,7 @@ pub fn pass(text: &[u8], from: usize, tape: &mut [u32], n: usize, on: bool) -> S
 {
     let mut at = from;
     let mut before = from;
-    let mut i = 0;
-    while i < n {
+    for i in 0..n {
         let front = behind_blanks(text, at);
         if text.len() <= front {
             return told(i, at, before, Ending::Complete);
@@ -78,7 +77,6 @@ pub fn pass(text: &[u8], from: usize, tape: &mut [u32], n: usize, on: bool) -> S
             put(tape, i, entry_of(p, at, front, end), on);
             before = at;
             at = end;
-            i += 1;
             continue;
         }
         let found = next_token(&text[front..]);
@@ -89,7 +87,6 @@ pub fn pass(text: &[u8], from: usize, tape: &mut [u32], n: usize, on: bool) -> S
                 put(tape, i, entry_of(l, at, start, end), on);
                 before = at;
                 at = end;
-                i += 1;
             }
             Following::End => return told(i, at, before, Ending::Complete),
             Following::Refused(refusal) => {
@@ -98,5 +95,5 @@ pub fn pass(text: &[u8], from: usize, tape: &mut [u32], n: usize, on: bool) -> S
             }
         }
     }
-    told(i, at, before, Ending::Complete)
+    told(n, at, before, Ending::Complete)
 }

@@ -28,10 +28,8 @@ fn shift_up(tape: &mut [u32], m: usize, f: usize, g: usize, b: usize, e: usize)
     requires { (g ≤ f) × (f + m ≤ room_of (length tape.old)) × Movable b e (entries_of m (drop (width * f) tape.old)) }
     ensures { tape.new ≡ shifted b e m f g tape.old }
 {
-    let mut k = 0;
-    while k < m {
+    for k in 0..m {
         shift_row(tape, f + k, g + k, b, e);
-        k += 1;
     }
 }
 
@@ -40,9 +38,7 @@ fn shift_down(tape: &mut [u32], m: usize, f: usize, g: usize, b: usize, e: usize
     requires { (f ≤ g) × (g + m ≤ room_of (length tape.old)) × Movable b e (entries_of m (drop (width * f) tape.old)) }
     ensures { tape.new ≡ shifted b e m f g tape.old }
 {
-    let mut k = m;
-    while 0 < k {
-        k -= 1;
+    for k in (0..m).rev() {
         shift_row(tape, f + k, g + k, b, e);
     }
 }
@@ -86,9 +82,7 @@ pub fn clear(tape: &mut [u32], x: usize, y: usize)
         detail: 0,
         gap: 0,
     };
-    let mut i = x;
-    while i < y {
+    for i in x..y {
         row::write(tape, i, blank);
-        i += 1;
     }
 }

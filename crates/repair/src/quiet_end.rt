@@ -9,12 +9,10 @@ use quiet::bytes::is_quiet;
 pub fn last_quiet(s: &[u8]) -> usize
     ensures { result ≡ last_quiet quiet_byte s.now }
 {
-    let mut i = s.len();
-    while 0 < i {
-        if is_quiet(s[i - 1]) {
-            return i;
+    for i in (0..s.len()).rev() {
+        if is_quiet(s[i]) {
+            return i + 1;
         }
-        i -= 1;
     }
     0
 }

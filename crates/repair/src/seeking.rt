@@ -51,15 +51,13 @@ fn seek(tape: &[u32], count: usize, from: usize, q: usize) -> usize
     requires { (count ≤ room_of (length tape.now)) × (from ≤ count) }
     ensures { result ≡ seek_from (entries_of count tape.now) from q }
 {
-    let mut i = from;
-    while i < count {
+    for i in from..count {
         let old = row::entry(tape, i);
         if q <= wide(old.start) {
             return i;
         }
-        i += 1;
     }
-    i
+    count
 }
 
 // Whether a new entry that starts at a place, behind a gap, joins the old ones, the search standing at row i.

@@ -1,7 +1,7 @@
 -- What the functions of src/ say on each way out, over variables. Assumes nothing.
 use Prim.Native.Nat.{ℕ, ◌+◌, ◌-◌, ◌<◌, ◌≤◌}
 use native.Mathlib.Omega.{arith}
-use mathlib.Core.Bool.{Bool, true, false, not, ◌&&◌}
+use mathlib.Core.Bool.{true, false, not}
 use mathlib.Core.List.{List, [], ◌∷◌, append-nil}
 use mathlib.Core.Path.{◌≡◌, ap, refl, subst, sym, ◌∙◌}
 use lib.Dec.{eqb, ltb}
@@ -13,7 +13,7 @@ use Rattle.comments.specs.declared.gap.Gap.TheVariants as gap
 use Rattle.arriving.specs.Owing.{tells_end}
 use Rattle.reading.specs.Kept.{any_quiet}
 use Rattle.reading.specs.Owed.{quiet_byte}
-use Rattle.text.proofs.Choices.{and_false, and_one, bool_cases, either}
+use Rattle.text.proofs.Choices.{and_false, bool_cases, either}
 use Rattle.text.proofs.Lists.{front}
 use Rattle.text.specs.Ahead.{char_if}
 use Rattle.text.specs.Classes.{ascii_raw, ident_first, one_of}

@@ -37,7 +37,7 @@ use Rattle.tokens.specs.Shapes.{behind_b, behind_r, shape_of}
 use Rattle.tokens.specs.Token.{of_word, of_char, of_byte, of_string, of_byte_string, of_attribute, by_shape, token_of}
 use Rattle.tokens.specs.declared.lexeme.Lexeme.{Lexeme}
 use Rattle.tokens.specs.declared.lexeme.LexemeAnswer.{LexemeAnswer}
-use Rattle.tokens.specs.declared.lexeme.LexemeAnswer.TheVariants.{Read, Refused}
+use Rattle.tokens.specs.declared.lexeme.LexemeAnswer.TheVariants.{Refused}
 use Rattle.tokens.specs.declared.shape.Shape.{Shape}
 use Rattle.tokens.specs.declared.shape.Shape.TheVariants as shape
 use Rattle.tokens.specs.declared.token.Token.TheVariants as token

@@ -76,12 +76,10 @@ pub fn is_stop(b: u8) -> bool
 pub fn stops_from(p: &[u8], n: usize) -> bool
     ensures { result ≡ stop_from n p.now }
 {
-    let mut i = n;
-    while i < p.len() {
+    for i in n..p.len() {
         if is_stop(p[i]) {
             return true;
         }
-        i += 1;
     }
     false
 }

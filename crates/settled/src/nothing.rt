@@ -30,16 +30,7 @@ fn first_len(p: &[u8]) -> usize
 fn is_word(shape: Shape) -> bool
     ensures { result ≡ is_word shape }
 {
-    match shape {
-        Shape::Mark(_) => false,
-        Shape::Attribute => false,
-        Shape::Str => false,
-        Shape::Char => false,
-        Shape::Byte => false,
-        Shape::ByteStr => false,
-        Shape::Number => false,
-        Shape::Word => true,
-    }
+    matches!(shape, Shape::Word)
 }
 
 // Such a character stands at the front, whole.

@@ -86,16 +86,6 @@ fn is_spoilt(p: &[u8]) -> bool
     }
 }
 
-// The place before another; 0 before 0.
-fn place_before(place: usize) -> usize
-    ensures { result ≡ place - 1 }
-{
-    if place == 0 {
-        return 0;
-    }
-    place - 1
-}
-
 // 5 behind a `/`, whose character has come whole.
 fn is_behind_slash(s: &[u8], refused: Refusal) -> bool
     ensures { result ≡ behind_slash s.now refused }
@@ -103,7 +93,7 @@ fn is_behind_slash(s: &[u8], refused: Refusal) -> bool
     if refused.number != 5 {
         return false;
     }
-    let last = place_before(refused.place);
+    let last = refused.place.saturating_sub(1);
     if peek(s, last) == b'/' {
         return false;
     }

@@ -1,6 +1,5 @@
 use mathlib.Core.Path.{◌∙◌, ap}
 use mathlib.Core.List.{List}
-use borrow.Author.Rules.{rules}
 use Rattle.reading.specs.Readings.{read_from}
 use Rattle.read.proofs.PassLaws.{entries_up_to}
 use Rattle.rows.specs.Rows.{laid}

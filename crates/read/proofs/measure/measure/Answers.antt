@@ -4,7 +4,6 @@ use Rattle.tokens.specs.Ron.{ron_token}
 use Rattle.read.specs.declared.scanned.Scanned.{Scanned}
 use Rattle.read.specs.inner.Pass.{told_by}
 use Rattle.read.proofs.PassLaws.{scanned_told}
-use borrow.Author.Rules.{rules}
 use Rattle.read.proofs.measure.measure.Goals as goal
 
 pub returns : goal.returns

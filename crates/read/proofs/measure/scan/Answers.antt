@@ -1,16 +1,10 @@
-use Prim.Native.Nat.{ℕ}
 use native.Mathlib.Omega.{arith}
-use mathlib.Core.Bool.{Bool, false, true}
-use mathlib.Core.Path.{◌∙◌, ◌≡◌, ap}
+use mathlib.Core.Path.{◌∙◌, ap}
 use Rattle.reading.specs.Readings.{read_from}
 use Rattle.tokens.specs.Ron.{ron_token}
 use Rattle.read.specs.inner.Pass.{scanned_from}
 use Rattle.read.proofs.PassLaws.{few_entries, up_to_all}
-use borrow.Author.Rules.{rules}
 use Rattle.read.proofs.measure.scan.Goals as goal
-
-pub pass-requires : goal.pass-requires
-pass-requires c = (c.requires, omega arith, λ e. let z : ◌≡◌ {A = Bool} false true = e in let y : ◌≡◌ {A = ℕ} 0 1 = cc in absurd (omega arith))
 
 pub returns : goal.returns
 returns c = c.pass.ensures.0 ∙ ap (scanned_from 0) (up_to_all _ (read_from ron_token c.args.text.now 0) (omega (arith, few_entries c.args.text.now 0)))

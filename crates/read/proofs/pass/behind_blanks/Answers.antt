@@ -3,7 +3,6 @@ use native.Mathlib.Omega.{arith}
 use mathlib.Core.Path.{ap, sym, ◌∙◌}
 use lib.ListN.{drop, length-drop}
 use borrow.Author.Rules.{rules}
-use borrow.Author.Tests.{not-false, not-true}
 use Rattle.text.proofs.Lists.{tail_part}
 use Rattle.text.proofs.RunLaws.{run_end, run_le, run_more, run_out}
 use Rattle.text.specs.Classes.{blank1}

@@ -9,16 +9,10 @@ use Rattle.text.specs.Classes.{blank}
 use Rattle.repair.proofs.moving.clear.Goals as goal
 
 pub loop-i-init : goal.loop-i-init
-loop-i-init c = (omega arith, omega arith, refl, refl, clear_starts c.args.x c.args.y c.args.tape.now)
-
-pub write-requires : goal.write-requires
-write-requires c = omega (arith, c.loop-i.invariant.2, c.requires)
+loop-i-init c = (omega arith, refl, clear_starts c.args.x c.args.y c.args.tape.now)
 
 pub loop-i-preserved : goal.loop-i-preserved
-loop-i-preserved c = (omega (arith, c.loop-i.invariant.0), omega (arith, c.loop-i.invariant.0), c.write.auto.tape ∙ c.loop-i.invariant.2, c.loop-i.invariant.3, clear_goes c.args.x c.args.y c.args.tape.now c.loop-i.i _ _ c.loop-i.invariant.0 (omega (arith, c.requires)) c.loop-i.invariant.4 c.write.ensures)
-
-pub shape_of-tape : goal.shape_of-tape
-shape_of-tape c = c.loop-i.invariant.2
+loop-i-preserved c = (omega arith, c.loop-i.invariant.1, clear_goes c.args.x c.args.y c.args.tape.now c.loop-i.i _ _ c.loop-i.auto.i (omega (arith, c.requires)) c.loop-i.invariant.2 c.write.ensures)
 
 pub returns : goal.returns
-returns c = clear_ends c.args.x c.args.y c.args.tape.now c.loop-i.i _ (omega (arith, c.loop-i.invariant.0, c.loop-i.invariant.1)) c.loop-i.invariant.4
+returns c = clear_ends c.args.x c.args.y c.args.tape.now c.loop-i.i _ (omega (arith, c.loop-i.invariant.0)) c.loop-i.invariant.2

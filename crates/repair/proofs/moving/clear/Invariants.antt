@@ -9,7 +9,4 @@ use Rattle.text.specs.Classes.{blank}
 use Rattle.repair.proofs.moving.clear.Given as goal
 
 abbrev pub invariant-loop-i : goal.invariant-loop-i
-invariant-loop-i l = (l.x ≤ l.i) × (l.i - l.x ≤ l.y - l.x) × (length l.tape ≡ length l.initial.tape) × (l.blank ≡ no_entry) × Clearing l.x l.y l.initial.tape l.i l.tape
-
-abbrev pub decreases-loop-i : goal.decreases-loop-i
-decreases-loop-i l = l.y - l.i
+invariant-loop-i l = (l.i - l.x ≤ l.y - l.x) × (l.blank ≡ no_entry) × Clearing l.x l.y l.initial.tape l.i l.tape

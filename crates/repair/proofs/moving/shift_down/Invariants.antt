@@ -7,7 +7,4 @@ use Rattle.repair.proofs.Laying.{Down, down_ends, down_goes, down_movable, down_
 use Rattle.repair.proofs.moving.shift_down.Given as goal
 
 abbrev pub invariant-loop-k : goal.invariant-loop-k
-invariant-loop-k l = (l.k ≤ l.m) × (length l.tape ≡ length l.initial.tape) × Down l.b l.e l.m l.f l.g l.initial.tape l.k l.tape
-
-abbrev pub decreases-loop-k : goal.decreases-loop-k
-decreases-loop-k l = l.k
+invariant-loop-k l = Down l.b l.e l.m l.f l.g l.initial.tape l.k l.tape

@@ -7,22 +7,13 @@ use Rattle.repair.proofs.Laying.{Up, up_ends, up_goes, up_movable, up_starts}
 use Rattle.repair.proofs.moving.shift_up.Goals as goal
 
 pub loop-k-init : goal.loop-k-init
-loop-k-init c = (omega arith, refl, up_starts c.args.b c.args.e c.args.m c.args.f c.args.g c.args.tape.now)
-
-pub overflow_add-f : goal.overflow_add-f
-overflow_add-f c = omega (arith, c.requires.1)
-
-pub overflow_add-g : goal.overflow_add-g
-overflow_add-g c = omega (arith, c.requires.0, c.requires.1)
+loop-k-init c = up_starts c.args.b c.args.e c.args.m c.args.f c.args.g c.args.tape.now
 
 pub shift_row-requires : goal.shift_row-requires
-shift_row-requires c = (omega (arith, c.loop-k.invariant.1, c.requires.1), omega (arith, c.loop-k.invariant.1, c.requires.0, c.requires.1), up_movable c.args.b c.args.e c.args.m c.args.f c.args.g c.args.tape.now c.loop-k.k _ (omega arith) c.requires.0 (omega (arith, c.requires.1)) c.requires.2 c.loop-k.invariant.2)
+shift_row-requires c = (omega (arith, c.requires.1), omega (arith, c.requires.0, c.requires.1), up_movable c.args.b c.args.e c.args.m c.args.f c.args.g c.args.tape.now c.loop-k.k _ (omega arith) c.requires.0 (omega (arith, c.requires.1)) c.requires.2 c.loop-k.invariant)
 
 pub loop-k-preserved : goal.loop-k-preserved
-loop-k-preserved c = (omega arith, c.shift_row.auto.tape ∙ c.loop-k.invariant.1, up_goes c.args.b c.args.e c.args.m c.args.f c.args.g c.args.tape.now c.loop-k.k _ _ c.requires.0 (omega (arith, c.requires.1)) c.loop-k.invariant.2 c.shift_row.ensures)
-
-pub shape_of-tape : goal.shape_of-tape
-shape_of-tape c = c.loop-k.invariant.1
+loop-k-preserved c = up_goes c.args.b c.args.e c.args.m c.args.f c.args.g c.args.tape.now c.loop-k.k _ _ c.requires.0 (omega (arith, c.requires.1)) c.loop-k.invariant c.shift_row.ensures
 
 pub returns : goal.returns
-returns c = up_ends c.args.b c.args.e c.args.m c.args.f c.args.g c.args.tape.now c.loop-k.k _ (omega arith) c.loop-k.invariant.2
+returns c = up_ends c.args.b c.args.e c.args.m c.args.f c.args.g c.args.tape.now c.loop-k.k _ (omega arith) c.loop-k.invariant

@@ -7,7 +7,4 @@ use Rattle.repair.proofs.Laying.{Up, up_ends, up_goes, up_movable, up_starts}
 use Rattle.repair.proofs.moving.shift_up.Given as goal
 
 abbrev pub invariant-loop-k : goal.invariant-loop-k
-invariant-loop-k l = (l.k ≤ l.m) × (length l.tape ≡ length l.initial.tape) × Up l.b l.e l.m l.f l.g l.initial.tape l.k l.tape
-
-abbrev pub decreases-loop-k : goal.decreases-loop-k
-decreases-loop-k l = l.m - l.k
+invariant-loop-k l = Up l.b l.e l.m l.f l.g l.initial.tape l.k l.tape

@@ -1,4 +1,4 @@
-use Prim.Native.Nat.{◌≤◌}
+use Prim.Native.Nat.{◌+◌, ◌-◌, ◌≤◌}
 use native.Mathlib.Omega.{arith}
 use mathlib.Core.Path.{◌∙◌, ◌≡◌, sym}
 use lib.ListN.{length, take}
@@ -9,13 +9,13 @@ use Rattle.repair.proofs.QuietEnds.{quiet_before, quiet_here, quiet_none, quiet_
 use Rattle.repair.proofs.quiet_end.last_quiet.Goals as goal
 
 pub loop-i-init : goal.loop-i-init
-loop-i-init c = (omega arith, quiet_starts quiet_byte c.args.s.now)
+loop-i-init c = quiet_starts quiet_byte c.args.s.now
 
 pub returns-then-is_quiet : goal.returns-then-is_quiet
-returns-then-is_quiet c = quiet_here quiet_byte c.args.s.now c.loop-i.i (omega arith) c.loop-i.invariant.0 (sym c.is_quiet.ensures ∙ c.if-is_quiet.true) ∙ c.loop-i.invariant.1
+returns-then-is_quiet c = let z : c.loop-i.i - 1 + 1 ≡ c.loop-i.i = omega arith in z ∙ quiet_here quiet_byte c.args.s.now c.loop-i.i c.loop-i-test.true c.loop-i.auto.i (sym c.is_quiet.ensures ∙ c.if-is_quiet.true) ∙ c.loop-i.invariant
 
 pub loop-i-preserved : goal.loop-i-preserved
-loop-i-preserved c = (omega (arith, c.loop-i.invariant.0), quiet_before quiet_byte c.args.s.now c.loop-i.i (omega arith) c.loop-i.invariant.0 (sym c.is_quiet.ensures ∙ c.if-is_quiet.false) ∙ c.loop-i.invariant.1)
+loop-i-preserved c = quiet_before quiet_byte c.args.s.now c.loop-i.i c.loop-i-test.true c.loop-i.auto.i (sym c.is_quiet.ensures ∙ c.if-is_quiet.false) ∙ c.loop-i.invariant
 
 pub returns : goal.returns
-returns c = quiet_none quiet_byte c.args.s.now c.loop-i.i (omega arith) ∙ c.loop-i.invariant.1
+returns c = quiet_none quiet_byte c.args.s.now c.loop-i.i c.loop-i-test.false ∙ c.loop-i.invariant

@@ -9,7 +9,4 @@ use Rattle.repair.proofs.QuietEnds.{quiet_before, quiet_here, quiet_none, quiet_
 use Rattle.repair.proofs.quiet_end.last_quiet.Given as goal
 
 abbrev pub invariant-loop-i : goal.invariant-loop-i
-invariant-loop-i l = (l.i ≤ length l.s) × (last_quiet quiet_byte (take l.i l.s) ≡ last_quiet quiet_byte l.s)
-
-abbrev pub decreases-loop-i : goal.decreases-loop-i
-decreases-loop-i l = l.i
+invariant-loop-i l = last_quiet quiet_byte (take l.i l.s) ≡ last_quiet quiet_byte l.s

@@ -10,14 +10,11 @@ use Rattle.repair.specs.inner.Steps.{seek_from, starts_before}
 use Rattle.rows.specs.Rows.{entries_of}
 use Rattle.repair.proofs.seeking.seek.Goals as goal
 
-pub loop-i-init : goal.loop-i-init
-loop-i-init c = (omega (arith, c.requires.1), refl)
-
 pub returns-then-q-wide : goal.returns-then-q-wide
-returns-then-q-wide c = lead_out (starts_before c.args.q) c.args.tape.now c.args.count c.loop-i.i _ (omega arith) c.entry-old.ensures (le-ltb c.entry-old.result.start c.args.q (omega (arith, c.wide.ensures, c.if-q-wide.true))) ∙ c.loop-i.invariant.1
+returns-then-q-wide c = lead_out (starts_before c.args.q) c.args.tape.now c.args.count c.loop-i.i _ (omega arith) c.entry-old.ensures (le-ltb c.entry-old.result.start c.args.q (omega (arith, c.wide.ensures, c.if-q-wide.true))) ∙ c.loop-i.invariant
 
 pub loop-i-preserved : goal.loop-i-preserved
-loop-i-preserved c = (omega arith, lead_on (starts_before c.args.q) c.args.tape.now c.args.count c.loop-i.i _ (omega arith) c.entry-old.ensures (lt-ltb c.entry-old.result.start c.args.q (omega (arith, c.wide.ensures, c.if-q-wide.false))) ∙ c.loop-i.invariant.1)
+loop-i-preserved c = lead_on (starts_before c.args.q) c.args.tape.now c.args.count c.loop-i.i _ (omega arith) c.entry-old.ensures (lt-ltb c.entry-old.result.start c.args.q (omega (arith, c.wide.ensures, c.if-q-wide.false))) ∙ c.loop-i.invariant
 
 pub returns : goal.returns
-returns c = lead_end (starts_before c.args.q) c.args.tape.now c.args.count c.loop-i.i (omega arith) ∙ c.loop-i.invariant.1
+returns c = let z : c.args.count ≡ c.loop-i.i = omega (arith, c.requires.1) in z ∙ lead_end (starts_before c.args.q) c.args.tape.now c.args.count c.loop-i.i (omega arith) ∙ c.loop-i.invariant

@@ -11,7 +11,4 @@ use Rattle.rows.specs.Rows.{entries_of}
 use Rattle.repair.proofs.seeking.seek.Given as goal
 
 abbrev pub invariant-loop-i : goal.invariant-loop-i
-invariant-loop-i l = (l.i ≤ l.count) × (l.i + leading (starts_before l.q) (drop l.i (entries_of l.count l.tape)) ≡ seek_from (entries_of l.count l.tape) l.from l.q)
-
-abbrev pub decreases-loop-i : goal.decreases-loop-i
-decreases-loop-i l = l.count - l.i
+invariant-loop-i l = l.i + leading (starts_before l.q) (drop l.i (entries_of l.count l.tape)) ≡ seek_from (entries_of l.count l.tape) l.from l.q

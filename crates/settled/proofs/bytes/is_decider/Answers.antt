@@ -1,6 +1,5 @@
 use mathlib.Core.Path.{◌∙◌, sym}
 use Rattle.settled.proofs.CodeLaws.{decides_other, decides_quiet}
-use borrow.Author.Rules.{rules}
 use Rattle.settled.proofs.bytes.is_decider.Goals as goal
 
 pub returns-then-is_quiet : goal.returns-then-is_quiet

@@ -1,7 +1,6 @@
 use mathlib.Core.Bool.{not}
 use mathlib.Core.Path.{◌∙◌, ap, sym}
 use Rattle.settled.proofs.CodeLaws.{stops_hash, stops_raw, stops_slash, stops_wide}
-use borrow.Author.Rules.{rules}
 use Rattle.settled.proofs.bytes.is_stop.Goals as goal
 
 pub returns-then-b-ge128 : goal.returns-then-b-ge128

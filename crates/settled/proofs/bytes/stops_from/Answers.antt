@@ -1,13 +1,6 @@
-use Prim.Native.Nat.{◌-◌}
-use mathlib.Core.Path.{◌≡◌, ◌∙◌, refl, sym}
-use lib.ListN.{length}
+use mathlib.Core.Path.{◌∙◌, sym}
 use Rattle.settled.proofs.CodeLaws.{stop_here, stop_on, stop_out}
-use Rattle.settled.specs.Settled.{stop_from}
-use borrow.Author.Rules.{rules}
 use Rattle.settled.proofs.bytes.stops_from.Goals as goal
-
-pub loop-i-init : goal.loop-i-init
-loop-i-init c = refl
 
 pub returns-then-is_stop : goal.returns-then-is_stop
 returns-then-is_stop c = sym (stop_here c.args.p.now c.loop-i.i c.loop-i-test.true (sym c.is_stop.ensures ∙ c.if-is_stop.true)) ∙ c.loop-i.invariant

@@ -1,9 +1,7 @@
 use native.Mathlib.Omega.{arith}
 use mathlib.Core.Path.{◌∙◌, sym}
-use borrow.Author.Tests.{not-true}
 use Rattle.names.proofs.NearLaws.{far_none, near_char}
 use Rattle.text.specs.Classes.{ident_first}
-use borrow.Author.Rules.{rules}
 use Rattle.settled.proofs.nothing.first_len.Goals as goal
 
 pub returns-then-n-ne0 : goal.returns-then-n-ne0

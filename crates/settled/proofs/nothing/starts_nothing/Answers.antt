@@ -1,9 +1,7 @@
 use Prim.Native.Nat.{ℕ}
 use mathlib.Core.Path.{◌∙◌, ap, sym}
 use lib.Dec.{eqb}
-use borrow.Author.Tests.{not-false, not-true}
 use Rattle.settled.proofs.CodeLaws.{nothing_cut, nothing_shape, nothing_word}
-use borrow.Author.Rules.{rules}
 use Rattle.settled.proofs.nothing.starts_nothing.Goals as goal
 
 pub returns-then-char_len-eq0 : goal.returns-then-char_len-eq0

@@ -1,7 +1,6 @@
 use mathlib.Core.Path.{◌∙◌, ap, sym}
 use Rattle.settled.proofs.CodeLaws.{spoilt_nothing, spoilt_read, spoilt_refused}
 use Rattle.tokens.specs.Lexemes.{lexeme_of}
-use borrow.Author.Rules.{rules}
 use Rattle.settled.proofs.refused.is_spoilt.Goals as goal
 
 pub returns-then-starts_nothing : goal.returns-then-starts_nothing

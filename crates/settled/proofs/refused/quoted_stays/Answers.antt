@@ -1,6 +1,5 @@
 use mathlib.Core.Path.{◌∙◌, sym}
 use Rattle.settled.proofs.CodeLaws.{quoted_early, quoted_late}
-use borrow.Author.Rules.{rules}
 use Rattle.settled.proofs.refused.quoted_stays.Goals as goal
 
 pub returns-then-refused-from : goal.returns-then-refused-from

@@ -3,7 +3,6 @@ use mathlib.Core.Path.{◌∙◌, ap, sym}
 use Rattle.settled.proofs.CodeLaws.{clear_within, settles_clear, settles_line, settles_refused}
 use Rattle.settled.specs.Settled.{spoilt_for}
 use Rattle.text.proofs.Lists.{tail_part}
-use borrow.Author.Rules.{rules}
 use Rattle.settled.proofs.refused.settles.Goals as goal
 
 pub slice_bounds-is_spoilt-count : goal.slice_bounds-is_spoilt-count

@@ -4,7 +4,6 @@ use Rattle.settled.specs.Stood.{attribute_stood, keyword_stood, opened_stood}
 use Rattle.attributes.specs.Attributes.{opened_of}
 use Rattle.attributes.specs.Steps.{consume_of}
 use Rattle.attributes.specs.Words.{keyword_at}
-use borrow.Author.Rules.{rules}
 use Rattle.settled.proofs.stood.attribute_stood.Goals as goal
 
 pub returns-then-all : goal.returns-then-all

@@ -1,6 +1,5 @@
 use mathlib.Core.Path.{◌∙◌, ap, sym}
 use Rattle.settled.specs.Stood.{enable_by, enable_stood}
-use borrow.Author.Rules.{rules}
 use Rattle.settled.proofs.stood.enable_stood.Goals as goal
 
 pub returns-in-On : goal.returns-in-On

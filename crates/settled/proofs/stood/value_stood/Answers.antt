@@ -1,6 +1,5 @@
 use mathlib.Core.Path.{◌∙◌, ap, sym}
 use Rattle.settled.specs.Stood.{value_by, value_stood}
-use borrow.Author.Rules.{rules}
 use Rattle.settled.proofs.stood.value_stood.Goals as goal
 
 pub returns-in-On : goal.returns-in-On

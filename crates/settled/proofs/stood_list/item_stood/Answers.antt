@@ -8,7 +8,6 @@ use Rattle.names.specs.declared.Identifier.TheVariants.{Missing, Name, RawName}
 use Rattle.text.proofs.Lists.{tail_part}
 use Rattle.settled.proofs.StoodLaws.{name_by}
 use Rattle.settled.specs.Stood.{named_stood}
-use borrow.Author.Rules.{rules}
 use Rattle.settled.proofs.stood_list.item_stood.Goals as goal
 
 pub overflow_sub-letters : goal.overflow_sub-letters

@@ -1,7 +1,6 @@
 use mathlib.Core.Path.{◌∙◌, sym}
 use Rattle.settled.proofs.StoodLaws.{sign-by}
 use Rattle.attributes.specs.declared.steps.Step.TheVariants.{On, Refused}
-use borrow.Author.Rules.{rules}
 use Rattle.settled.proofs.stood_steps.sign_stood.Goals as goal
 
 pub returns-in-On : goal.returns-in-On
