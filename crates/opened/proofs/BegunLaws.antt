@@ -12,7 +12,6 @@ use Rattle.opened.specs.Fronts.{front_of}
 use Rattle.opened.specs.Begun.{by_front, begun_from, reached_of, read_begun}
 use Rattle.opened.specs.declared.front.Front.{Front}
 use Rattle.opened.specs.declared.front.Front.TheVariants.{Passes}
-use Rattle.opened.specs.declared.begun.Begun.{Begun}
 use Rattle.opened.specs.declared.begun.Begun.TheVariants.{Nothing}
 use Rattle.opened.proofs.FrontLaws.{Sized, front_sized}
 

@@ -1,5 +1,5 @@
 -- What is found begins where it is said to: a comment or a string that is not closed, or an opening bracket. Assumes nothing.
-use Prim.Native.Nat.{ℕ, zero, suc, pred, ◌+◌, ◌<◌, ◌≤◌}
+use Prim.Native.Nat.{ℕ, zero, suc, pred, ◌+◌, ◌<◌}
 use native.Mathlib.Omega.{arith}
 use mathlib.Core.Bool.{Bool, true, false, not, cond}
 use mathlib.Core.List.{List, [], ◌∷◌}
@@ -8,7 +8,7 @@ use mathlib.Core.Path.{◌≡◌, ap, ap₂, refl, subst, sym, ◌∙◌}
 use lib.Dec.{eqb, ltb}
 use lib.ListN.{drop, get_or, length}
 use lib.Seq.{drop-drop}
-use borrow.Author.Tests.{eqb-true, eqb-false, eq-eqb}
+use borrow.Author.Tests.{eqb-true, eq-eqb}
 use Rattle.comments.proofs.Nesting.{unclosed}
 use Rattle.comments.specs.Blocks.{block_end}
 use Rattle.comments.specs.Gaps.{behind_slash, block_item, comment_of, item_of, line_item}
@@ -21,8 +21,7 @@ use Rattle.escapes.specs.declared.answers.Mode.{Mode}
 use Rattle.escapes.specs.declared.answers.Mode.TheVariants.{Str, Char, Bytes}
 use Rattle.strings.proofs.Wholes.{none_here}
 use Rattle.strings.specs.Pieces.{unquoted}
-use Rattle.strings.specs.Quoted.{quoted_of}
-use Rattle.strings.specs.Raw.{hash, missing, raw_end, raw_of}
+use Rattle.strings.specs.Raw.{hash, missing, raw_of}
 use Rattle.strings.specs.Strings.{string_of, byte_string_of}
 use Rattle.strings.specs.declared.literal.LiteralAnswer.{LiteralAnswer}
 use Rattle.strings.specs.declared.literal.LiteralAnswer.TheVariants.{Read, Refused}

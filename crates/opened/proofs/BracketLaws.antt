@@ -1,8 +1,9 @@
 -- The search for the innermost open bracket, from behind. Assumes nothing.
-use Prim.Native.Nat.{ℕ, zero, suc, ◌+◌, ◌-◌, ◌<◌, ◌≤◌}
+use Prim.Native.Nat.{ℕ, zero, suc, ◌<◌, ◌≤◌}
 use native.Mathlib.Omega.{arith}
 use mathlib.Core.Bool.{Bool, true, false, not, cond}
 use mathlib.Core.List.{List, [], ◌∷◌}
+use Rattle.std.proofs.Common.{Option, None, Some}
 use mathlib.Core.Path.{◌≡◌, ap, refl, subst, sym, ◌∙◌}
 use lib.Dec.{eqb}
 use lib.ListN.{drop}
@@ -12,13 +13,11 @@ use Rattle.grammar.specs.declared.kinds.Side.TheVariants.{Opens, Closes, Neither
 use Rattle.rows.specs.Rows.{entry_at}
 use Rattle.opened.specs.Brackets.{side_at, behind_entry, open_brackets, first_of, innermost, closes_other, other_of, other_before}
 use Rattle.opened.specs.declared.begun.Begun.TheVariants.{Nothing, Bracket}
-use Rattle.opened.specs.declared.brackets.Innermost.{Innermost}
-use Rattle.opened.specs.declared.brackets.Innermost.TheVariants.{Outside, Entry}
 
 -- the open bracket behind k others
-abbrev pub behind_others : List ℕ → ℕ → Innermost
-behind_others [] k = Outside
-behind_others (i ∷ os) zero = Entry i
+abbrev pub behind_others : List ℕ → ℕ → Option ℕ
+behind_others [] k = None
+behind_others (i ∷ os) zero = Some i
 behind_others (i ∷ os) (suc k) = behind_others os k
 
 first-of : (os : List ℕ) → first_of os ≡ behind_others os 0
@@ -44,7 +43,7 @@ module _ (tape : List ℕ) where
   here i j k x z e = ap (λ (m : ℕ). behind_others (open_brackets tape m) k) z ∙ ap (λ (l : List ℕ). behind_others l k) (by_side j x e)
 
   module _ (i j k : ℕ) (z : i ≡ suc j) where
-    pub search_found : side_at tape j ≡ Opens → k ≡ 0 → behind_others (open_brackets tape i) k ≡ Entry j
+    pub search_found : side_at tape j ≡ Opens → k ≡ 0 → behind_others (open_brackets tape i) k ≡ Some j
     search_found e h = here i j k Opens z e ∙ ap (behind_others (j ∷ open_brackets tape j)) h
 
     pub search_opens : (m : ℕ) → side_at tape j ≡ Opens → k ≡ suc m → behind_others (open_brackets tape i) k ≡ behind_others (open_brackets tape j) m
@@ -56,7 +55,7 @@ module _ (tape : List ℕ) where
     pub search_neither : side_at tape j ≡ Neither → behind_others (open_brackets tape i) k ≡ behind_others (open_brackets tape j) k
     search_neither e = here i j k Neither z e
 
-  pub search_ends : (i k : ℕ) → i ≤ 0 → behind_others (open_brackets tape i) k ≡ Outside
+  pub search_ends : (i k : ℕ) → i ≤ 0 → behind_others (open_brackets tape i) k ≡ None
   unfolding open_brackets
   search_ends zero k h = refl
   search_ends (suc i) k h = absurd (omega arith)
@@ -65,19 +64,19 @@ module _ (tape : List ℕ) where
   abbrev Before : ℕ → ℕ → Type 0
   Before n i = (i < n) × (side_at tape i ≡ Opens)
 
-  before_by : (n i : ℕ) (x : Side) → side_at tape n ≡ x → ((k : ℕ) → behind_others (open_brackets tape n) k ≡ Entry i → Before n i)
-      → (k : ℕ) → behind_others (behind_entry x n (open_brackets tape n)) k ≡ Entry i → Before (suc n) i
+  before_by : (n i : ℕ) (x : Side) → side_at tape n ≡ x → ((k : ℕ) → behind_others (open_brackets tape n) k ≡ Some i → Before n i)
+      → (k : ℕ) → behind_others (behind_entry x n (open_brackets tape n)) k ≡ Some i → Before (suc n) i
   before_by n i Opens e rest zero h = let z : n ≡ i = cc in (omega arith, subst (λ (j : ℕ). side_at tape j ≡ Opens) z e)
   before_by n i Opens e rest (suc k) h = let b = rest k h in (omega (arith, b.0), b.1)
   before_by n i Closes e rest k h = let b = rest (suc k) (sym (one_taken (open_brackets tape n) k) ∙ h) in (omega (arith, b.0), b.1)
   before_by n i Neither e rest k h = let b = rest k h in (omega (arith, b.0), b.1)
 
-  opens_before : (n k i : ℕ) → behind_others (open_brackets tape n) k ≡ Entry i → Before n i
+  opens_before : (n k i : ℕ) → behind_others (open_brackets tape n) k ≡ Some i → Before n i
   unfolding open_brackets
   opens_before zero k i h = let z : ◌≡◌ {A = ℕ} 0 1 = cc in absurd (omega arith)
   opens_before (suc n) k i h = before_by n i (side_at tape n) refl (λ k h. opens_before n k i h) k h
 
-  pub innermost_before : (n i : ℕ) → innermost tape n ≡ Entry i → (i < n) × (side_at tape i ≡ Opens)
+  pub innermost_before : (n i : ℕ) → innermost tape n ≡ Some i → (i < n) × (side_at tape i ≡ Opens)
   innermost_before n i h = opens_before n 0 i (search_starts n ∙ h)
 
 -- ---- a closing bracket of another kind
@@ -99,7 +98,7 @@ module _ (o kind : ℕ) where
   unfolding closes_other
   closes_none f g h = rw (ne_eqb kind 2 f, ne_eqb kind 4 g, ne_eqb kind 6 h)
 
-module _ (tape : List ℕ) (n i : ℕ) (found : innermost tape n ≡ Entry i) where
+module _ (tape : List ℕ) (n i : ℕ) (found : innermost tape n ≡ Some i) where
   other_by : (t : Bool) → closes_other (entry_at tape i).kind (entry_at tape n).kind ≡ t → cond t (Bracket (entry_at tape i).start) Nothing ≡ other_before tape n
   unfolding other_before
   other_by t e = sym (ap (other_of tape n) found ∙ ap (λ (x : Bool). cond x (Bracket (entry_at tape i).start) Nothing) e)

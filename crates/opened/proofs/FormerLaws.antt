@@ -3,10 +3,10 @@ use Prim.Native.Nat.{ℕ, zero, suc, ◌+◌, ◌-◌, ◌<◌, ◌≤◌}
 use native.Mathlib.Omega.{arith}
 use mathlib.Core.Bool.{Bool, true, false, cond, ◌&&◌}
 use mathlib.Core.List.{List}
+use Rattle.std.proofs.Common.{Option, None, Some}
 use mathlib.Core.Path.{◌≡◌, ap, refl, sym, ◌∙◌}
 use lib.Dec.{eqb}
 use borrow.Author.Tests.{eq-eqb, ne_eqb}
-use Rattle.text.proofs.Lists.{front}
 use Rattle.text.specs.Classes.{within}
 use Rattle.grammar.specs.declared.kinds.Side.{Side}
 use Rattle.grammar.specs.declared.kinds.Side.TheVariants.{Opens, Closes, Neither}
@@ -15,8 +15,6 @@ use Rattle.fields.specs.Fields.{same}
 use Rattle.fields.specs.Names.{name_at}
 use Rattle.opened.specs.Brackets.{side_at}
 use Rattle.opened.specs.Former.{is_field, is_former, by_side, former_from, former_of}
-use Rattle.opened.specs.declared.former.Former.{Former}
-use Rattle.opened.specs.declared.former.Former.TheVariants.{Nowhere, Entry}
 
 -- ---- an entry that names a field
 
@@ -49,11 +47,11 @@ module _ (text tape : List ℕ) (n : ℕ) where
       ap (λ (m : ℕ). former_from text tape n m k) z ∙ ap (λ (y : Side). by_side text tape n y j k (λ (m : ℕ). former_from text tape n j m)) e
 
   -- what is left gives the whole
-  module _ (i k : ℕ) (whole : Former) (inv : former_from text tape n i k ≡ whole) (some : 0 < i) where
+  module _ (i k : ℕ) (whole : Option ℕ) (inv : former_from text tape n i k ≡ whole) (some : 0 < i) where
     turn : (x : Side) → side_at tape (i - 1) ≡ x → by_side text tape n x (i - 1) k (former_from text tape n (i - 1)) ≡ whole
     turn x e = let z : i ≡ suc (i - 1) = omega arith in sym (here i (i - 1) k x z e) ∙ inv
 
-    pub search_stops : side_at tape (i - 1) ≡ Opens → k ≡ 0 → Nowhere ≡ whole
+    pub search_stops : side_at tape (i - 1) ≡ Opens → k ≡ 0 → None ≡ whole
     search_stops e h = ap (λ (q : ℕ). by_side text tape n Opens (i - 1) q (former_from text tape n (i - 1))) (sym h) ∙ turn Opens e
 
     pub search_opens : side_at tape (i - 1) ≡ Opens → (k ≡ 0 → ⊥) → former_from text tape n (i - 1) (k - 1) ≡ whole
@@ -65,16 +63,16 @@ module _ (text tape : List ℕ) (n : ℕ) where
     search_closes e = let more : k + 1 ≡ suc k = omega arith in ap (former_from text tape n (i - 1)) more ∙ turn Closes e
 
     by_former : (t : Bool) → side_at tape (i - 1) ≡ Neither → is_former text tape n (i - 1) k ≡ t
-        → cond t (Entry (i - 1)) (former_from text tape n (i - 1) k) ≡ whole
-    by_former t e h = ap (λ (q : Bool). cond q (Entry (i - 1)) (former_from text tape n (i - 1) k)) (sym h) ∙ turn Neither e
+        → cond t (Some (i - 1)) (former_from text tape n (i - 1) k) ≡ whole
+    by_former t e h = ap (λ (q : Bool). cond q (Some (i - 1)) (former_from text tape n (i - 1) k)) (sym h) ∙ turn Neither e
 
-    pub search_found : side_at tape (i - 1) ≡ Neither → is_former text tape n (i - 1) k ≡ true → Entry (i - 1) ≡ whole
+    pub search_found : side_at tape (i - 1) ≡ Neither → is_former text tape n (i - 1) k ≡ true → Some (i - 1) ≡ whole
     search_found e h = by_former true e h
 
     pub search_passes : side_at tape (i - 1) ≡ Neither → is_former text tape n (i - 1) k ≡ false → former_from text tape n (i - 1) k ≡ whole
     search_passes e h = by_former false e h
 
-  pub search_ends : (i k : ℕ) → i ≤ 0 → former_from text tape n i k ≡ Nowhere
+  pub search_ends : (i k : ℕ) → i ≤ 0 → former_from text tape n i k ≡ None
   unfolding former_from
   search_ends zero k h = refl
   search_ends (suc i) k h = absurd (omega arith)

@@ -4,6 +4,7 @@ use Prim.Native.Nat.{ℕ, zero, suc, ◌+◌, ◌<◌}
 use native.Mathlib.Omega.{arith}
 use mathlib.Core.Bool.{Bool, true, false, cond, ◌&&◌}
 use mathlib.Core.List.{List, [], ◌∷◌}
+use Rattle.std.proofs.Common.{None, Some}
 use mathlib.Core.Path.{◌≡◌, ap, refl, subst, sym, ◌∙◌}
 use lib.Dec.{eqb}
 use lib.ListN.{drop}
@@ -20,9 +21,6 @@ use Rattle.fields.specs.Names.{name_at}
 use Rattle.opened.specs.Brackets.{side_at, behind_entry, open_brackets, innermost}
 use Rattle.opened.specs.Former.{is_field, is_former, by_side, former_from, former_of}
 use Rattle.opened.specs.Opens.{NamedBefore}
-use Rattle.opened.specs.declared.brackets.Innermost.TheVariants.{Entry as AtBracket}
-use Rattle.opened.specs.declared.former.Former.{Former}
-use Rattle.opened.specs.declared.former.Former.TheVariants.{Nowhere, Entry}
 use Rattle.opened.proofs.BracketLaws.{behind_others, innermost_before}
 use Rattle.opened.proofs.BracketLaws as brackets
 use Rattle.fields.proofs.SameLaws.{same_is, same_self}
@@ -42,8 +40,8 @@ module _ (text tape : List ℕ) (n : ℕ) where
   abbrev Found : ℕ → ℕ → ℕ → Type 0
   Found i k j = (j < i) × (is_field tape j ≡ true) × (name_at text tape j ≡ name_at text tape n) × (innermost tape j ≡ behind_others (open_brackets tape i) k)
 
-  found_here : (i k j : ℕ) (t : Bool) → side_at tape i ≡ Neither → is_former text tape n i k ≡ t → (former_from text tape n i k ≡ Entry j → Found i k j)
-      → cond t (Entry i) (former_from text tape n i k) ≡ Entry j → Found (suc i) k j
+  found_here : (i k j : ℕ) (t : Bool) → side_at tape i ≡ Neither → is_former text tape n i k ≡ t → (former_from text tape n i k ≡ Some j → Found i k j)
+      → cond t (Some i) (former_from text tape n i k) ≡ Some j → Found (suc i) k j
   found_here i k j true e q rest h =
       let f = former_is i k q in
       let z : i ≡ j = cc in
@@ -55,8 +53,8 @@ module _ (text tape : List ℕ) (n : ℕ) where
       let b = rest h in
       (omega (arith, b.0), b.1, b.2, b.3 ∙ sym (brackets.search_neither tape (suc i) i k refl e))
 
-  found_by : (i k j : ℕ) (x : Side) → side_at tape i ≡ x → ((m : ℕ) → former_from text tape n i m ≡ Entry j → Found i m j)
-      → by_side text tape n x i k (former_from text tape n i) ≡ Entry j → Found (suc i) k j
+  found_by : (i k j : ℕ) (x : Side) → side_at tape i ≡ x → ((m : ℕ) → former_from text tape n i m ≡ Some j → Found i m j)
+      → by_side text tape n x i k (former_from text tape n i) ≡ Some j → Found (suc i) k j
   found_by i zero j Opens e rest h = let z : ◌≡◌ {A = ℕ} 0 1 = cc in absurd (omega arith)
   found_by i (suc k) j Opens e rest h =
       let b = rest k h in
@@ -66,12 +64,12 @@ module _ (text tape : List ℕ) (n : ℕ) where
       (omega (arith, b.0), b.1, b.2, b.3 ∙ sym (brackets.search_closes tape (suc i) i k refl (suc k) e refl))
   found_by i k j Neither e rest h = found_here i k j (is_former text tape n i k) e refl (λ g. rest k g) h
 
-  found_from : (i k j : ℕ) → former_from text tape n i k ≡ Entry j → Found i k j
+  found_from : (i k j : ℕ) → former_from text tape n i k ≡ Some j → Found i k j
   unfolding former_from
   found_from zero k j h = let z : ◌≡◌ {A = ℕ} 0 1 = cc in absurd (omega arith)
   found_from (suc i) k j h = found_by i k j (side_at tape i) refl (λ m g. found_from i m j g) h
 
-  pub former_means : (i : ℕ) → former_of text tape n ≡ Entry i → NamedBefore text tape n i
+  pub former_means : (i : ℕ) → former_of text tape n ≡ Some i → NamedBefore text tape n i
   unfolding former_of
   former_means i h =
       let f = found_from n 0 i h in
@@ -101,13 +99,13 @@ falls_by n Opens os f = (omega arith, f)
 falls_by n Closes os f = falls_one n os f
 falls_by n Neither os f = falls_on n os f
 
-falls_entry : (n : ℕ) (os : List ℕ) (k b : ℕ) → Falls n os → behind_others os k ≡ AtBracket b → b < n
+falls_entry : (n : ℕ) (os : List ℕ) (k b : ℕ) → Falls n os → behind_others os k ≡ Some b → b < n
 falls_entry n [] k b f h = let z : ◌≡◌ {A = ℕ} 0 1 = cc in absurd (omega arith)
 falls_entry n (i ∷ os) zero b f h = let z : i ≡ b = cc in omega (arith, f.0)
 falls_entry n (i ∷ os) (suc k) b f h = let l = falls_entry i os k b f.1 h in omega (arith, f.0)
 
 -- no bracket is both the innermost and one around it
-falls_apart : (n : ℕ) (os : List ℕ) (k b : ℕ) → Falls n os → behind_others os 0 ≡ AtBracket b → behind_others os k ≡ AtBracket b → k ≡ 0
+falls_apart : (n : ℕ) (os : List ℕ) (k b : ℕ) → Falls n os → behind_others os 0 ≡ Some b → behind_others os k ≡ Some b → k ≡ 0
 falls_apart n os zero b f g h = refl
 falls_apart n [] (suc k) b f g h = let z : ◌≡◌ {A = ℕ} 0 1 = cc in absurd (omega arith)
 falls_apart n (i ∷ os) (suc k) b f g h = let z : i ≡ b = cc in absurd (omega (arith, falls_entry i os k b f.1 h))
@@ -128,7 +126,7 @@ module _ (tape : List ℕ) where
 module _ (text tape : List ℕ) (n b : ℕ) where
   -- entry m is no field of that name in the bracket of entry b
   abbrev Not : ℕ → Type 0
-  Not m = is_field tape m ≡ true → name_at text tape m ≡ name_at text tape n → innermost tape m ≡ AtBracket b → ⊥
+  Not m = is_field tape m ≡ true → name_at text tape m ≡ name_at text tape n → innermost tape m ≡ Some b → ⊥
 
   abbrev Passed : ℕ → Type 0
   Passed i = (j : ℕ) → j < i → Not j
@@ -139,8 +137,8 @@ module _ (text tape : List ℕ) (n b : ℕ) where
   passed_side : (i : ℕ) (x : Side) → side_at tape i ≡ x → (x ≡ Neither → ⊥) → Not i
   passed_side i x e other f a t = other (sym e ∙ field_neither tape i f)
 
-  passed_here : (i k : ℕ) (q : Bool) → behind_others (open_brackets tape i) k ≡ AtBracket b → is_former text tape n i k ≡ q
-      → (former_from text tape n i k ≡ Nowhere → Passed i) → cond q (Entry i) (former_from text tape n i k) ≡ Nowhere → Passed (suc i)
+  passed_here : (i k : ℕ) (q : Bool) → behind_others (open_brackets tape i) k ≡ Some b → is_former text tape n i k ≡ q
+      → (former_from text tape n i k ≡ None → Passed i) → cond q (Some i) (former_from text tape n i k) ≡ None → Passed (suc i)
   passed_here i k true h e rest g = let z : ◌≡◌ {A = ℕ} 0 1 = cc in absurd (omega arith)
   passed_here i k false h e rest g =
       passed_more i (rest g) (λ f a t.
@@ -150,10 +148,10 @@ module _ (text tape : List ℕ) (n b : ℕ) where
       let z : ◌≡◌ {A = ℕ} 0 1 = cc in absurd (omega arith))
 
   passed_by : (i k : ℕ) (x : Side) → side_at tape i ≡ x
-      → ((m : ℕ) → behind_others (open_brackets tape i) m ≡ AtBracket b → former_from text tape n i m ≡ Nowhere → Passed i)
-      → behind_others (open_brackets tape (suc i)) k ≡ AtBracket b → by_side text tape n x i k (former_from text tape n i) ≡ Nowhere → Passed (suc i)
+      → ((m : ℕ) → behind_others (open_brackets tape i) m ≡ Some b → former_from text tape n i m ≡ None → Passed i)
+      → behind_others (open_brackets tape (suc i)) k ≡ Some b → by_side text tape n x i k (former_from text tape n i) ≡ None → Passed (suc i)
   passed_by i zero Opens e rest h g = λ j l f a t.
-      let at : AtBracket i ≡ AtBracket b = sym (brackets.search_found tape (suc i) i 0 refl e refl) ∙ h in
+      let at : Some i ≡ Some b = sym (brackets.search_found tape (suc i) i 0 refl e refl) ∙ h in
       let z : i ≡ b = cc in
       absurd (omega (arith, (innermost_before tape j b t).0))
   passed_by i (suc k) Opens e rest h g =
@@ -163,14 +161,14 @@ module _ (text tape : List ℕ) (n b : ℕ) where
       passed_more i (rest (suc k) (sym (brackets.search_closes tape (suc i) i k refl (suc k) e refl) ∙ h) g)
       (passed_side i Closes e (λ q. let z : ◌≡◌ {A = ℕ} 0 1 = cc in absurd (omega arith)))
   passed_by i k Neither e rest h g =
-      let there : behind_others (open_brackets tape i) k ≡ AtBracket b = sym (brackets.search_neither tape (suc i) i k refl e) ∙ h in
+      let there : behind_others (open_brackets tape i) k ≡ Some b = sym (brackets.search_neither tape (suc i) i k refl e) ∙ h in
       passed_here i k (is_former text tape n i k) there refl (λ q. rest k there q) g
 
-  passed_from : (i k : ℕ) → behind_others (open_brackets tape i) k ≡ AtBracket b → former_from text tape n i k ≡ Nowhere → Passed i
+  passed_from : (i k : ℕ) → behind_others (open_brackets tape i) k ≡ Some b → former_from text tape n i k ≡ None → Passed i
   unfolding former_from
   passed_from zero k h g = λ j l f a t. absurd (omega arith)
   passed_from (suc i) k h g = passed_by i k (side_at tape i) refl (λ m p q. passed_from i m p q) h g
 
-  pub former_finds : innermost tape n ≡ AtBracket b → former_of text tape n ≡ Nowhere → (i : ℕ) → NamedBefore text tape n i → ⊥
+  pub former_finds : innermost tape n ≡ Some b → former_of text tape n ≡ None → (i : ℕ) → NamedBefore text tape n i → ⊥
   unfolding former_of
   former_finds h g i m = passed_from n 0 (brackets.search_starts tape n ∙ h) g i m.before m.is-field m.alike (m.together ∙ h)

@@ -7,15 +7,6 @@ use crate::begun::Begun;
 use grammar::kinds::{Side, kind_of, side_of};
 use rows::{kinds, row};
 
-// The innermost bracket that is open, if one is.
-#[derive(Clone, Copy)]
-pub enum Innermost {
-    // No bracket is open.
-    Outside,
-    // The number of the opening bracket's entry.
-    Entry(usize),
-}
-
 // The side of entry i.
 pub fn side_at(tape: &[u32], i: usize) -> Side
     requires { i < room_of (length tape.now) }
@@ -24,20 +15,18 @@ pub fn side_at(tape: &[u32], i: usize) -> Side
     side_of(kind_of(row::entry(tape, i).kind))
 }
 
-// The innermost bracket that is open behind n entries: from there back, what is closed behind an opening bracket is passed over.
-fn innermost_open(tape: &[u32], n: usize) -> Innermost
+// The number of the innermost open bracket's entry behind n entries: from there back, what is closed behind an opening bracket is passed over.
+fn innermost_open(tape: &[u32], n: usize) -> Option<usize>
     requires { n ≤ room_of (length tape.now) }
     ensures { result ≡ innermost tape.now n }
 {
     let mut closed: usize = 0;
-    let mut i = n;
-    while 0 < i {
-        i -= 1;
+    for i in (0..n).rev() {
         let side = side_at(tape, i);
         match side {
             Side::Opens => {
                 if closed == 0 {
-                    return Innermost::Entry(i);
+                    return Some(i);
                 }
                 closed -= 1;
             }
@@ -47,7 +36,7 @@ fn innermost_open(tape: &[u32], n: usize) -> Innermost
             Side::Neither => {}
         }
     }
-    Innermost::Outside
+    None
 }
 
 // A closing bracket, but not of the kind that the opening one needs.
@@ -79,10 +68,9 @@ pub fn open_behind(tape: &[u32], n: usize) -> Begun
     requires { n ≤ room_of (length tape.now) }
     ensures { result ≡ open_behind tape.now n }
 {
-    let found = innermost_open(tape, n);
-    match found {
-        Innermost::Outside => Begun::Nothing,
-        Innermost::Entry(i) => bracket_at(tape, i),
+    match innermost_open(tape, n) {
+        None => Begun::Nothing,
+        Some(i) => bracket_at(tape, i),
     }
 }
 
@@ -91,10 +79,9 @@ pub fn other_before(tape: &[u32], n: usize) -> Begun
     requires { n < room_of (length tape.now) }
     ensures { result ≡ other_before tape.now n }
 {
-    let found = innermost_open(tape, n);
-    match found {
-        Innermost::Outside => Begun::Nothing,
-        Innermost::Entry(i) => {
+    match innermost_open(tape, n) {
+        None => Begun::Nothing,
+        Some(i) => {
             if closes_other(row::entry(tape, i).kind, row::entry(tape, n).kind) {
                 return bracket_at(tape, i);
             }

@@ -13,14 +13,6 @@ use grammar::kinds::Side;
 use lines::part;
 use rows::{Entry, kinds, row};
 
-// The field of that name, if one stands before.
-#[derive(Clone, Copy)]
-pub enum Former {
-    Nowhere,
-    // The number of the entry that names it.
-    Entry(usize),
-}
-
 // The name of an entry, as far as the text has it.
 fn name_of(text: &[u8], e: Entry) -> &[u8]
     ensures { result.now ≡ name_of text.now e }
@@ -68,20 +60,18 @@ fn is_former(text: &[u8], tape: &[u32], n: usize, i: usize, closed: usize) -> bo
     false
 }
 
-// The field before entry n: from there back, what is closed is passed over, up to the bracket that is open.
-fn former_of(text: &[u8], tape: &[u32], n: usize) -> Former
+// The number of the entry that names the field before entry n: from there back, what is closed is passed over, up to the bracket that is open.
+fn former_of(text: &[u8], tape: &[u32], n: usize) -> Option<usize>
     requires { n < room_of (length tape.now) }
     ensures { result ≡ former_of text.now tape.now n }
 {
     let mut closed: usize = 0;
-    let mut i = n;
-    while 0 < i {
-        i -= 1;
+    for i in (0..n).rev() {
         let side = side_at(tape, i);
         match side {
             Side::Opens => {
                 if closed == 0 {
-                    return Former::Nowhere;
+                    return None;
                 }
                 closed -= 1;
             }
@@ -90,12 +80,12 @@ fn former_of(text: &[u8], tape: &[u32], n: usize) -> Former
             }
             Side::Neither => {
                 if is_former(text, tape, n, i, closed) {
-                    return Former::Entry(i);
+                    return Some(i);
                 }
             }
         }
     }
-    Former::Nowhere
+    None
 }
 
 fn field_at(tape: &[u32], i: usize) -> Begun
@@ -111,9 +101,8 @@ pub fn field_before(text: &[u8], tape: &[u32], n: usize) -> Begun
     requires { n < room_of (length tape.now) }
     ensures { result ≡ field_before text.now tape.now n }
 {
-    let found = former_of(text, tape, n);
-    match found {
-        Former::Nowhere => Begun::Nothing,
-        Former::Entry(i) => field_at(tape, i),
+    match former_of(text, tape, n) {
+        None => Begun::Nothing,
+        Some(i) => field_at(tape, i),
     }
 }

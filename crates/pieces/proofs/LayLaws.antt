@@ -1,12 +1,11 @@
 -- Rows at their places in the text, and bytes to the front of a buffer: what is left to write gives the whole. Assumes nothing.
 use Prim.Native.Nat.{ℕ, suc, zero, ◌+◌, ◌-◌, ◌*◌, ◌<◌, ◌≤◌}
-use native.Mathlib.Numerals.{add-one}
 use native.Mathlib.Omega.{arith}
 use mathlib.Core.Bool.{true}
-use mathlib.Core.List.{List, [], ◌∷◌, ◌++◌, map, append_assoc}
+use mathlib.Core.List.{List, [], ◌∷◌, ◌++◌, map}
 use mathlib.Core.Path.{◌≡◌, ap, ap₂, refl, sym, subst, ◌∙◌}
-use lib.ListN.{drop, get_or, length, set, take, take-append-drop, length-drop}
-use lib.Seq.{drop_at, drop-cons, get_or-append-add, get_or-drop, length-take-le, set_at, take-nil, take-suc}
+use lib.ListN.{drop, length, take, take-append-drop, length-drop}
+use lib.Seq.{drop_at, length-take-le, paste, take-nil}
 use borrow.Author.Tests.{le-leb}
 use Rattle.read.proofs.PassLaws.{split_reading}
 use Rattle.reading.proofs.Entries.{read_in_order}
@@ -32,30 +31,12 @@ fronted from i s = take i (drop from s) ++ drop i s
 pub nothing_moves : (s : List ℕ) (from n : ℕ) → from ≡ 0 → s ≡ fronted from n s
 nothing_moves s from n e = sym (ap (λ (k : ℕ). fronted k n s) e ∙ take-append-drop n s)
 
-module _ (from i : ℕ) (s : List ℕ) (h : from + i < length s) where
-  front_long : length (take i (drop from s)) ≡ i
-  front_long = length-take-le i (drop from s) (omega (arith, length-drop from s))
-
-  -- the byte that comes next is still there
-  pub front_reads : get_or (fronted from i s) (from + i) 0 ≡ get_or s (from + i) 0
-  front_reads =
-      let f : List ℕ = take i (drop from s) in
-      let z : from + i ≡ length f + from = omega (arith, front_long) in
-      let y : i + from ≡ from + i = omega arith in
-      ap (λ (k : ℕ). get_or (f ++ drop i s) k 0) z ∙ get_or-append-add f (drop i s) from 0 ∙ get_or-drop i s from 0 ∙ ap (λ (k : ℕ). get_or s k 0) y
-
-  -- one more at the front
-  pub front_goes : set (fronted from i s) i (get_or (fronted from i s) (from + i) 0) ≡ fronted from (i + 1) s
-  front_goes =
-      let f : List ℕ = take i (drop from s) in
-      let b : ℕ = get_or s (from + i) 0 in
-      let next : take (i + 1) (drop from s) ≡ f ++ (b ∷ []) =
-      rw (add-one i) (take-suc (drop from s) i 0 (omega (arith, length-drop from s)) ∙ ap (λ (x : ℕ). f ++ (x ∷ [])) (get_or-drop from s i 0)) in
-      let rest : drop i s ≡ get_or s i 0 ∷ drop (i + 1) s = rw (add-one i) (drop-cons s i 0 (omega arith)) in
-      ap (set (f ++ drop i s) i) front_reads
-      ∙ ap (λ (l : List ℕ). set (f ++ l) i b) rest
-      ∙ set_at f (get_or s i 0) (drop (i + 1) s) b i front_long
-      ∙ sym (ap (λ (l : List ℕ). l ++ drop (i + 1) s) next ∙ append_assoc f (b ∷ []) (drop (i + 1) s))
+-- the bytes of a range, copied to the front
+pub copied_front : (s : List ℕ) (from n : ℕ) → paste s 0 (drop from s) (from + n - from) ≡ fronted from n s
+copied_front s from n =
+    let z : from + n - from ≡ n = omega arith in
+    let y : 0 + n ≡ n = omega arith in
+    ap (λ (k : ℕ). paste s 0 (drop from s) k) z ∙ ap (λ (k : ℕ). take n (drop from s) ++ drop k s) y
 
 -- ---- rows at their places
 

@@ -1,19 +1,7 @@
 // What is kept, to the front of the buffer.
 ghost use Rattle.std.specs.Prelude.{◌≡◌, ◌++◌, ◌+◌, ◌≤◌, length, drop, take};
 
-// The n bytes from a place on to the front; behind them the buffer stays as it was.
-fn shift(buffer: &mut [u8], from: usize, n: usize)
-    requires { from + n ≤ length buffer.old }
-    ensures { buffer.new ≡ take n (drop from buffer.old) ++ drop n buffer.old }
-{
-    let mut i: usize = 0;
-    while i < n {
-        buffer[i] = buffer[from + i];
-        i += 1;
-    }
-}
-
-// The same; what stands at the front already is not copied.
+// The n bytes from a place on to the front; behind them the buffer stays as it was. What stands at the front already is not copied.
 pub fn keep(buffer: &mut [u8], from: usize, n: usize)
     requires { from + n ≤ length buffer.old }
     ensures { buffer.new ≡ take n (drop from buffer.old) ++ drop n buffer.old }
@@ -21,5 +9,5 @@ pub fn keep(buffer: &mut [u8], from: usize, n: usize)
     if from == 0 {
         return;
     }
-    shift(buffer, from, n);
+    buffer.copy_within(from..from + n, 0);
 }

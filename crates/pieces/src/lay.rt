@@ -14,9 +14,8 @@ fn place_rows(tape: &mut [u32], n: usize, base: usize, former: usize, from: usiz
     requires { (n ≤ room_of (length tape.old)) × (in_order_from (entries_of n tape.old) from limit ≡ true) × (former ≤ base + from) × (base + limit < 2 ^ 32) }
     ensures { tape.new ≡ laid (gapped former (map (moved_to base) (entries_of n tape.old))) tape.old }
 {
-    let mut i: usize = 0;
     let mut behind = former;
-    while i < n {
+    for i in 0..n {
         let e = row::entry(&tape[..], i);
         let start = base + e.start as usize;
         let end = base + e.end as usize;
@@ -30,7 +29,6 @@ fn place_rows(tape: &mut [u32], n: usize, base: usize, former: usize, from: usiz
         };
         row::write(tape, i, placed);
         behind = end;
-        i += 1;
     }
 }
 

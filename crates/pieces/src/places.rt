@@ -5,17 +5,11 @@ ghost use Rattle.pieces.specs.Come.{later as laterOf, sooner as soonerOf};
 pub fn later(a: usize, b: usize) -> usize
     ensures { result ≡ laterOf a b }
 {
-    if a <= b {
-        return b;
-    }
-    a
+    a.max(b)
 }
 
 pub fn sooner(a: usize, b: usize) -> usize
     ensures { result ≡ soonerOf a b }
 {
-    if a <= b {
-        return a;
-    }
-    b
+    a.min(b)
 }

@@ -26,12 +26,10 @@ fn behind_deciders(part: &[u8], from: usize) -> usize
     requires { from ≤ length part.now }
     ensures { result ≡ behind_deciders part.now from }
 {
-    let mut i = part.len();
-    while from < i {
-        if is_decider(part[i - 1]) {
-            return i;
+    for i in (from..part.len()).rev() {
+        if is_decider(part[i]) {
+            return i + 1;
         }
-        i -= 1;
     }
     from
 }

@@ -25,14 +25,12 @@ fn next_stop(part: &[u8], from: usize) -> usize
     requires { from ≤ length part.now }
     ensures { result ≡ next_stop part.now from }
 {
-    let mut i = from;
-    while i < part.len() {
+    for i in from..part.len() {
         if is_stop(part[i]) {
             return i;
         }
-        i += 1;
     }
-    i
+    part.len()
 }
 
 // Behind the last stop byte that stands at a place or behind it; that place where there is none.
@@ -40,12 +38,10 @@ fn behind_stops(part: &[u8], from: usize) -> usize
     requires { from ≤ length part.now }
     ensures { result ≡ behind_stops part.now from }
 {
-    let mut i = part.len();
-    while from < i {
-        if is_stop(part[i - 1]) {
-            return i;
+    for i in (from..part.len()).rev() {
+        if is_stop(part[i]) {
+            return i + 1;
         }
-        i -= 1;
     }
     from
 }

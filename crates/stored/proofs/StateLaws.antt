@@ -2,6 +2,7 @@
 use Prim.Native.Nat.{ℕ, ◌<◌, ◌≤◌}
 use mathlib.Core.Bool.{Bool, true, false, cond, ◌||◌}
 use mathlib.Core.List.{List}
+use Rattle.std.proofs.Common.{Option, None, Some}
 use mathlib.Core.Path.{◌≡◌, refl, sym, ap, ◌∙◌}
 use lib.Dec.{ltb}
 use lib.ListN.{get_or}
@@ -9,8 +10,6 @@ use borrow.Author.Tests.{lt-ltb, le-ltb}
 use Rattle.gaps.specs.declared.state.Open.{Open}
 use Rattle.pieces.specs.declared.state.Arrival.{Arrival}
 use Rattle.stored.specs.Numbers.{gap_of, numbered, state_by, state_of}
-use Rattle.stored.specs.declared.states.Gap.{Gap}
-use Rattle.stored.specs.declared.states.Gap.TheVariants as gap
 use Rattle.stored.specs.declared.states.Stored.{Stored}
 use Rattle.stored.specs.declared.states.Stored.TheVariants as stored
 
@@ -20,19 +19,19 @@ state_with taken kept part former o number reason place =
     record { taken = taken; kept = kept; part = part; former = former; gap = o; refusal = record { number = number; reason = reason; place = place } }
 
 module _ (s : List ℕ) (kept : ℕ) where
-  abbrev gap_in : Gap
+  abbrev gap_in : Option Open
   gap_in = gap_of (get_or s 2 0) (get_or s 3 0) (get_or s 4 0)
 
   -- what the code found is open
-  pub gap-in : (g : Gap) (a b d : ℕ) → g ≡ gap_of a b d → a ≡ get_or s 2 0 → b ≡ get_or s 3 0 → d ≡ get_or s 4 0 → g ≡ gap_in
+  pub gap-in : (g : Option Open) (a b d : ℕ) → g ≡ gap_of a b d → a ≡ get_or s 2 0 → b ≡ get_or s 3 0 → d ≡ get_or s 4 0 → g ≡ gap_in
   gap-in g a b d e p q r =
       e ∙ ap (λ (x : ℕ). gap_of x b d) p ∙ ap (λ (x : ℕ). gap_of (get_or s 2 0) x d) q ∙ ap (gap_of (get_or s 2 0) (get_or s 3 0)) r
 
-  pub no_gap : (g : Gap) → g ≡ gap_in → g ≡ gap.Unfit → stored.Unfit ≡ state_of s kept
+  pub no_gap : (g : Option Open) → g ≡ gap_in → g ≡ None → stored.Unfit ≡ state_of s kept
   unfolding state_of
-  no_gap g e f = sym (ap (λ (x : Gap). state_by x s kept) (sym e ∙ f))
+  no_gap g e f = sym (ap (λ (x : Option Open). state_by x s kept) (sym e ∙ f))
 
-  module _ (g : Gap) (o : Open) (e : g ≡ gap_in) (f : g ≡ gap.Stands o) where
+  module _ (g : Option Open) (o : Open) (e : g ≡ gap_in) (f : g ≡ Some o) where
     -- by whether the refusal's number and reason are below 256
     abbrev by_small : Bool → Bool → Stored
     by_small a b = cond (a || b) stored.Unfit (stored.State (numbered s kept o))
@@ -41,7 +40,7 @@ module _ (s : List ℕ) (kept : ℕ) where
     unfolding state_of
     by-gap a b p q =
         sym (ap (λ (x : Bool). by_small x b) p) ∙ sym (ap (by_small (ltb 255 (get_or s 5 0))) q)
-        ∙ sym (ap (λ (x : Gap). state_by x s kept) (sym e ∙ f))
+        ∙ sym (ap (λ (x : Option Open). state_by x s kept) (sym e ∙ f))
 
     pub no_number : (n : ℕ) → n ≡ get_or s 5 0 → 255 < n → stored.Unfit ≡ state_of s kept
     no_number n p h = by-gap true (ltb 255 (get_or s 7 0)) (ap (ltb 255) (sym p) ∙ lt-ltb 255 n h) refl

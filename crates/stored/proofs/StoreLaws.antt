@@ -1,10 +1,12 @@
--- Numbers at the front of a slice. Assumes nothing.
+-- Numbers of 32 bits, and those at the front of a slice. Assumes nothing.
 use Prim.Native.Nat.{ℕ, ◌-◌, ◌^◌, ◌<◌, ◌≤◌}
 use native.Mathlib.Omega.{arith}
 use mathlib.Core.List.{List, [], ◌∷◌, ◌++◌}
-use mathlib.Core.Path.{◌≡◌, ap, refl, sym, ◌∙◌}
-use lib.ListN.{drop, length, set}
+use mathlib.Core.Path.{◌≡◌, ap, sym, ◌∙◌}
+use lib.ListN.{drop, length}
 use borrow.Author.Tests.{le-leb, le-ltb, lt-leb, lt-ltb}
+use Rattle.std.proofs.Common.{Result, Ok, Err}
+use Rattle.std.specs.Result.{OkIff, result_unwrap_or}
 use Rattle.pieces.specs.declared.state.Arrival.{Arrival}
 use Rattle.stored.specs.Numbers.{gap_number, last_number, level_number, low, numbers_of, stored_in}
 
@@ -16,21 +18,10 @@ pub low_high : (n : ℕ) → 2 ^ 32 - 1 < n → low n ≡ 2 ^ 32 - 1
 unfolding low
 low_high n h = rw (lt-ltb _ _ h)
 
--- ten stores, one behind the other
-pub ten_stores : (a b c d e f g h i j : ℕ) (s : List ℕ) → 10 ≤ length s
-    → set (set (set (set (set (set (set (set (set (set s 0 a) 1 b) 2 c) 3 d) 4 e) 5 f) 6 g) 7 h) 8 i) 9 j
-    ≡ (a ∷ b ∷ c ∷ d ∷ e ∷ f ∷ g ∷ h ∷ i ∷ j ∷ []) ++ drop 10 s
-ten_stores a b c d e f g h i j [] l = absurd (omega arith)
-ten_stores a b c d e f g h i j (_ ∷ []) l = absurd (omega arith)
-ten_stores a b c d e f g h i j (_ ∷ _ ∷ []) l = absurd (omega arith)
-ten_stores a b c d e f g h i j (_ ∷ _ ∷ _ ∷ []) l = absurd (omega arith)
-ten_stores a b c d e f g h i j (_ ∷ _ ∷ _ ∷ _ ∷ []) l = absurd (omega arith)
-ten_stores a b c d e f g h i j (_ ∷ _ ∷ _ ∷ _ ∷ _ ∷ []) l = absurd (omega arith)
-ten_stores a b c d e f g h i j (_ ∷ _ ∷ _ ∷ _ ∷ _ ∷ _ ∷ []) l = absurd (omega arith)
-ten_stores a b c d e f g h i j (_ ∷ _ ∷ _ ∷ _ ∷ _ ∷ _ ∷ _ ∷ []) l = absurd (omega arith)
-ten_stores a b c d e f g h i j (_ ∷ _ ∷ _ ∷ _ ∷ _ ∷ _ ∷ _ ∷ _ ∷ []) l = absurd (omega arith)
-ten_stores a b c d e f g h i j (_ ∷ _ ∷ _ ∷ _ ∷ _ ∷ _ ∷ _ ∷ _ ∷ _ ∷ []) l = absurd (omega arith)
-ten_stores a b c d e f g h i j (_ ∷ _ ∷ _ ∷ _ ∷ _ ∷ _ ∷ _ ∷ _ ∷ _ ∷ _ ∷ s) l = refl
+-- the number that a conversion to 32 bits gives, or the largest of them
+pub low_by : {E : Type 0} (r : Result ℕ E) (n : ℕ) → OkIff r (n < 2 ^ 32) n → result_unwrap_or r (2 ^ 32 - 1) ≡ low n
+low_by (Ok x) n o = o.1 ∙ sym (low_low n (omega (arith, o.0)))
+low_by (Err e) n o = sym (low_high n (omega (arith, o)))
 
 module _ (a : Arrival) (s : List ℕ) where
   pub stored_short : length s < 10 → s ≡ stored_in a s
@@ -45,8 +36,8 @@ module _ (a : Arrival) (s : List ℕ) where
   pub stored_ten : 10 ≤ length s → (taken part gap level last number place reason former kept : ℕ) → taken ≡ low a.taken → part ≡ low a.part → gap ≡ gap_number a.gap
       → level ≡ level_number a.gap → last ≡ last_number a.gap → number ≡ a.refusal.number → place ≡ low a.refusal.place → reason ≡ a.refusal.reason
       → former ≡ low a.former → kept ≡ low a.kept
-      → set (set (set (set (set (set (set (set (set (set s 0 taken) 1 part) 2 gap) 3 level) 4 last) 5 number) 6 place) 7 reason) 8 former) 9 kept ≡ stored_in a s
+      → (taken ∷ part ∷ gap ∷ level ∷ last ∷ number ∷ place ∷ reason ∷ former ∷ kept ∷ []) ++ drop 10 s ≡ stored_in a s
   unfolding numbers_of
   stored_ten l taken part gap level last number place reason former kept e f g h i j k m n o =
       let same : (taken ∷ part ∷ gap ∷ level ∷ last ∷ number ∷ place ∷ reason ∷ former ∷ kept ∷ []) ≡ numbers_of a = cc in
-      ten_stores taken part gap level last number place reason former kept s l ∙ ap (λ (x : List ℕ). x ++ drop 10 s) same ∙ sym (stored_long l)
+      ap (λ (x : List ℕ). x ++ drop 10 s) same ∙ sym (stored_long l)

@@ -1,26 +1,24 @@
 -- A state as numbers (docs/ARRIVAL.md: "plain numbers and bytes, which a host may store over a loss of power"). Nine of them,
 -- `taken,part,gap,level,last,number,place,reason,former`, and how many bytes are kept. gap is 0 where nothing is open, 1 behind a `/`, 2 in a line comment, 3 in a
 -- block comment, with `level` others around it and `last` its last byte.
-use Rattle.std.specs.Prelude.{ℕ, ◌-◌, ◌^◌, cond, ◌&&◌, ◌||◌, List, [], ◌∷◌, ◌++◌, eqb, leb, ltb, drop, get_or, length}
+use Rattle.std.specs.Prelude.{ℕ, ◌-◌, ◌^◌, cond, ◌&&◌, ◌||◌, List, [], ◌∷◌, ◌++◌, Option, None, Some, eqb, leb, ltb, drop, get_or, length}
 use Rattle.gaps.specs.declared.state.Open.{Open}
 use Rattle.gaps.specs.declared.state.Open.TheVariants.{Clear, Slash, Line, Block}
 use Rattle.pieces.specs.declared.state.Arrival.{Arrival}
-use Rattle.stored.specs.declared.states.Gap.{Gap}
-use Rattle.stored.specs.declared.states.Gap.TheVariants as gap
 use Rattle.stored.specs.declared.states.Stored.{Stored}
 use Rattle.stored.specs.declared.states.Stored.TheVariants as stored
 
 -- ---- read
 
 -- What is open where there is no block comment.
-abbrev pub plain_of : ℕ → Gap
-plain_of n = cond (eqb n 0) (gap.Stands Clear) (cond (eqb n 1) (gap.Stands Slash) (cond (eqb n 2) (gap.Stands Line) gap.Unfit))
+abbrev pub plain_of : ℕ → Option Open
+plain_of n = cond (eqb n 0) (Some Clear) (cond (eqb n 1) (Some Slash) (cond (eqb n 2) (Some Line) None))
 
 -- What three numbers say is open: only a block comment has a level and a last byte, which is below 256.
-unfoldable pub gap_of : ℕ → ℕ → ℕ → Gap
+unfoldable pub gap_of : ℕ → ℕ → ℕ → Option Open
 gap_of n level last =
-    cond (eqb n 3) (cond (ltb 255 last) gap.Unfit (gap.Stands (Block level last)))
-    (cond (eqb level 0 && eqb last 0) (plain_of n) gap.Unfit)
+    cond (eqb n 3) (cond (ltb 255 last) None (Some (Block level last)))
+    (cond (eqb level 0 && eqb last 0) (plain_of n) None)
 
 -- The state that nine numbers say, with so many bytes kept.
 abbrev pub numbered : List ℕ → ℕ → Open → Arrival
@@ -35,9 +33,9 @@ numbered s kept o =
     }
 
 -- The same where the gap is known: a refusal's number and reason are below 256.
-abbrev pub state_by : Gap → List ℕ → ℕ → Stored
-state_by (gap.Stands o) s kept = cond (ltb 255 (get_or s 5 0) || ltb 255 (get_or s 7 0)) stored.Unfit (stored.State (numbered s kept o))
-state_by gap.Unfit s kept = stored.Unfit
+abbrev pub state_by : Option Open → List ℕ → ℕ → Stored
+state_by (Some o) s kept = cond (ltb 255 (get_or s 5 0) || ltb 255 (get_or s 7 0)) stored.Unfit (stored.State (numbered s kept o))
+state_by None s kept = stored.Unfit
 
 -- What nine numbers say.
 unfoldable pub state_of : List ℕ → ℕ → Stored

@@ -6,13 +6,6 @@ use gaps::Open;
 use pieces::state::Arrival;
 use text::Refusal;
 
-// What is open, by three numbers; or they say nothing.
-#[derive(Clone, Copy)]
-enum Gap {
-    Stands(Open),
-    Unfit,
-}
-
 // The state that numbers say; or numbers that no state has.
 #[derive(Clone, Copy)]
 pub enum Stored {
@@ -24,58 +17,53 @@ pub enum Stored {
 fn number(s: &[u32], i: usize) -> u32
     ensures { result ≡ get_or s.now i 0 }
 {
-    if i < s.len() {
-        return s[i];
-    }
-    0
+    s.get(i).copied().unwrap_or(0)
 }
 
-fn gap_of(gap: u32, level: u32, last: u32) -> Gap
+// What is open, by three numbers, if they say that.
+fn gap_of(gap: u32, level: u32, last: u32) -> Option<Open>
     ensures { result ≡ gap_of gap level last }
 {
     if gap == 3 {
-        if 255 < last {
-            return Gap::Unfit;
-        }
-        return Gap::Stands(Open::Block(level, last as u8));
+        let Ok(last) = u8::try_from(last) else {
+            return None;
+        };
+        return Some(Open::Block(level, last));
     }
     if level != 0 {
-        return Gap::Unfit;
+        return None;
     }
     if last != 0 {
-        return Gap::Unfit;
+        return None;
     }
     if gap == 0 {
-        return Gap::Stands(Open::Clear);
+        return Some(Open::Clear);
     }
     if gap == 1 {
-        return Gap::Stands(Open::Slash);
+        return Some(Open::Slash);
     }
     if gap == 2 {
-        return Gap::Stands(Open::Line);
+        return Some(Open::Line);
     }
-    Gap::Unfit
+    None
 }
 
 // The state that nine numbers say, with so many bytes kept.
 pub fn state_of(s: &[u32], kept: usize) -> Stored
     ensures { result ≡ state_of s.now kept }
 {
-    let gap = gap_of(number(s, 2), number(s, 3), number(s, 4));
-    let Gap::Stands(open) = gap else {
+    let Some(open) = gap_of(number(s, 2), number(s, 3), number(s, 4)) else {
         return Stored::Unfit;
     };
-    let refused = number(s, 5);
-    if 255 < refused {
+    let Ok(refused) = u8::try_from(number(s, 5)) else {
         return Stored::Unfit;
-    }
-    let reason = number(s, 7);
-    if 255 < reason {
+    };
+    let Ok(reason) = u8::try_from(number(s, 7)) else {
         return Stored::Unfit;
-    }
+    };
     let refusal = Refusal {
-        number: refused as u8,
-        reason: reason as u8,
+        number: refused,
+        reason,
         place: number(s, 6) as usize,
     };
     Stored::State(Arrival {

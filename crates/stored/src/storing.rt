@@ -8,16 +8,11 @@ use pieces::state::Arrival;
 // How many numbers a state has, with that of the bytes kept.
 const NUMBERS: usize = 10;
 
-const MOST: usize = 0xFFFF_FFFF;
-
 // A number, or the largest of 32 bits.
 fn low(n: usize) -> u32
     ensures { result ≡ low_of n }
 {
-    if MOST < n {
-        return 0xFFFF_FFFF;
-    }
-    n as u32
+    u32::try_from(n).unwrap_or(u32::MAX)
 }
 
 fn gap_number(gap: Open) -> u32
@@ -49,7 +44,7 @@ fn last_number(gap: Open) -> u32
         Open::Clear => 0,
         Open::Slash => 0,
         Open::Line => 0,
-        Open::Block(_, last) => last as u32,
+        Open::Block(_, last) => u32::from(last),
     }
 }
 
@@ -62,14 +57,16 @@ pub fn store(a: Arrival, state: &mut [u32])
     }
     let gap = a.gap;
     let refusal = a.refusal;
-    state[0] = low(a.taken);
-    state[1] = low(a.part);
-    state[2] = gap_number(gap);
-    state[3] = level_number(gap);
-    state[4] = last_number(gap);
-    state[5] = refusal.number as u32;
-    state[6] = low(refusal.place);
-    state[7] = refusal.reason as u32;
-    state[8] = low(a.former);
-    state[9] = low(a.kept);
+    state[..NUMBERS].copy_from_slice(&[
+        low(a.taken),
+        low(a.part),
+        gap_number(gap),
+        level_number(gap),
+        last_number(gap),
+        u32::from(refusal.number),
+        low(refusal.place),
+        u32::from(refusal.reason),
+        low(a.former),
+        low(a.kept),
+    ]);
 }

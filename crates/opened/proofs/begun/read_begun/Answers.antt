@@ -1,6 +1,5 @@
 use mathlib.Core.Path.{◌∙◌}
 use Rattle.opened.proofs.BegunLaws.{read_comment, read_string, read_other}
-use borrow.Author.Rules.{rules}
 use Rattle.opened.proofs.begun.read_begun.Goals as goal
 
 pub returns-then-number-eq-UNCLOSED_BLOCK_COMMENT : goal.returns-then-number-eq-UNCLOSED_BLOCK_COMMENT

@@ -1,7 +1,6 @@
 use mathlib.Core.Path.{ap}
 use Rattle.rows.specs.declared.Entry.{Entry}
 use Rattle.opened.specs.declared.begun.Begun.TheVariants.{Bracket}
-use borrow.Author.Rules.{rules}
 use Rattle.opened.proofs.brackets.bracket_at.Goals as goal
 
 pub returns : goal.returns

@@ -2,7 +2,6 @@ use mathlib.Core.Path.{ap, ◌∙◌}
 use Rattle.grammar.specs.Kinds.{kind_of, side_of}
 use Rattle.rows.specs.declared.Entry.{Entry}
 use Rattle.opened.specs.Brackets.{side_at}
-use borrow.Author.Rules.{rules}
 use Rattle.opened.proofs.brackets.side_at.Goals as goal
 
 pub returns : goal.returns

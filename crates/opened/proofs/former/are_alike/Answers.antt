@@ -1,7 +1,6 @@
 use mathlib.Core.Path.{ap, ap₂, ◌∙◌}
 use Rattle.fields.specs.Fields.{same}
 use Rattle.fields.specs.Names.{name_of}
-use borrow.Author.Rules.{rules}
 use Rattle.opened.proofs.former.are_alike.Goals as goal
 
 pub returns : goal.returns

@@ -4,7 +4,6 @@ use Rattle.rows.specs.declared.Entry.{Entry}
 use Rattle.fields.specs.Names.{name_from}
 use Rattle.opened.specs.Former.{field_at}
 use Rattle.opened.specs.declared.begun.Begun.TheVariants.{Field}
-use borrow.Author.Rules.{rules}
 use Rattle.opened.proofs.former.field_at.Goals as goal
 
 pub returns : goal.returns

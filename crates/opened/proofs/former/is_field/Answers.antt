@@ -4,7 +4,6 @@ use lib.Dec.{eqb}
 use Rattle.rows.specs.declared.Entry.{Entry}
 use Rattle.text.proofs.ClassLaws.{inside, below, above}
 use Rattle.opened.proofs.FormerLaws.{field_by}
-use borrow.Author.Rules.{rules}
 use Rattle.opened.proofs.former.is_field.Goals as goal
 
 pub returns-then-kind-lt-NAME : goal.returns-then-kind-lt-NAME

@@ -1,7 +1,6 @@
 use mathlib.Core.Bool.{true, false}
 use mathlib.Core.Path.{sym, ◌∙◌}
 use Rattle.opened.proofs.FormerLaws.{former_deeper, former_by}
-use borrow.Author.Rules.{rules}
 use Rattle.opened.proofs.former.is_former.Goals as goal
 
 pub returns-then-closed-ne0 : goal.returns-then-closed-ne0

@@ -9,7 +9,6 @@ use Rattle.comments.specs.Gaps.{block_item}
 use Rattle.comments.specs.declared.block.CommentEnd.{CommentEnd}
 use Rattle.text.proofs.Lists.{tail_part}
 use Rattle.opened.specs.Fronts.{by_item}
-use borrow.Author.Rules.{rules}
 use Rattle.opened.proofs.front.block_front.Goals as goal
 
 pub overflow_add-taken : goal.overflow_add-taken

@@ -1,5 +1,4 @@
 use Rattle.opened.proofs.FrontLaws.{literal_read, literal_open, literal_none}
-use borrow.Author.Rules.{rules}
 use Rattle.opened.proofs.front.by_literal.Goals as goal
 
 pub returns-then-r-eq-EXPECTED_STRING_END : goal.returns-then-r-eq-EXPECTED_STRING_END

@@ -1,5 +1,3 @@
-use Prim.Native.Nat.{ℕ}
-use mathlib.Core.List.{List}
 use mathlib.Core.Path.{◌≡◌, ◌∙◌}
 use lib.ListN.{get_or}
 use Rattle.comments.proofs.GapLaws.{item_blank, item_comment}
@@ -7,7 +5,6 @@ use Rattle.comments.specs.Gaps.{comment_of}
 use Rattle.comments.specs.declared.gap.Item.TheVariants.{Blank}
 use Rattle.text.specs.Classes.{blank_width}
 use Rattle.opened.proofs.FrontLaws.{front_by}
-use borrow.Author.Rules.{rules}
 use Rattle.opened.proofs.front.front_of.Goals as goal
 
 pub returns-then-width-gt0 : goal.returns-then-width-gt0

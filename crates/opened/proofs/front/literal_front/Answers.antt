@@ -1,6 +1,5 @@
 use mathlib.Core.Path.{sym, ◌∙◌}
 use Rattle.opened.proofs.FrontLaws.{literal_bytes, literal_string}
-use borrow.Author.Rules.{rules}
 use Rattle.opened.proofs.front.literal_front.Goals as goal
 
 pub returns-then-peek-eq98 : goal.returns-then-peek-eq98

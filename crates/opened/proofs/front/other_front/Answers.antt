@@ -1,7 +1,5 @@
-use Prim.Native.Nat.{◌<◌}
 use native.Mathlib.Omega.{arith}
 use mathlib.Core.Path.{◌∙◌}
-use lib.ListN.{length}
 use Rattle.comments.proofs.GapLaws.{comment_block, comment_ended, comment_line, comment_none, comment_other, comment_unexpected}
 use Rattle.comments.specs.declared.gap.Item.TheVariants.{Unexpected, Ended, Other}
 use Rattle.opened.proofs.FrontLaws.{other_by}

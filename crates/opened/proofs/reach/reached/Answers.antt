@@ -1,11 +1,6 @@
-use Prim.Native.Nat.{ℕ, ◌+◌, ◌-◌, ◌≤◌}
 use native.Mathlib.Omega.{arith}
-use mathlib.Core.List.{List}
-use mathlib.Core.Path.{◌≡◌, ◌∙◌}
-use lib.ListN.{length}
 use Rattle.read.proofs.ReadSteps.{step_token, step_within, step_stop, step_refuse}
-use Rattle.opened.proofs.ReachLaws.{Reaches, reach_starts, reach_token, reach_complete, reach_broken, reach_out}
-use borrow.Author.Rules.{rules}
+use Rattle.opened.proofs.ReachLaws.{reach_starts, reach_token, reach_complete, reach_broken, reach_out}
 use Rattle.opened.proofs.reach.reached.Goals as goal
 
 pub loop-at-init : goal.loop-at-init

@@ -1,6 +1,5 @@
 use mathlib.Core.Path.{◌∙◌}
 use Rattle.opened.proofs.WalkLaws.{walk_26, walk_behind, walk_25, walk_31, walk_other}
-use borrow.Author.Rules.{rules}
 use Rattle.opened.proofs.walks.walk_begun.Goals as goal
 
 pub returns-then-r-eq-TAPE_ENDS_EARLY : goal.returns-then-r-eq-TAPE_ENDS_EARLY

@@ -11,7 +11,4 @@ use Rattle.pieces.proofs.lay.place_rows.Given as goal
 
 abbrev pub invariant-loop-i : goal.invariant-loop-i
 invariant-loop-i l =
-    (l.i ≤ l.n) × (length l.tape ≡ length l.initial.tape) × Left l.n l.base l.limit (laid (gapped l.former (map (moved_to l.base) (entries_of l.n l.initial.tape))) l.initial.tape) l.i l.tape l.behind
-
-abbrev pub decreases-loop-i : goal.decreases-loop-i
-decreases-loop-i l = l.n - l.i
+    (length l.tape ≡ length l.initial.tape) × Left l.n l.base l.limit (laid (gapped l.former (map (moved_to l.base) (entries_of l.n l.initial.tape))) l.initial.tape) l.i l.tape l.behind

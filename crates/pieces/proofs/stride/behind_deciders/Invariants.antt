@@ -9,7 +9,4 @@ use borrow.Author.Rules.{rules}
 use Rattle.pieces.proofs.stride.behind_deciders.Given as goal
 
 abbrev pub invariant-loop-i : goal.invariant-loop-i
-invariant-loop-i l = (l.from ≤ l.i) × (l.i ≤ length l.part) × (last_quiet decides_byte (drop l.i l.part) ≡ 0)
-
-abbrev pub decreases-loop-i : goal.decreases-loop-i
-decreases-loop-i l = l.i
+invariant-loop-i l = (l.from ≤ l.i) × (last_quiet decides_byte (drop l.i l.part) ≡ 0)

@@ -8,13 +8,15 @@ use borrow.Author.Rules.{rules}
 use Rattle.pieces.proofs.waiting.next_stop.Goals as goal
 
 pub loop-i-init : goal.loop-i-init
-loop-i-init c = (c.requires, refl)
+loop-i-init c = refl
 
 pub returns-then-is_stop : goal.returns-then-is_stop
-returns-then-is_stop c = next_here c.args.part.now c.args.from c.loop-i.i c.loop-i-test.true c.loop-i.invariant.1 (sym c.is_stop.ensures ∙ c.if-is_stop.true)
+returns-then-is_stop c = next_here c.args.part.now c.args.from c.loop-i.i c.loop-i-test.true c.loop-i.invariant (sym c.is_stop.ensures ∙ c.if-is_stop.true)
 
 pub loop-i-preserved : goal.loop-i-preserved
-loop-i-preserved c = (omega (arith, c.loop-i-test.true), next_on c.args.part.now c.args.from c.loop-i.i c.loop-i-test.true c.loop-i.invariant.1 (sym c.is_stop.ensures ∙ c.if-is_stop.false))
+loop-i-preserved c = next_on c.args.part.now c.args.from c.loop-i.i c.loop-i-test.true c.loop-i.invariant (sym c.is_stop.ensures ∙ c.if-is_stop.false)
 
 pub returns : goal.returns
-returns c = next_none c.args.part.now c.args.from c.loop-i.i c.loop-i-test.false c.loop-i.invariant.1
+returns c =
+    let z : length c.args.part.now ≡ c.loop-i.i = omega (arith, c.requires) in
+    z ∙ next_none c.args.part.now c.args.from c.loop-i.i c.loop-i-test.false c.loop-i.invariant

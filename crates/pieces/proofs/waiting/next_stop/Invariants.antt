@@ -8,7 +8,4 @@ use borrow.Author.Rules.{rules}
 use Rattle.pieces.proofs.waiting.next_stop.Given as goal
 
 abbrev pub invariant-loop-i : goal.invariant-loop-i
-invariant-loop-i l = (l.i ≤ length l.part) × (l.i + run plain_byte (drop l.i l.part) ≡ l.from + run plain_byte (drop l.from l.part))
-
-abbrev pub decreases-loop-i : goal.decreases-loop-i
-decreases-loop-i l = length l.part - l.i
+invariant-loop-i l = l.i + run plain_byte (drop l.i l.part) ≡ l.from + run plain_byte (drop l.from l.part)

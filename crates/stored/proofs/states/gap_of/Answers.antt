@@ -1,14 +1,18 @@
+use Prim.Native.Nat.{◌<◌, ◌≤◌}
+use native.Mathlib.Omega.{arith}
 use borrow.Author.Tests.{eq-eqb, ne_eqb, lt-ltb, le-ltb}
 use Rattle.stored.specs.Numbers.{gap_of}
 use Rattle.stored.proofs.states.gap_of.Goals as goal
 
-pub returns-then-last-gt255 : goal.returns-then-last-gt255
+pub returns-in_default : goal.returns-in_default
 unfolding gap_of
-returns-then-last-gt255 c = simp (eq-eqb _ _ c.if-gap-eq3.true, lt-ltb _ _ c.if-last-gt255.true)
+returns-in_default c = let h : 255 < c.args.last = omega (arith, c.in_default.ensures) in simp (eq-eqb _ _ c.if-gap-eq3.true, lt-ltb _ _ h)
 
 pub returns-then-gap-eq3 : goal.returns-then-gap-eq3
 unfolding gap_of
-returns-then-gap-eq3 c = simp (eq-eqb _ _ c.if-gap-eq3.true, le-ltb _ _ c.if-last-gt255.false)
+returns-then-gap-eq3 c =
+    let h : c.args.last ≤ 255 = omega (arith, c.in-Ok.ensures.0) in
+    simp (c.in-Ok.ensures.1, eq-eqb _ _ c.if-gap-eq3.true, le-ltb _ _ h)
 
 pub returns-then-level-ne0 : goal.returns-then-level-ne0
 unfolding gap_of
