@@ -1,4 +1,5 @@
 -- What is said of a text that is read into a marked tape. Assumes nothing.
+use Rattle.std.specs.Prelude.{Option, Some, None}
 use Prim.Native.Nat.{ℕ, ◌+◌, ◌-◌, ◌*◌, ◌<◌, ◌≤◌}
 use native.Mathlib.Omega.{arith}
 use mathlib.Core.Bool.{Bool, cond}
@@ -19,10 +20,6 @@ use Rattle.words.specs.Hex.{hex_in, pairs}
 use Rattle.words.specs.Number.{decimal_of}
 use Rattle.words.specs.Said.{by_number, by_hex}
 use Rattle.words.specs.Split.{first_word, behind_word}
-use Rattle.words.specs.declared.hex.Hex.{Hex}
-use Rattle.words.specs.declared.hex.Hex.TheVariants as hex
-use Rattle.words.specs.declared.number.Decimal.{Decimal}
-use Rattle.words.specs.declared.number.Decimal.TheVariants as number
 use Rattle.lent.proofs.MarkLaws.{marked_length}
 use Rattle.words.proofs.SaidLaws.{part_said}
 use Rattle.lines.proofs.LineLaws.{line3}
@@ -69,23 +66,23 @@ room_most n h = omega arith
 
 module _ (words text tape : List ℕ) where
   -- by what the word says
-  abbrev read_by : Hex → List ℕ × List ℕ × List ℕ
+  abbrev read_by : Option ℕ → List ℕ × List ℕ × List ℕ
   read_by h =
       let read = read_in (pairs words) (room_for (length (pairs words))) tape in
       by_hex h (bad_text, over (pairs words) text, tape) (read.0, over (pairs words) text, read.1)
 
-  pub read_bad : hex_in words (length text) ≡ hex.Bad → read_line words text tape ≡ (bad_text, over (pairs words) text, tape)
+  pub read_bad : hex_in words (length text) ≡ None → read_line words text tape ≡ (bad_text, over (pairs words) text, tape)
   unfolding read_line
   read_bad e = ap read_by e
 
-  pub read_good : (n : ℕ) → hex_in words (length text) ≡ hex.Bytes n → (s : List ℕ) → s ≡ pairs words
+  pub read_good : (n : ℕ) → hex_in words (length text) ≡ Some n → (s : List ℕ) → s ≡ pairs words
       → read_line words text tape ≡ ((read_in s (room_for (length s)) tape).0, over (pairs words) text, (read_in s (room_for (length s)) tape).1)
   unfolding read_line
   read_good n e s f =
       ap read_by e
       ∙ ap (λ (t : List ℕ). ((read_in t (room_for (length t)) tape).0, over (pairs words) text, (read_in t (room_for (length t)) tape).1)) (sym f)
 
-  pub read_goes : (n : ℕ) → hex_in words (length text) ≡ hex.Bytes n → (left s after : List ℕ) (room : ℕ) (out end : List ℕ × ℕ)
+  pub read_goes : (n : ℕ) → hex_in words (length text) ≡ Some n → (left s after : List ℕ) (room : ℕ) (out end : List ℕ × ℕ)
       → left ≡ over (pairs words) text → s ≡ take (n - 0) left → room ≡ room_for (length s)
       → (end ≡ put out (read_in s room tape).0) × (after ≡ (read_in s room tape).1)
       → (end ≡ put out (read_line words text tape).0) × (left ≡ (read_line words text tape).1) × (after ≡ (read_line words text tape).2)
@@ -99,7 +96,7 @@ module _ (words text tape : List ℕ) where
 
 module _ (words text tape : List ℕ) where
   -- by what the words say
-  abbrev any_by : Decimal → Hex → List ℕ × List ℕ × List ℕ
+  abbrev any_by : Option ℕ → Option ℕ → List ℕ × List ℕ × List ℕ
   any_by d h =
       let two = behind_word words in
       by_number d (bad_text, text, tape) (λ numbers.
@@ -110,23 +107,23 @@ module _ (words text tape : List ℕ) where
   unfolding any_line
   any_is = refl
 
-  pub any_no_number : decimal_of (first_word words) ≡ number.Bad → any_line words text tape ≡ (bad_text, text, tape)
-  any_no_number e = any_is ∙ ap (λ (d : Decimal). any_by d (hex_in (behind_word words) (length text))) e
+  pub any_no_number : decimal_of (first_word words) ≡ None → any_line words text tape ≡ (bad_text, text, tape)
+  any_no_number e = any_is ∙ ap (λ (d : Option ℕ). any_by d (hex_in (behind_word words) (length text))) e
 
-  module _ (numbers : ℕ) (e : decimal_of (first_word words) ≡ number.Value numbers) where
-    pub any_bad : hex_in (behind_word words) (length text) ≡ hex.Bad → any_line words text tape ≡ (bad_text, over (pairs (behind_word words)) text, tape)
+  module _ (numbers : ℕ) (e : decimal_of (first_word words) ≡ Some numbers) where
+    pub any_bad : hex_in (behind_word words) (length text) ≡ None → any_line words text tape ≡ (bad_text, over (pairs (behind_word words)) text, tape)
     any_bad f =
-        any_is ∙ ap (λ (d : Decimal). any_by d (hex_in (behind_word words) (length text))) e
-        ∙ ap (λ (h : Hex). any_by (number.Value numbers) h) f
+        any_is ∙ ap (λ (d : Option ℕ). any_by d (hex_in (behind_word words) (length text))) e
+        ∙ ap (λ (h : Option ℕ). any_by (Some numbers) h) f
 
-    pub any_good : (n : ℕ) → hex_in (behind_word words) (length text) ≡ hex.Bytes n → (s : List ℕ) → s ≡ pairs (behind_word words)
+    pub any_good : (n : ℕ) → hex_in (behind_word words) (length text) ≡ Some n → (s : List ℕ) → s ≡ pairs (behind_word words)
         → any_line words text tape ≡ ((read_in s numbers tape).0, over (pairs (behind_word words)) text, (read_in s numbers tape).1)
     any_good n f s g =
-        any_is ∙ ap (λ (d : Decimal). any_by d (hex_in (behind_word words) (length text))) e
-        ∙ ap (λ (h : Hex). any_by (number.Value numbers) h) f
+        any_is ∙ ap (λ (d : Option ℕ). any_by d (hex_in (behind_word words) (length text))) e
+        ∙ ap (λ (h : Option ℕ). any_by (Some numbers) h) f
         ∙ ap (λ (t : List ℕ). ((read_in t numbers tape).0, over (pairs (behind_word words)) text, (read_in t numbers tape).1)) (sym g)
 
-    pub any_goes : (n : ℕ) → hex_in (behind_word words) (length text) ≡ hex.Bytes n → (left s after : List ℕ) (out end : List ℕ × ℕ)
+    pub any_goes : (n : ℕ) → hex_in (behind_word words) (length text) ≡ Some n → (left s after : List ℕ) (out end : List ℕ × ℕ)
         → left ≡ over (pairs (behind_word words)) text → s ≡ take (n - 0) left
         → (end ≡ put out (read_in s numbers tape).0) × (after ≡ (read_in s numbers tape).1)
         → (end ≡ put out (any_line words text tape).0) × (left ≡ (any_line words text tape).1) × (after ≡ (any_line words text tape).2)

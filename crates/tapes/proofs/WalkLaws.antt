@@ -1,4 +1,5 @@
 -- What is said of a tape that is walked into marked links. Assumes nothing.
+use Rattle.std.specs.Prelude.{Option, Some, None}
 use Prim.Native.Nat.{ℕ, ◌+◌, ◌-◌, ◌<◌, ◌≤◌, min}
 use native.Mathlib.Omega.{arith}
 use mathlib.Core.Bool.{Bool}
@@ -22,19 +23,11 @@ use Rattle.words.specs.Number.{decimal_of}
 use Rattle.words.specs.Numbers.{numbers_in, numbers_of}
 use Rattle.words.specs.Said.{by_number, by_hex, by_list}
 use Rattle.words.specs.Split.{first_word, behind_word}
-use Rattle.words.specs.declared.hex.Hex.{Hex}
-use Rattle.words.specs.declared.hex.Hex.TheVariants as hex
-use Rattle.words.specs.declared.list.Count.{Count}
-use Rattle.words.specs.declared.list.Count.TheVariants as count
-use Rattle.words.specs.declared.number.Decimal.{Decimal}
-use Rattle.words.specs.declared.number.Decimal.TheVariants as number
 use Rattle.lent.proofs.MarkLaws.{marked_length}
 use Rattle.words.proofs.SaidLaws.{part_said, tape_said}
 use Rattle.lines.proofs.LineLaws.{line4}
 use Rattle.tapes.specs.Walks.{asked, links_left, walked_text, walks_text, walk_in, read_walk, walk_of_text, walk_line, front_of, by_said, any_line}
 use Rattle.tapes.specs.declared.walks.Asked.{Asked}
-use Rattle.tapes.specs.declared.walk_any.Said.{Said}
-use Rattle.tapes.specs.declared.walk_any.Said.TheVariants.{Asks, Bad}
 
 -- ---- a walk into marked links
 
@@ -72,30 +65,30 @@ module _ (text tape : List ℕ) (q : Asked) (links before left : List ℕ) (m : 
 
 module _ (words : List ℕ) where
   -- by what the words say
-  abbrev front_by : Decimal → Decimal → Decimal → Said
-  front_by a b d = by_number a Bad (λ limit. by_number b Bad (λ room. by_number d Bad (λ count. Asks (asked count limit room))))
+  abbrev front_by : Option ℕ → Option ℕ → Option ℕ → Option Asked
+  front_by a b d = by_number a None (λ limit. by_number b None (λ room. by_number d None (λ count. Some (asked count limit room))))
 
-  front_is : (a b d : Decimal) → a ≡ decimal_of (first_word words) → b ≡ decimal_of (first_word (behind_word words))
+  front_is : (a b d : Option ℕ) → a ≡ decimal_of (first_word words) → b ≡ decimal_of (first_word (behind_word words))
       → d ≡ decimal_of (first_word (behind_word (behind_word words))) → front_by a b d ≡ front_of words
   unfolding front_of
   front_is a b d e f g =
-      ap (λ (x : Decimal). front_by x b d) e ∙ ap (λ (x : Decimal). front_by (decimal_of (first_word words)) x d) f
-      ∙ ap (λ (x : Decimal). front_by (decimal_of (first_word words)) (decimal_of (first_word (behind_word words))) x) g
+      ap (λ (x : Option ℕ). front_by x b d) e ∙ ap (λ (x : Option ℕ). front_by (decimal_of (first_word words)) x d) f
+      ∙ ap (λ (x : Option ℕ). front_by (decimal_of (first_word words)) (decimal_of (first_word (behind_word words))) x) g
 
-  pub front_first : number.Bad ≡ decimal_of (first_word words) → Bad ≡ front_of words
-  front_first e = front_is number.Bad (decimal_of (first_word (behind_word words))) (decimal_of (first_word (behind_word (behind_word words)))) e refl refl
+  pub front_first : None ≡ decimal_of (first_word words) → None ≡ front_of words
+  front_first e = front_is None (decimal_of (first_word (behind_word words))) (decimal_of (first_word (behind_word (behind_word words)))) e refl refl
 
-  pub front_second : (limit : ℕ) → number.Value limit ≡ decimal_of (first_word words) → number.Bad ≡ decimal_of (first_word (behind_word words))
-      → Bad ≡ front_of words
-  front_second limit e f = front_is (number.Value limit) number.Bad (decimal_of (first_word (behind_word (behind_word words)))) e f refl
+  pub front_second : (limit : ℕ) → Some limit ≡ decimal_of (first_word words) → None ≡ decimal_of (first_word (behind_word words))
+      → None ≡ front_of words
+  front_second limit e f = front_is (Some limit) None (decimal_of (first_word (behind_word (behind_word words)))) e f refl
 
-  pub front_third : (limit room : ℕ) → number.Value limit ≡ decimal_of (first_word words) → number.Value room ≡ decimal_of (first_word (behind_word words))
-      → number.Bad ≡ decimal_of (first_word (behind_word (behind_word words))) → Bad ≡ front_of words
-  front_third limit room e f g = front_is (number.Value limit) (number.Value room) number.Bad e f g
+  pub front_third : (limit room : ℕ) → Some limit ≡ decimal_of (first_word words) → Some room ≡ decimal_of (first_word (behind_word words))
+      → None ≡ decimal_of (first_word (behind_word (behind_word words))) → None ≡ front_of words
+  front_third limit room e f g = front_is (Some limit) (Some room) None e f g
 
-  pub front_asks : (limit room count : ℕ) → number.Value limit ≡ decimal_of (first_word words) → number.Value room ≡ decimal_of (first_word (behind_word words))
-      → number.Value count ≡ decimal_of (first_word (behind_word (behind_word words))) → Asks (asked count limit room) ≡ front_of words
-  front_asks limit room count e f g = front_is (number.Value limit) (number.Value room) (number.Value count) e f g
+  pub front_asks : (limit room count : ℕ) → Some limit ≡ decimal_of (first_word words) → Some room ≡ decimal_of (first_word (behind_word words))
+      → Some count ≡ decimal_of (first_word (behind_word (behind_word words))) → Some (asked count limit room) ≡ front_of words
+  front_asks limit room count e f g = front_is (Some limit) (Some room) (Some count) e f g
 
 -- ---- `W LIMIT LINKS COUNT HEX N,N,..`
 
@@ -125,30 +118,30 @@ module _ (words text tape links : List ℕ) where
   any_own q s t = ((walk_in s t q links).0, held_text, held_tape, (walk_in s t q links).1)
 
   -- by what the words say
-  abbrev any_by : Said → Hex → Count → List ℕ × List ℕ × List ℕ × List ℕ
+  abbrev any_by : Option Asked → Option ℕ → Option ℕ → List ℕ × List ℕ × List ℕ × List ℕ
   any_by d h k =
       by_said d (bad_text, text, tape, links) (λ q.
       by_hex h (bad_text, held_text, tape, links) (by_list k (bad_text, held_text, held_tape, links) (any_own q (pairs (word4 words)) (numbers_of (behind4 words)))))
 
-  any_is : (d : Said) (h : Hex) (k : Count) → front_of words ≡ d → hex_in (word4 words) (length text) ≡ h → numbers_in (behind4 words) (length tape) ≡ k
+  any_is : (d : Option Asked) (h : Option ℕ) (k : Option ℕ) → front_of words ≡ d → hex_in (word4 words) (length text) ≡ h → numbers_in (behind4 words) (length tape) ≡ k
       → any_line words text tape links ≡ any_by d h k
   unfolding any_line
   any_is d h k e f g =
-      ap (λ (x : Said). any_by x (hex_in (word4 words) (length text)) (numbers_in (behind4 words) (length tape))) e
-      ∙ ap (λ (x : Hex). any_by d x (numbers_in (behind4 words) (length tape))) f ∙ ap (λ (x : Count). any_by d h x) g
+      ap (λ (x : Option Asked). any_by x (hex_in (word4 words) (length text)) (numbers_in (behind4 words) (length tape))) e
+      ∙ ap (λ (x : Option ℕ). any_by d x (numbers_in (behind4 words) (length tape))) f ∙ ap (λ (x : Option ℕ). any_by d h x) g
 
-  pub any_no_front : front_of words ≡ Bad → any_line words text tape links ≡ (bad_text, text, tape, links)
-  any_no_front e = any_is Bad _ _ e refl refl
+  pub any_no_front : front_of words ≡ None → any_line words text tape links ≡ (bad_text, text, tape, links)
+  any_no_front e = any_is None _ _ e refl refl
 
-  module _ (q : Asked) (e : front_of words ≡ Asks q) where
-    pub any_no_text : hex_in (word4 words) (length text) ≡ hex.Bad → any_line words text tape links ≡ (bad_text, held_text, tape, links)
-    any_no_text f = any_is (Asks q) hex.Bad _ e f refl
+  module _ (q : Asked) (e : front_of words ≡ Some q) where
+    pub any_no_text : hex_in (word4 words) (length text) ≡ None → any_line words text tape links ≡ (bad_text, held_text, tape, links)
+    any_no_text f = any_is (Some q) None _ e f refl
 
-    module _ (n : ℕ) (f : hex_in (word4 words) (length text) ≡ hex.Bytes n) where
-      pub any_no_tape : numbers_in (behind4 words) (length tape) ≡ count.Bad → any_line words text tape links ≡ (bad_text, held_text, held_tape, links)
-      any_no_tape g = any_is (Asks q) (hex.Bytes n) count.Bad e f g
+    module _ (n : ℕ) (f : hex_in (word4 words) (length text) ≡ Some n) where
+      pub any_no_tape : numbers_in (behind4 words) (length tape) ≡ None → any_line words text tape links ≡ (bad_text, held_text, held_tape, links)
+      any_no_tape g = any_is (Some q) (Some n) None e f g
 
-      pub any_goes : (m : ℕ) → numbers_in (behind4 words) (length tape) ≡ count.Stored m → (left s stored t after : List ℕ) (out end : List ℕ × ℕ)
+      pub any_goes : (m : ℕ) → numbers_in (behind4 words) (length tape) ≡ Some m → (left s stored t after : List ℕ) (out end : List ℕ × ℕ)
           → left ≡ held_text → s ≡ take (n - 0) left → stored ≡ held_tape → t ≡ take m stored
           → (end ≡ put out (walk_in s t q links).0) × (after ≡ (walk_in s t q links).1)
           → (end ≡ put out (any_line words text tape links).0) × (left ≡ (any_line words text tape links).1) × (stored ≡ (any_line words text tape links).2)
@@ -157,7 +150,7 @@ module _ (words text tape links : List ℕ) where
           let same_text : s ≡ pairs (word4 words) = part_said (word4 words) text left s n f l ls in
           let same-tape : t ≡ numbers_of (behind4 words) = tape_said (behind4 words) tape stored t m g r rt in
           line4 out end (walk_in s t q links).0 left stored after held_text held_tape (walk_in s t q links).1 (any_line words text tape links)
-          (any_is (Asks q) (hex.Bytes n) (count.Stored m) e f g ∙ ap (λ (u : List ℕ). any_own q u (numbers_of (behind4 words))) (sym same_text) ∙ ap (λ (u : List ℕ). any_own q s u) (sym same-tape))
+          (any_is (Some q) (Some n) (Some m) e f g ∙ ap (λ (u : List ℕ). any_own q u (numbers_of (behind4 words))) (sym same_text) ∙ ap (λ (u : List ℕ). any_own q s u) (sym same-tape))
           a.0 l r a.1
 
 -- ---- a text that is read, then walked
@@ -192,7 +185,7 @@ links_most n h = omega arith
 
 module _ (words text tape links : List ℕ) where
   -- by what the words say
-  abbrev walk_by : Decimal → Hex → List ℕ × List ℕ × List ℕ × List ℕ
+  abbrev walk_by : Option ℕ → Option ℕ → List ℕ × List ℕ × List ℕ × List ℕ
   walk_by d h =
       let two = behind_word words in
       by_number d (bad_text, text, tape, links) (λ limit.
@@ -203,23 +196,23 @@ module _ (words text tape links : List ℕ) where
   unfolding walk_line
   walk_is = refl
 
-  pub walk_no_limit : decimal_of (first_word words) ≡ number.Bad → walk_line words text tape links ≡ (bad_text, text, tape, links)
-  walk_no_limit e = walk_is ∙ ap (λ (d : Decimal). walk_by d (hex_in (behind_word words) (length text))) e
+  pub walk_no_limit : decimal_of (first_word words) ≡ None → walk_line words text tape links ≡ (bad_text, text, tape, links)
+  walk_no_limit e = walk_is ∙ ap (λ (d : Option ℕ). walk_by d (hex_in (behind_word words) (length text))) e
 
-  module _ (limit : ℕ) (e : decimal_of (first_word words) ≡ number.Value limit) where
-    pub walk_bad : hex_in (behind_word words) (length text) ≡ hex.Bad
+  module _ (limit : ℕ) (e : decimal_of (first_word words) ≡ Some limit) where
+    pub walk_bad : hex_in (behind_word words) (length text) ≡ None
         → walk_line words text tape links ≡ (bad_text, over (pairs (behind_word words)) text, tape, links)
     walk_bad f =
-        walk_is ∙ ap (λ (d : Decimal). walk_by d (hex_in (behind_word words) (length text))) e ∙ ap (λ (h : Hex). walk_by (number.Value limit) h) f
+        walk_is ∙ ap (λ (d : Option ℕ). walk_by d (hex_in (behind_word words) (length text))) e ∙ ap (λ (h : Option ℕ). walk_by (Some limit) h) f
 
-    pub walk_good : (n : ℕ) → hex_in (behind_word words) (length text) ≡ hex.Bytes n → (s : List ℕ) → s ≡ pairs (behind_word words)
+    pub walk_good : (n : ℕ) → hex_in (behind_word words) (length text) ≡ Some n → (s : List ℕ) → s ≡ pairs (behind_word words)
         → walk_line words text tape links
         ≡ ((walk_of_text s limit tape links).0, over (pairs (behind_word words)) text, read_tape s tape, (walk_of_text s limit tape links).1)
     walk_good n f s g =
-        walk_is ∙ ap (λ (d : Decimal). walk_by d (hex_in (behind_word words) (length text))) e ∙ ap (λ (h : Hex). walk_by (number.Value limit) h) f
+        walk_is ∙ ap (λ (d : Option ℕ). walk_by d (hex_in (behind_word words) (length text))) e ∙ ap (λ (h : Option ℕ). walk_by (Some limit) h) f
         ∙ ap (λ (t : List ℕ). ((walk_of_text t limit tape links).0, over (pairs (behind_word words)) text, read_tape t tape, (walk_of_text t limit tape links).1)) (sym g)
 
-    pub walk_goes : (n : ℕ) → hex_in (behind_word words) (length text) ≡ hex.Bytes n → (left s read after : List ℕ) (out end : List ℕ × ℕ)
+    pub walk_goes : (n : ℕ) → hex_in (behind_word words) (length text) ≡ Some n → (left s read after : List ℕ) (out end : List ℕ × ℕ)
         → left ≡ over (pairs (behind_word words)) text → s ≡ take (n - 0) left
         → (end ≡ put out (walk_of_text s limit tape links).0) × (read ≡ read_tape s tape)
         × (after ≡ (walk_of_text s limit tape links).1)

@@ -1,5 +1,5 @@
 -- `w LIMIT HEX` and `W LIMIT LINKS COUNT HEX N,N,..`: a tape walked into marked links, over a text.
-use Rattle.std.specs.Prelude.{ℕ, ◌+◌, min, List, ◌++◌, length, take, drop}
+use Rattle.std.specs.Prelude.{ℕ, ◌+◌, min, List, ◌++◌, length, take, drop, Option, Some, None}
 use Rattle.lent.specs.Marks.{mark_at, marked, kept_from}
 use Rattle.lines.specs.Over.{over}
 use Rattle.read.specs.Read.{read_answer, read_tape}
@@ -13,8 +13,6 @@ use Rattle.words.specs.Numbers.{numbers_of}
 use Rattle.words.specs.Said.{by_number, by_bytes, by_numbers}
 use Rattle.words.specs.Split.{first_word, behind_word}
 use Rattle.tapes.specs.declared.walks.Asked.{Asked}
-use Rattle.tapes.specs.declared.walk_any.Said.{Said}
-use Rattle.tapes.specs.declared.walk_any.Said.TheVariants.{Asks, Bad}
 
 -- How many entries, how deep, into how many links.
 abbrev pub asked : ℕ → ℕ → ℕ → Asked
@@ -59,17 +57,17 @@ walk_line words text tape links =
     (walk.0, left, read_tape s tape, walk.1)))
 
 -- What the first three words of `W` say.
-unfoldable pub front_of : List ℕ → Said
+unfoldable pub front_of : List ℕ → Option Asked
 front_of words =
     let two = behind_word words in
-    by_number (decimal_of (first_word words)) Bad (λ limit.
-    by_number (decimal_of (first_word two)) Bad (λ room.
-    by_number (decimal_of (first_word (behind_word two))) Bad (λ count. Asks (asked count limit room))))
+    by_number (decimal_of (first_word words)) None (λ limit.
+    by_number (decimal_of (first_word two)) None (λ room.
+    by_number (decimal_of (first_word (behind_word two))) None (λ count. Some (asked count limit room))))
 
 -- What goes on with them, or what is said of a line that is no case.
-abbrev pub by_said : {A : Type 0} → Said → A → (Asked → A) → A
-by_said (Asks q) bad own = own q
-by_said Bad bad own = bad
+abbrev pub by_said : {A : Type 0} → Option Asked → A → (Asked → A) → A
+by_said (Some q) bad own = own q
+by_said None bad own = bad
 
 -- `W LIMIT LINKS COUNT HEX N,N,..`: any tape and any text. What is said, and the rooms for the text, the tape and the links afterwards.
 unfoldable pub any_line : List ℕ → List ℕ → List ℕ → List ℕ → List ℕ × List ℕ × List ℕ × List ℕ

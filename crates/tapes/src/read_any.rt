@@ -4,8 +4,6 @@ ghost use Rattle.lines.specs.Out.{put};
 ghost use Rattle.tapes.specs.Reads.{any_line};
 
 use crate::reads;
-use words::hex::Hex;
-use words::number::Decimal;
 use words::{hex, number};
 
 // `bad` where the line is no case, else the entries or the refusal.
@@ -14,12 +12,10 @@ pub fn answer(words: &[u8], text: &mut [u8], tape: &mut [u32], o: &mut [u8], at:
         × (text.new ≡ (any_line words.now text.old tape.old).1)
         × (tape.new ≡ (any_line words.now text.old tape.old).2) }
 {
-    let first = number::decimal_of(words::word(words));
-    let Decimal::Value(numbers) = first else {
+    let Some(numbers) = number::decimal_of(words::word(words)) else {
         return show::bad(o, at);
     };
-    let bytes = hex::bytes(words::behind(words), text);
-    let Hex::Bytes(n) = bytes else {
+    let Some(n) = hex::bytes(words::behind(words), text) else {
         return show::bad(o, at);
     };
     reads::answer(lines::part(&text[..], 0, n), numbers as usize, tape, o, at)

@@ -6,7 +6,6 @@ ghost use Rattle.tapes.specs.Reads.{room_for, read_line};
 use crate::reads;
 use rows::row;
 use words::hex;
-use words::hex::Hex;
 
 // As many numbers as the text can fill, and a few behind them.
 fn room(bytes: usize) -> usize
@@ -24,8 +23,7 @@ pub fn answer(words: &[u8], text: &mut [u8], tape: &mut [u32], o: &mut [u8], at:
         × (text.new ≡ (read_line words.now text.old tape.old).1)
         × (tape.new ≡ (read_line words.now text.old tape.old).2) }
 {
-    let bytes = hex::bytes(words, text);
-    let Hex::Bytes(n) = bytes else {
+    let Some(n) = hex::bytes(words, text) else {
         return show::bad(o, at);
     };
     let s = lines::part(&text[..], 0, n);

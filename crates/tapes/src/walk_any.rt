@@ -5,36 +5,17 @@ ghost use Rattle.tapes.specs.Walks.{front_of, any_line};
 
 use crate::walks;
 use crate::walks::Asked;
-use words::hex::Hex;
-use words::list::Count;
-use words::number::Decimal;
 use words::{hex, list, number};
 
-// What is asked; or the line is no case.
-#[derive(Clone, Copy)]
-enum Said {
-    Asks(Asked),
-    Bad,
-}
-
-// What the first three words say.
-fn front(words: &[u8]) -> Said
+// What the first three words ask; none where the line is no case.
+fn front(words: &[u8]) -> Option<Asked>
     ensures { result ≡ front_of words.now }
 {
-    let first = number::decimal_of(words::word(words));
-    let Decimal::Value(limit) = first else {
-        return Said::Bad;
-    };
+    let limit = number::decimal_of(words::word(words))?;
     let words = words::behind(words);
-    let second = number::decimal_of(words::word(words));
-    let Decimal::Value(room) = second else {
-        return Said::Bad;
-    };
-    let third = number::decimal_of(words::word(words::behind(words)));
-    let Decimal::Value(count) = third else {
-        return Said::Bad;
-    };
-    Said::Asks(Asked {
+    let room = number::decimal_of(words::word(words))?;
+    let count = number::decimal_of(words::word(words::behind(words)))?;
+    Some(Asked {
         count: count as usize,
         limit: limit as usize,
         room: room as usize,
@@ -56,17 +37,14 @@ pub fn answer(
         × (tape.new ≡ (any_line words.now text.old tape.old links.old).2)
         × (links.new ≡ (any_line words.now text.old tape.old links.old).3) }
 {
-    let asked = front(words);
-    let Said::Asks(q) = asked else {
+    let Some(q) = front(words) else {
         return show::bad(o, at);
     };
     let words = words::behind(words::behind(words::behind(words)));
-    let bytes = hex::bytes(words::word(words), text);
-    let Hex::Bytes(n) = bytes else {
+    let Some(n) = hex::bytes(words::word(words), text) else {
         return show::bad(o, at);
     };
-    let last = list::numbers(words::behind(words), tape);
-    let Count::Stored(m) = last else {
+    let Some(m) = list::numbers(words::behind(words), tape) else {
         return show::bad(o, at);
     };
     walks::answer(

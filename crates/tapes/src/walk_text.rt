@@ -7,8 +7,6 @@ ghost use Rattle.tapes.specs.Walks.{asked as Walks·asked, walk_of_text, walk_li
 use crate::walks;
 use crate::walks::Asked;
 use sarridok::ReadAnswer;
-use words::hex::Hex;
-use words::number::Decimal;
 use words::{hex, number};
 
 // As many links as there are entries, and a few behind them.
@@ -68,12 +66,10 @@ pub fn answer(
         × (tape.new ≡ (walk_line words.now text.old tape.old links.old).2)
         × (links.new ≡ (walk_line words.now text.old tape.old links.old).3) }
 {
-    let first = number::decimal_of(words::word(words));
-    let Decimal::Value(limit) = first else {
+    let Some(limit) = number::decimal_of(words::word(words)) else {
         return show::bad(o, at);
     };
-    let bytes = hex::bytes(words::behind(words), text);
-    let Hex::Bytes(n) = bytes else {
+    let Some(n) = hex::bytes(words::behind(words), text) else {
         return show::bad(o, at);
     };
     walked(lines::part(&text[..], 0, n), limit, tape, links, o, at)

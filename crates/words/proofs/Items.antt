@@ -1,4 +1,5 @@
 -- Laws of items between commas, and of the numbers that they say. Assumes nothing.
+use Rattle.std.specs.Prelude.{Option, Some, None}
 use Prim.Native.Nat.{ℕ, suc, ◌+◌, ◌-◌, ◌≤◌, ◌<◌}
 use native.Mathlib.Nat.{not-suc-le-zero, le_of_suc-le-suc}
 use native.Mathlib.Numerals.{add-one}
@@ -16,9 +17,6 @@ use Rattle.text.specs.Classes.{within}
 use Rattle.words.specs.Number.{all_digits, value_from, decimal_from, decimal_of}
 use Rattle.words.specs.Small.{small_of}
 use Rattle.words.specs.Numbers.{items, smalls, numbers_of, items_in}
-use Rattle.words.specs.declared.small.Small.{Small}
-use Rattle.words.specs.declared.small.Small.TheVariants as small
-use Rattle.words.specs.declared.list.Count.TheVariants.{Stored, Bad}
 use Rattle.words.proofs.Dashes.{dash_is}
 use Rattle.text.proofs.Lists.{tail_part}
 use Rattle.text.proofs.Choices.{and_false}
@@ -63,26 +61,26 @@ items_front s = by (ltb (find_of 44 s) (length s)) refl
 
 -- ---- the numbers that items say
 
-dash_bad : small_of (take (find_of 44 (45 ∷ [])) (45 ∷ [])) ≡ small.Bad
+dash_bad : small_of (take (find_of 44 (45 ∷ [])) (45 ∷ [])) ≡ None
 unfolding find_of small_of decimal_of decimal_from all_digits value_from within
 dash_bad = refl
 
-smalls_bad : (w : List ℕ) (ws : List (List ℕ)) → small_of w ≡ small.Bad → smalls (w ∷ ws) ≡ []
+smalls_bad : (w : List ℕ) (ws : List (List ℕ)) → small_of w ≡ None → smalls (w ∷ ws) ≡ []
 unfolding smalls
 smalls_bad w ws e = rw e
 
-smalls_value : (w : List ℕ) (ws : List (List ℕ)) (n : ℕ) → small_of w ≡ small.Value n → smalls (w ∷ ws) ≡ n ∷ smalls ws
+smalls_value : (w : List ℕ) (ws : List (List ℕ)) (n : ℕ) → small_of w ≡ Some n → smalls (w ∷ ws) ≡ n ∷ smalls ws
 unfolding smalls
 smalls_value w ws n e = rw e
 
 module _ (s : List ℕ) where
   -- the first item says none
-  pub numbers_bad : small_of (take (find_of 44 s) s) ≡ small.Bad → (numbers_of s ≡ []) × (0 < length (items s))
+  pub numbers_bad : small_of (take (find_of 44 s) s) ≡ None → (numbers_of s ≡ []) × (0 < length (items s))
   numbers_bad e =
       let w = items_front s in
       (ap smalls w.1 ∙ smalls_bad _ _ e, omega (arith, ap length w.1))
 
-  module _ (n : ℕ) (e : small_of (take (find_of 44 s) s) ≡ small.Value n) where
+  module _ (n : ℕ) (e : small_of (take (find_of 44 s) s) ≡ Some n) where
     -- the first item says one
     pub numbers_some : (r : List ℕ) × (numbers_of s ≡ n ∷ r)
     numbers_some = let w = items_front s in (smalls w.0, ap smalls w.1 ∙ smalls_value _ _ n e)
@@ -106,7 +104,7 @@ pub numbers_dash : (s : List ℕ) → is_dash s ≡ true → numbers_of s ≡ []
 numbers_dash s e = ap numbers_of (dash_is s e) ∙ (numbers_bad (45 ∷ []) dash_bad).0
 
 -- what is read of the part from a place on is said of what stands there
-pub read_at : (s : List ℕ) (at : ℕ) {w : List ℕ} {r q : Small} → r ≡ small_of w
+pub read_at : (s : List ℕ) (at : ℕ) {w : List ℕ} {r q : Option ℕ} → r ≡ small_of w
     → w ≡ take (find_of 44 (take (length s - at) (drop at s))) (take (length s - at) (drop at s))
     → r ≡ q → small_of (take (find_of 44 (drop at s)) (drop at s)) ≡ q
 read_at s at {w} {r} {q} e f g = ap small_of (rw tail_part at (sym f)) ∙ sym e ∙ g
@@ -114,14 +112,14 @@ read_at s at {w} {r} {q} e f g = ap small_of (rw tail_part at (sym f)) ∙ sym e
 -- ---- what a list answers
 
 module _ (s : List ℕ) (room : ℕ) where
-  pub count_more : (length (numbers_of s) ≡ length (items s) → ⊥) → items_in s room ≡ Bad
+  pub count_more : (length (numbers_of s) ≡ length (items s) → ⊥) → items_in s room ≡ None
   unfolding items_in
   count_more h = rw (ne_eqb _ _ h)
 
-  pub count_full : room < length (numbers_of s) → items_in s room ≡ Bad
+  pub count_full : room < length (numbers_of s) → items_in s room ≡ None
   unfolding items_in
   count_full h = rw (lt-leb _ _ h, and_false (eqb (length (numbers_of s)) (length (items s))))
 
-  pub count_whole : length (numbers_of s) ≡ length (items s) → length (numbers_of s) ≤ room → items_in s room ≡ Stored (length (numbers_of s))
+  pub count_whole : length (numbers_of s) ≡ length (items s) → length (numbers_of s) ≤ room → items_in s room ≡ Some (length (numbers_of s))
   unfolding items_in
   count_whole h k = rw (eq-eqb _ _ h, le-leb _ _ k)

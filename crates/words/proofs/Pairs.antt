@@ -1,4 +1,5 @@
 -- Laws of pairs of hex digits. Assumes nothing.
+use Rattle.std.specs.Prelude.{Some, None}
 use Prim.Native.Nat.{ℕ, zero, suc, ◌+◌, ◌*◌, ◌≤◌, ◌<◌}
 use native.Mathlib.Omega.{arith}
 use native.Mathlib.Nat.{not-suc-le-zero, le_of_suc-le-suc}
@@ -12,7 +13,6 @@ use Rattle.lines.specs.Over.{over}
 use Rattle.lines.proofs.Laws.{drop_some, drop_none}
 use Rattle.words.specs.Digit.{nibble_of}
 use Rattle.words.specs.Hex.{pair_of, pairs, pairs_in}
-use Rattle.words.specs.declared.hex.Hex.TheVariants.{Bytes, Bad}
 use Rattle.text.proofs.Lists.{front2}
 use Rattle.text.proofs.Choices.{and_false}
 
@@ -81,14 +81,14 @@ unfolding over
 over_short s d h = rw (short s h)
 
 module _ (s : List ℕ) (room : ℕ) where
-  pub in_more : (2 * length (pairs s) ≡ length s → ⊥) → pairs_in s room ≡ Bad
+  pub in_more : (2 * length (pairs s) ≡ length s → ⊥) → pairs_in s room ≡ None
   unfolding pairs_in
   in_more h = rw (ne_eqb _ _ h)
 
-  pub in_full : room < length (pairs s) → pairs_in s room ≡ Bad
+  pub in_full : room < length (pairs s) → pairs_in s room ≡ None
   unfolding pairs_in
   in_full h = rw (lt-leb _ _ h, and_false (eqb (2 * length (pairs s)) (length s)))
 
-  pub in_whole : 2 * length (pairs s) ≡ length s → length (pairs s) ≤ room → pairs_in s room ≡ Bytes (length (pairs s))
+  pub in_whole : 2 * length (pairs s) ≡ length s → length (pairs s) ≤ room → pairs_in s room ≡ Some (length (pairs s))
   unfolding pairs_in
   in_whole h k = rw (eq-eqb _ _ h, le-leb _ _ k)

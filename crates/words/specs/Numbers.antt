@@ -1,11 +1,7 @@
 -- A word as numbers of a tape, with commas between.
-use Rattle.std.specs.Prelude.{ℕ, cond, ◌&&◌, List, [], ◌∷◌, length, leb, eqb}
+use Rattle.std.specs.Prelude.{ℕ, cond, ◌&&◌, List, [], ◌∷◌, length, leb, eqb, Option, Some, None}
 use Rattle.words.specs.Dash.{is_dash}
 use Rattle.words.specs.Small.{small_of}
-use Rattle.words.specs.declared.small.Small.{Small}
-use Rattle.words.specs.declared.small.Small.TheVariants as small
-use Rattle.words.specs.declared.list.Count.{Count}
-use Rattle.words.specs.declared.list.Count.TheVariants.{Stored, Bad}
 
 -- a byte in front of the first item
 abbrev pub in_front : ℕ → List (List ℕ) → List (List ℕ)
@@ -18,9 +14,9 @@ items [] = [] ∷ []
 items (a ∷ s) = let ws = items s in cond (eqb a 44) ([] ∷ ws) (in_front a ws)
 
 -- what goes on behind an item that is a number; nothing behind one that is none
-abbrev pub on_small : Small → (ℕ → List ℕ) → List ℕ
-on_small (small.Value n) k = k n
-on_small small.Bad k = []
+abbrev pub on_small : Option ℕ → (ℕ → List ℕ) → List ℕ
+on_small (Some n) k = k n
+on_small None k = []
 
 -- the numbers that the items at the front say
 unfoldable pub smalls : List (List ℕ) → List ℕ
@@ -32,10 +28,10 @@ abbrev pub numbers_of : List ℕ → List ℕ
 numbers_of s = smalls (items s)
 
 -- how many numbers s has, where all its items are numbers and there is room for them
-unfoldable pub items_in : List ℕ → ℕ → Count
+unfoldable pub items_in : List ℕ → ℕ → Option ℕ
 items_in s room =
-    cond (eqb (length (numbers_of s)) (length (items s)) && leb (length (numbers_of s)) room) (Stored (length (numbers_of s))) Bad
+    cond (eqb (length (numbers_of s)) (length (items s)) && leb (length (numbers_of s)) room) (Some (length (numbers_of s))) None
 
 -- a word: items, or `-` for none
-unfoldable pub numbers_in : List ℕ → ℕ → Count
-numbers_in s room = cond (is_dash s) (Stored 0) (items_in s room)
+unfoldable pub numbers_in : List ℕ → ℕ → Option ℕ
+numbers_in s room = cond (is_dash s) (Some 0) (items_in s room)

@@ -4,13 +4,6 @@ ghost use Rattle.lines.specs.Over.{over};
 ghost use Rattle.words.specs.Digit.{nibble_of};
 ghost use Rattle.words.specs.Hex.{pair_of, pairs as Hex·pairs, pairs_in, hex_in};
 
-// How many bytes were stored; or the word is none of hex, or too long for the buffer.
-#[derive(Clone, Copy)]
-pub enum Hex {
-    Bytes(usize),
-    Bad,
-}
-
 // What a digit says, or 16.
 fn nibble(a: u8) -> u32
     ensures { result ≡ nibble_of a }
@@ -45,41 +38,40 @@ fn pair(a: u8, b: u8) -> u32
     x * 16 + y
 }
 
-// The bytes that pairs of digits say, to the front of a buffer.
-fn pairs(s: &[u8], buf: &mut [u8]) -> Hex
+// How many bytes the pairs of digits say, with these at the front of a buffer; none where a pair is no hex, or the buffer too short.
+fn pairs(s: &[u8], buf: &mut [u8]) -> Option<usize>
     ensures value { result ≡ pairs_in s.now (length buf.old) }
     ensures buf_after { buf.new ≡ over (Hex·pairs s.now) buf.old }
 {
     let n = s.len() / 2;
-    let mut i = 0;
-    while i < n {
+    for i in 0..n {
         let k = 2 * i;
         let b = pair(s[k], s[k + 1]);
         if 255 < b {
-            return Hex::Bad;
+            return None;
         }
         if buf.len() <= i {
-            return Hex::Bad;
+            return None;
         }
         buf[i] = b as u8;
-        i += 1;
     }
     if s.len() % 2 == 1 {
-        return Hex::Bad;
+        return None;
     }
-    Hex::Bytes(n)
+    Some(n)
 }
 
-// How many bytes a word says, with these at the front of a buffer. Of a word that is no hex, what its first pairs say may stand there.
-pub fn bytes(s: &[u8], buf: &mut [u8]) -> Hex
+// How many bytes a word says, with these at the front of a buffer; none where the word is no hex, or the buffer too short.
+// What the first pairs of such a word say may stand there.
+pub fn bytes(s: &[u8], buf: &mut [u8]) -> Option<usize>
     ensures value { result ≡ hex_in s.now (length buf.old) }
     ensures buf_after { buf.new ≡ over (Hex·pairs s.now) buf.old }
 {
     if crate::is_dash(s) {
-        return Hex::Bytes(0);
+        return Some(0);
     }
-    if s.len() == 0 {
-        return Hex::Bad;
+    if s.is_empty() {
+        return None;
     }
     pairs(s, buf)
 }

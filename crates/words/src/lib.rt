@@ -28,8 +28,5 @@ pub fn behind(s: &[u8]) -> &[u8]
 pub fn is_dash(s: &[u8]) -> bool
     ensures { result ≡ is_dash s.now }
 {
-    if s.len() != 1 {
-        return false;
-    }
-    s[0] == b'-'
+    s == b"-".as_slice()
 }

@@ -4,17 +4,9 @@ ghost use Rattle.lines.specs.Over.{over};
 ghost use Rattle.words.specs.Numbers.{numbers_of, items_in, numbers_in};
 
 use crate::small;
-use crate::small::Small;
 
-// How many numbers were stored; or the word is no list, or too long for the tape.
-#[derive(Clone, Copy)]
-pub enum Count {
-    Stored(usize),
-    Bad,
-}
-
-// The numbers that the items between commas say, to the front of a tape.
-fn items(s: &[u8], tape: &mut [u32]) -> Count
+// How many numbers the items between commas say, with these at the front of a tape; none where an item is no number, or the tape too short.
+fn items(s: &[u8], tape: &mut [u32]) -> Option<usize>
     ensures value { result ≡ items_in s.now (length tape.old) }
     ensures tape_after { tape.new ≡ over (numbers_of s.now) tape.old }
 {
@@ -22,30 +14,28 @@ fn items(s: &[u8], tape: &mut [u32]) -> Count
     let mut k = 0;
     loop {
         let rest = &s[at..];
-        let r = small::small_of(lines::until(rest, b','));
-        let Small::Value(n) = r else {
-            return Count::Bad;
-        };
+        let n = small::small_of(lines::until(rest, b','))?;
         if tape.len() <= k {
-            return Count::Bad;
+            return None;
         }
         tape[k] = n;
         k += 1;
         let e = lines::find(rest, b',');
         if rest.len() <= e {
-            return Count::Stored(k);
+            return Some(k);
         }
         at = at + e + 1;
     }
 }
 
-// How many numbers a list has, with these at the front of a tape; `-` has none. Of a word that is no list, its first numbers may stand there.
-pub fn numbers(s: &[u8], tape: &mut [u32]) -> Count
+// How many numbers a list has, with these at the front of a tape, and `-` has 0; none where the word is no list, or the tape too short.
+// The first numbers of such a word may stand there.
+pub fn numbers(s: &[u8], tape: &mut [u32]) -> Option<usize>
     ensures value { result ≡ numbers_in s.now (length tape.old) }
     ensures tape_after { tape.new ≡ over (numbers_of s.now) tape.old }
 {
     if crate::is_dash(s) {
-        return Count::Stored(0);
+        return Some(0);
     }
     items(s, tape)
 }

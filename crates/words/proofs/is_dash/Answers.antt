@@ -1,11 +1,8 @@
-use borrow.Author.Tests.{eq-eqb, ne_eqb}
-use Rattle.words.specs.Dash.{is_dash}
+use mathlib.Core.Path.{ap, ◌∙◌}
+use lib.Dec.{eqb}
+use lib.Pointwise.{pointwise}
+use Rattle.words.proofs.Dashes.{dash_same}
 use Rattle.words.proofs.is_dash.Goals as goal
 
-pub returns-then-s-ne1 : goal.returns-then-s-ne1
-unfolding is_dash
-returns-then-s-ne1 c = rw (ne_eqb _ _ c.if-s-ne1.true)
-
 pub returns : goal.returns
-unfolding is_dash
-returns c = rw (eq-eqb _ _ c.if-s-ne1.false)
+returns c = c.eq.ensures ∙ ap (pointwise eqb c.args.s.now) c.as_slice.ensures ∙ dash_same c.args.s.now

@@ -15,9 +15,9 @@ returns-in_default c =
     let text : List ℕ = c.args.text.now in
     let tape : List ℕ = c.args.tape.now in
     line3 (c.args.o.now, c.args.at) _ bad_text _ _ (over (pairs words) text) tape (read_line words text tape)
-    (read_bad words text tape (sym c.bytes-bytes.ensures.value ∙ c.in_default.is)) c.bad.ensures c.bytes-bytes.ensures.buf_after refl
+    (read_bad words text tape (sym c.bytes.ensures.value ∙ c.in_default.is)) c.bad.ensures c.bytes.ensures.buf_after refl
 
 pub returns : goal.returns
 returns c =
-    read_goes c.args.words.now c.args.text.now c.args.tape.now c.in-Bytes.n (sym c.bytes-bytes.ensures.value ∙ c.in-Bytes.is)
-    _ _ _ _ (c.args.o.now, c.args.at) _ c.bytes-bytes.ensures.buf_after c.part-s.ensures c.room.ensures c.answer.ensures
+    read_goes c.args.words.now c.args.text.now c.args.tape.now c.in-Some.n (sym c.bytes.ensures.value ∙ c.in-Some.is)
+    _ _ _ _ (c.args.o.now, c.args.at) _ c.bytes.ensures.buf_after c.part-s.ensures c.room.ensures c.answer.ensures

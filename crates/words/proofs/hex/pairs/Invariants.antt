@@ -1,4 +1,4 @@
-use Prim.Native.Nat.{◌-◌, ◌≤◌}
+use Prim.Native.Nat.{◌≤◌}
 use mathlib.Core.Path.{◌≡◌}
 use lib.ListN.{length, take}
 use Rattle.lines.specs.Over.{over}
@@ -6,7 +6,4 @@ use Rattle.words.specs.Hex.{pairs}
 use Rattle.words.proofs.hex.pairs.Given as goal
 
 abbrev pub invariant-loop-i : goal.invariant-loop-i
-invariant-loop-i l = (l.i ≤ l.n) × (l.i ≤ length (pairs l.s)) × (l.i ≤ length l.initial.buf) × (length l.buf ≡ length l.initial.buf) × (l.buf ≡ over (take l.i (pairs l.s)) l.initial.buf)
-
-abbrev pub decreases-loop-i : goal.decreases-loop-i
-decreases-loop-i l = l.n - l.i
+invariant-loop-i l = (l.i ≤ length (pairs l.s)) × (l.i ≤ length l.initial.buf) × (length l.buf ≡ length l.initial.buf) × (l.buf ≡ over (take l.i (pairs l.s)) l.initial.buf)
