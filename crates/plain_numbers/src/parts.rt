@@ -6,6 +6,7 @@ ghost use Rattle.text.specs.Runs.{run};
 ghost use Rattle.plain_numbers.specs.inner.PlainNumbers.{fraction_of};
 
 use quiet::bytes::is_quiet;
+use text::classes::is_digit;
 
 // The part begins with a quiet byte; an empty one doesn't.
 pub fn begins_quiet(s: &[u8]) -> bool
@@ -21,18 +22,7 @@ pub fn begins_quiet(s: &[u8]) -> bool
 pub fn digits_len(s: &[u8]) -> usize
     ensures { result ≡ run digit s.now }
 {
-    let mut i = 0;
-    while i < s.len() {
-        let c = s[i];
-        if c < b'0' {
-            return i;
-        }
-        if b'9' < c {
-            return i;
-        }
-        i += 1;
-    }
-    i
+    s.iter().take_while(|c| is_digit(**c)).count()
 }
 
 // How many bytes a point and one or more digits before a quiet byte are, and 0 where the part does not begin with them.

@@ -29,8 +29,7 @@ fn digits_of(s: &[u8]) -> Digits
     ensures { result ≡ digits_of s.now }
 {
     let mut value: u64 = 0;
-    let mut i: usize = 0;
-    while i < MOST {
+    for i in 0..MOST {
         if s.len() <= i {
             return Digits { len: i, value };
         }
@@ -44,9 +43,8 @@ fn digits_of(s: &[u8]) -> Digits
         let d = c - b'0';
         let product = value * 10;
         value = product + d as u64;
-        i += 1;
     }
-    Digits { len: i, value }
+    Digits { len: MOST, value }
 }
 
 // A short integer may end before it: a quiet byte, or 0, which also stands past the end.

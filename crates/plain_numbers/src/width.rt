@@ -13,12 +13,10 @@ fn value(s: &[u8]) -> u32
     ensures { result ≡ value_of 10 s.now }
 {
     let mut acc: u32 = 0;
-    let mut i = 0;
-    while i < s.len() {
-        let d = s[i] - b'0';
+    for &c in s {
+        let d = c - b'0';
         let product = acc * 10;
         acc = product + d as u32;
-        i += 1;
     }
     acc
 }

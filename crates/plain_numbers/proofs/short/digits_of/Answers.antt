@@ -1,6 +1,6 @@
 use native.Mathlib.Nat.{zero-add}
 use native.Mathlib.Omega.{arith}
-use mathlib.Core.Path.{refl}
+use mathlib.Core.Path.{◌≡◌, refl}
 use borrow.Author.Rules.{rules}
 use Rattle.text.proofs.ClassLaws.{above, below, inside}
 use Rattle.text.proofs.RunLaws.{run_end, run_out}
@@ -29,9 +29,6 @@ pub overflow_mul-product : goal.overflow_mul-product
 unfolding digit
 overflow_mul-product c = omega (arith, next_fits c.args.s.now c.loop-i.value c.loop-i.i c.loop-i-test.true (omega arith) (inside 0x30 0x39 _ c.if-c-lt48.false c.if-c-gt57.false) c.loop-i.invariant)
 
-pub overflow_cast-value : goal.overflow_cast-value
-overflow_cast-value c = omega (arith, c.shared_slice_known-1.given c.loop-i.i)
-
 pub overflow_add-value : goal.overflow_add-value
 unfolding digit
 overflow_add-value c = omega (arith, next_fits c.args.s.now c.loop-i.value c.loop-i.i c.loop-i-test.true (omega arith) (inside 0x30 0x39 _ c.if-c-lt48.false c.if-c-gt57.false) c.loop-i.invariant)
@@ -41,4 +38,6 @@ unfolding digit
 loop-i-preserved c = passed_next c.args.s.now c.loop-i.value c.loop-i.i c.loop-i-test.true (omega arith) (inside 0x30 0x39 _ c.if-c-lt48.false c.if-c-gt57.false) c.loop-i.invariant
 
 pub returns : goal.returns
-returns c = full c.args.s.now c.loop-i.value c.loop-i.i c.loop-i.invariant c.loop-i-test.false
+returns c =
+    let e : c.loop-i.i ≡ 19 = omega arith in
+    rw e at (full c.args.s.now c.loop-i.value c.loop-i.i c.loop-i.invariant c.loop-i-test.false)
