@@ -7,7 +7,7 @@ use mathlib.Core.Logic.{◌⊎◌, inl, inr}
 use mathlib.Core.Bool.{true, false}
 use lib.Dec.{ltb}
 use lib.ListN.{length, get_or, take}
-use lib.Seq.{get_or-take, length-take-le, take_all}
+use lib.Seq.{get_or-take, length-take-le}
 use borrow.Author.Tests.{ltb-true, ltb-false}
 use Rattle.text.proofs.Choices.{cond_cases, either, lt_or_le}
 use Rattle.fields.proofs.SameLaws.{same_is, same_not}
@@ -226,15 +226,12 @@ module _ (nm : ℕ → List ℕ) (es : List ℕ) where
     pub part_done : (a : Again) → Least (Part p p) a → FirstIn nm (take (p + 1) es) a
     part_done a f = least_first nm (take (p + 1) es) (least_same (Part p p) (Repeats nm (take (p + 1) es)) part_all all_part f)
 
-  -- none of the first 0 places repeats, and all places are the list
+  -- none of the first 0 places repeats
   pub first_start : FirstIn nm (take 0 es) Nowhere
   first_start = nowhere (λ j r. none_in r.is_one)
     where
       none_in : {j : ℕ} → In j (take 0 es) → ⊥
       none_in i = omega (arith, i.inside)
-
-  pub first_all : (p : ℕ) (a : Again) → length es ≤ p → FirstIn nm (take p es) a → FirstIn nm es a
-  first_all p a h f = rw (take_all p es h) at f
 
   -- names that are all apart
   abbrev pub Apart : ℕ → Type 0

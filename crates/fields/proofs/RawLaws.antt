@@ -134,7 +134,3 @@ module _ (text t : List ℕ) (count : ℕ) (whole : Bool) where
   fit_eight i inv h off off' =
       let z : i + 4 + 4 ≡ i + 8 = omega arith in
       subst FitLeft z (fit_four (i + 4) (fit_four i inv (omega arith) off) (omega arith) off')
-
--- all from the first row on
-pub fit_starts : (text t : List ℕ) (count : ℕ) → FitLeft text t count (raws_fit text (entries_of count t)) 0
-fit_starts text t count = let z : count - 0 ≡ count = omega arith in ap (λ (n : ℕ). raws_fit text (entries_of n t)) z
