@@ -1,8 +1,8 @@
 -- The call `piece`, from what the code has found to its answer, what is kept and the tape.
 --     Limited, limited     the bytes that are taken
 --     Found, found         what they give
---     no_room, stopped-there, given-there     the three answers
---     not-ordered, state-refused, nothing-there, piece-there     the whole call
+--     no_room, stopped_there, given_there     the three answers
+--     not_ordered, state_refused, nothing_there, piece_there     the whole call
 -- Assumes nothing.
 use Prim.Native.Nat.{ℕ, ◌+◌, ◌-◌, ◌<◌, ◌≤◌}
 use native.Mathlib.Omega.{arith}

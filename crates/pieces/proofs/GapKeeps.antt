@@ -1,9 +1,9 @@
 -- Whitespace and comments that reach to the end of what has come decide nothing, nor does the front of a character behind them: all is kept.
---     within-reaches                         where a gap says so, it reaches to the end
---     reach-keeps, passed-keeps              its bytes are kept
---     cut-bytes, cut-lead, cut-front, cut-no-char    what a front of a character is made of
---     part-keeps, then_keeps, within-keeps   such a front behind it is kept; what is kept piece after piece; both together
---     clear-with-part                        such a front behind what has begun leaves the gap as it is
+--     within_reaches                         where a gap says so, it reaches to the end
+--     reach_keeps, passed_keeps              its bytes are kept
+--     cut_bytes, cut_lead, cut_front, cut_no_char    what a front of a character is made of
+--     part_keeps, then_keeps, within_keeps   such a front behind it is kept; what is kept piece after piece; both together
+--     clear_with_part                        such a front behind what has begun leaves the gap as it is
 -- Assumes nothing.
 use Prim.Native.Nat.{ℕ, suc, ◌*◌, ◌+◌, ◌-◌, ◌<◌, ◌≤◌, pred}
 use native.Mathlib.Omega.{arith}

@@ -1,6 +1,6 @@
 -- A `/` with neither `/` nor `*` behind it: what its bytes give.
---     odd-shuts    5 is given with the last byte of the character behind it, or with the first byte of all where that has come
---     odd-keeps    where no character stands behind it, all is kept
+--     odd_shuts    5 is given with the last byte of the character behind it, or with the first byte of all where that has come
+--     odd_keeps    where no character stands behind it, all is kept
 -- Assumes nothing.
 use Prim.Native.Nat.{ℕ, suc, zero, ◌+◌, ◌-◌, ◌<◌, ◌≤◌}
 use native.Mathlib.Nat.{sub_self}

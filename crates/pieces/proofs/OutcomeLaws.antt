@@ -1,6 +1,6 @@
 -- What the bytes that are taken give, told as numbers by the code, is what specs/Come and specs/Pieces say.
 --     Meets, meets      the entries, how many, where they end, how many bytes were taken, and where the text stands
---     outcome-code      the outcome of a piece by the code's numbers
+--     outcome_code      the outcome of a piece by the code's numbers
 -- Assumes nothing.
 use Prim.Native.Nat.{ℕ, suc, ◌+◌, ◌-◌, ◌<◌, ◌≤◌}
 use native.Mathlib.Omega.{arith}

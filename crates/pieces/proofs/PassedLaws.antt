@@ -1,7 +1,7 @@
 -- Where the whitespace and comments end that bytes go on with, beside what is open behind them and what is kept of them.
---     begins-inside, unexpected-inside    the places that are told lie within the bytes
+--     begins_inside, unexpected_inside    the places that are told lie within the bytes
 --     passes                              what is told where nothing was open
---     odd-stays                           5 behind a `/` stays, whatever follows
+--     odd_stays                           5 behind a `/` stays, whatever follows
 -- Assumes nothing.
 use Prim.Native.Nat.{◌*◌, ◌+◌, ◌-◌, ◌<◌, ◌≤◌, suc, ℕ}
 use native.Mathlib.Omega.{arith}

@@ -1,4 +1,4 @@
--- A text and what is kept of it have the same tokens to come, whatever follows: `ron-alike`, `ron-alike-clear`. And 30 moves with the place: `bar-moves`.
+-- A text and what is kept of it have the same tokens to come, whatever follows: `ron_alike`, `ron_alike_clear`. And 30 moves with the place: `bar_moves`.
 -- Assumes nothing.
 use Prim.Native.Nat.{ℕ, suc, zero, pred, ◌*◌, ◌+◌, ◌-◌, ◌<◌}
 use native.Mathlib.Omega.{arith}

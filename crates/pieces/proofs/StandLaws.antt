@@ -1,6 +1,6 @@
 -- Where a text stands behind a run of bytes: the code's numbers say what specs/Pieces says of the bytes behind the last entry's end.
 --     Agrees           what stops the text, what is open and what is kept are the same by both
---     agrees-within, agrees-stopped, agrees-behind    so they are, wherever it stands
+--     agrees_within, agrees_stopped, agrees_behind    so they are, wherever it stands
 -- Assumes nothing.
 use Prim.Native.Nat.{ℕ, ◌+◌, ◌-◌, ◌<◌, ◌≤◌, ◌^◌}
 use native.Mathlib.Omega.{arith}

@@ -1,6 +1,6 @@
 -- The bytes that are taken of a piece: what the code finds in the buffer is what specs/Pieces says of what is kept and the piece.
 --     ordered       the numbers of a state in order
---     outcome-is    the outcome, told by the bytes that the limit lets through
+--     outcome_is    the outcome, told by the bytes that the limit lets through
 -- Assumes nothing.
 use Prim.Native.Nat.{ℕ, ◌+◌, ◌-◌, ◌<◌, ◌≤◌}
 use native.Mathlib.Omega.{arith}

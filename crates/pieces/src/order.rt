@@ -49,7 +49,7 @@ fn open_fits(left: Open, taken: usize) -> bool
     }
 }
 
-// No refusal was given.
+// No refusal was given; field by field, since `Refusal` has no `==`.
 fn is_none(r: Refusal) -> bool
     ensures { result ≡ is_none r }
 {

@@ -22,6 +22,7 @@ struct Leapt {
 }
 
 // Behind the last deciding byte that stands at a place or behind it; that place where there is none.
+// One function for this and behind_stops would take the class as a closure, and again in its contract: that is no plainer.
 fn behind_deciders(part: &[u8], from: usize) -> usize
     requires { from ≤ length part.now }
     ensures { result ≡ behind_deciders part.now from }

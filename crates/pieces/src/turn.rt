@@ -27,7 +27,7 @@ pub enum Stands {
     Stopped(Refusal),
 }
 
-// What bytes come to.
+// What bytes come to. No `Result`: neither case is an error, a run goes on behind the one and ends with the other.
 #[derive(Clone, Copy)]
 pub enum Turned {
     // So many entries; where the last of them ends; behind the byte that decided them.

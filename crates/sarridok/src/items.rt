@@ -121,13 +121,11 @@ pub fn judge_items(text: &[u8], tape: &[u32], count: usize, items: &[u32]) -> Ju
     requires { (judged_of text.now ≡ Fit) × (count ≤ room_of (length tape.now)) }
     ensures { result ≡ verdict_of (items_from text.now tape.now count items.now 0) }
 {
-    let mut k: usize = 0;
-    while k < items.len() {
-        let judged = item_at(text, tape, count, items[k], k);
+    for (k, number) in items.iter().enumerate() {
+        let judged = item_at(text, tape, count, *number, k);
         if let Item::Refused(refusal) = judged {
             return Judged::Refused(refusal);
         }
-        k += 1;
     }
     Judged::Fit
 }
@@ -149,14 +147,12 @@ pub fn write_items(
     ensures codes { codes.new ≡ filled (λ (c : Coded). c.code)
         (items_from text.now tape.now count items.now 0) codes.old }
 {
-    let mut k: usize = 0;
-    while k < items.len() {
-        let read = item_at(text, tape, count, items[k], k);
+    for (k, number) in items.iter().enumerate() {
+        let read = item_at(text, tape, count, *number, k);
         let Item::Number(magnitude, code) = read else {
             return;
         };
         magnitudes[k] = magnitude;
         codes[k] = code;
-        k += 1;
     }
 }

@@ -8,13 +8,13 @@ use borrow.Author.Rules.{rules}
 use Rattle.sarridok.proofs.items.judge_items.Goals as goal
 
 pub loop-k-init : goal.loop-k-init
-loop-k-init c = (search rules, refl)
+loop-k-init c = refl
 
 pub returns-in-Refused : goal.returns-in-Refused
-returns-in-Refused c = sym (judge_stops c.args.text.now c.args.tape.now c.args.count c.args.items.now c.loop-k.k _ c.loop-k-test.true (ap told_item (sym c.in-Refused.is) ∙ c.item_at-judged.ensures)) ∙ c.loop-k.invariant.1
+returns-in-Refused c = sym (judge_stops c.args.text.now c.args.tape.now c.args.count c.args.items.now c.loop-k.k _ c.loop-k-test.true (ap told_item (sym c.in-Refused.is) ∙ c.item_at-judged.ensures)) ∙ c.loop-k.invariant
 
 pub loop-k-preserved : goal.loop-k-preserved
-loop-k-preserved c = (search rules, sym (judge_passes c.args.text.now c.args.tape.now c.args.count c.args.items.now c.loop-k.k _ c.loop-k-test.true (ap told_item (sym c.in_default.is) ∙ c.item_at-judged.ensures)) ∙ c.loop-k.invariant.1)
+loop-k-preserved c = sym (judge_passes c.args.text.now c.args.tape.now c.args.count c.args.items.now c.loop-k.k _ c.loop-k-test.true (ap told_item (sym c.in_default.is) ∙ c.item_at-judged.ensures)) ∙ c.loop-k.invariant
 
 pub returns : goal.returns
-returns c = sym (items_end c.args.text.now c.args.tape.now c.args.count c.args.items.now c.loop-k.k c.loop-k-test.false) ∙ c.loop-k.invariant.1
+returns c = sym (items_end c.args.text.now c.args.tape.now c.args.count c.args.items.now c.loop-k.k c.loop-k-test.false) ∙ c.loop-k.invariant

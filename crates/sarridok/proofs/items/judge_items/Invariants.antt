@@ -8,7 +8,4 @@ use borrow.Author.Rules.{rules}
 use Rattle.sarridok.proofs.items.judge_items.Given as goal
 
 abbrev pub invariant-loop-k : goal.invariant-loop-k
-invariant-loop-k l = (l.k ≤ length l.items) × (verdict_of (items_from l.text l.tape l.count (drop l.k l.items) l.k) ≡ verdict_of (items_from l.text l.tape l.count l.items 0))
-
-abbrev pub decreases-loop-k : goal.decreases-loop-k
-decreases-loop-k l = length l.items - l.k
+invariant-loop-k l = verdict_of (items_from l.text l.tape l.count (drop l.k l.items) l.k) ≡ verdict_of (items_from l.text l.tape l.count l.items 0)

@@ -10,9 +10,6 @@ use Rattle.sarridok.proofs.items.write_items.Given as goal
 
 abbrev pub invariant-loop-k : goal.invariant-loop-k
 invariant-loop-k l =
-    (l.k ≤ length l.items) × (length l.magnitudes ≡ length l.initial.magnitudes) × (length l.codes ≡ length l.initial.codes)
+    (length l.magnitudes ≡ length l.initial.magnitudes) × (length l.codes ≡ length l.initial.codes)
     × (l.magnitudes ≡ take l.k (map (λ (v : Coded). v.magnitude) (values_of (items_from l.text l.tape l.count l.items 0))) ++ drop l.k l.initial.magnitudes)
     × (l.codes ≡ take l.k (map (λ (v : Coded). v.code) (values_of (items_from l.text l.tape l.count l.items 0))) ++ drop l.k l.initial.codes)
-
-abbrev pub decreases-loop-k : goal.decreases-loop-k
-decreases-loop-k l = length l.items - l.k
