@@ -1,5 +1,3 @@
-use Prim.Native.Nat.{◌-◌}
-use Rattle.plain_numbers.specs.inner.Shorts.{most}
 use Rattle.plain_numbers.proofs.ShortLaws.{Passed}
 use Rattle.plain_numbers.proofs.short.digits_of.Given as goal
 

@@ -1,6 +1,5 @@
-use Prim.Native.Nat.{◌-◌, ◌≤◌}
 use mathlib.Core.Path.{◌≡◌}
-use lib.ListN.{drop, length}
+use lib.ListN.{drop}
 use Rattle.digits.specs.Value.{value_from, value_of}
 use Rattle.plain_numbers.proofs.width.value.Given as goal
 
