@@ -1,4 +1,5 @@
 -- `P`, step by step. Assumes nothing.
+use Rattle.std.specs.Prelude.{Some, None}
 use Prim.Native.Nat.{ℕ, ◌-◌, ◌≤◌}
 use native.Mathlib.Omega.{arith}
 use mathlib.Core.Bool.{Bool}
@@ -21,38 +22,34 @@ use Rattle.words.specs.Hex.{hex_in, pairs}
 use Rattle.words.specs.Number.{decimal_of}
 use Rattle.words.specs.Numbers.{numbers_in, numbers_of}
 use Rattle.words.specs.Split.{first_word, behind_word}
-use Rattle.words.specs.declared.hex.Hex.TheVariants as hex
-use Rattle.words.specs.declared.list.Count.TheVariants as count
-use Rattle.words.specs.declared.number.Decimal.TheVariants as number
 use Rattle.words.proofs.SaidLaws.{hex_said, list_said}
 use Rattle.edits.specs.declared.cuts.Cut.{Cut}
-use Rattle.edits.specs.declared.repair_any.Said.TheVariants.{Asks, Bad}
 use Rattle.edits.specs.Repairs.{cut_of, told_of, tape_after, any_text, repair_in, front_of, any_line}
 use Rattle.edits.proofs.LineLaws.{drop_taken, Line, Answered, answered}
 
 -- ---- the first four words
 
 module _ (words : List ℕ) where
-  pub front_1 : decimal_of (first_word words) ≡ number.Bad → Bad ≡ front_of words
+  pub front_1 : decimal_of (first_word words) ≡ None → None ≡ front_of words
   unfolding front_of
   front_1 e = rw e
 
-  module _ (count : ℕ) (e : decimal_of (first_word words) ≡ number.Value count) where
-    pub front_2 : decimal_of (first_word (behind_word words)) ≡ number.Bad → Bad ≡ front_of words
+  module _ (count : ℕ) (e : decimal_of (first_word words) ≡ Some count) where
+    pub front_2 : decimal_of (first_word (behind_word words)) ≡ None → None ≡ front_of words
     unfolding front_of
     front_2 f = rw (e, f)
 
-    module _ (old : ℕ) (f : decimal_of (first_word (behind_word words)) ≡ number.Value old) where
-      pub front_3 : decimal_of (first_word (behind_word (behind_word words))) ≡ number.Bad → Bad ≡ front_of words
+    module _ (old : ℕ) (f : decimal_of (first_word (behind_word words)) ≡ Some old) where
+      pub front_3 : decimal_of (first_word (behind_word (behind_word words))) ≡ None → None ≡ front_of words
       unfolding front_of
       front_3 g = rw (e, f, g)
 
-      module _ (a : ℕ) (g : decimal_of (first_word (behind_word (behind_word words))) ≡ number.Value a) where
-        pub front_4 : decimal_of (first_word (behind_word (behind_word (behind_word words)))) ≡ number.Bad → Bad ≡ front_of words
+      module _ (a : ℕ) (g : decimal_of (first_word (behind_word (behind_word words))) ≡ Some a) where
+        pub front_4 : decimal_of (first_word (behind_word (behind_word (behind_word words)))) ≡ None → None ≡ front_of words
         unfolding front_of
         front_4 h = rw (e, f, g, h)
 
-        pub front_5 : (b : ℕ) → decimal_of (first_word (behind_word (behind_word (behind_word words)))) ≡ number.Value b → Asks (cut_of count old a b) ≡ front_of words
+        pub front_5 : (b : ℕ) → decimal_of (first_word (behind_word (behind_word (behind_word words)))) ≡ Some b → Some (cut_of count old a b) ≡ front_of words
         unfolding front_of
         front_5 b h = rw (e, f, g, h)
 
@@ -122,17 +119,17 @@ abbrev five : List ℕ → List ℕ
 five words = behind_word (behind_word (behind_word (behind_word words)))
 
 module _ (words text tape aside : List ℕ) where
-  pub line_1 : front_of words ≡ Bad → any_line words text tape aside ≡ (bad_text, text, tape, aside)
+  pub line_1 : front_of words ≡ None → any_line words text tape aside ≡ (bad_text, text, tape, aside)
   unfolding any_line
   line_1 e = rw e
 
-  module _ (q : Cut) (e : front_of words ≡ Asks q) where
-    second : hex_in (first_word (five words)) (length text) ≡ hex.Bad
+  module _ (q : Cut) (e : front_of words ≡ Some q) where
+    second : hex_in (first_word (five words)) (length text) ≡ None
         → any_line words text tape aside ≡ (bad_text, over (pairs (first_word (five words))) text, tape, aside)
     unfolding any_line
     second f = rw (e, f)
 
-    third : (n : ℕ) → hex_in (first_word (five words)) (length text) ≡ hex.Bytes n → numbers_in (behind_word (five words)) (length tape) ≡ count.Bad
+    third : (n : ℕ) → hex_in (first_word (five words)) (length text) ≡ Some n → numbers_in (behind_word (five words)) (length tape) ≡ None
         → any_line words text tape aside ≡ (bad_text, over (pairs (first_word (five words))) text, over (numbers_of (behind_word (five words))) tape, aside)
     unfolding any_line
     third n f g = rw (e, f, g)
@@ -143,26 +140,26 @@ module _ (words text tape aside : List ℕ) where
     abbrev whole : List ℕ → List ℕ → Line
     whole w v = ((repaired w v).0, over (pairs w) text, (repaired w v).1, (repaired w v).2)
 
-    fourth : (n k : ℕ) → hex_in (first_word (five words)) (length text) ≡ hex.Bytes n → numbers_in (behind_word (five words)) (length tape) ≡ count.Stored k
+    fourth : (n k : ℕ) → hex_in (first_word (five words)) (length text) ≡ Some n → numbers_in (behind_word (five words)) (length tape) ≡ Some k
         → any_line words text tape aside ≡ whole (first_word (five words)) (behind_word (five words))
     unfolding any_line
     fourth n k f g = rw (e, f, g)
 
     module _ (w : List ℕ) (ew : w ≡ first_word (five words)) where
-      pub line_2 : hex_in w (length text) ≡ hex.Bad → any_line words text tape aside ≡ (bad_text, over (pairs w) text, tape, aside)
-      line_2 = subst (λ (x : List ℕ). hex_in x (length text) ≡ hex.Bad → any_line words text tape aside ≡ (bad_text, over (pairs x) text, tape, aside)) (sym ew) second
+      pub line_2 : hex_in w (length text) ≡ None → any_line words text tape aside ≡ (bad_text, over (pairs w) text, tape, aside)
+      line_2 = subst (λ (x : List ℕ). hex_in x (length text) ≡ None → any_line words text tape aside ≡ (bad_text, over (pairs x) text, tape, aside)) (sym ew) second
 
-      module _ (v : List ℕ) (ev : v ≡ behind_word (five words)) (n : ℕ) (f : hex_in w (length text) ≡ hex.Bytes n) where
-        there : hex_in (first_word (five words)) (length text) ≡ hex.Bytes n
+      module _ (v : List ℕ) (ev : v ≡ behind_word (five words)) (n : ℕ) (f : hex_in w (length text) ≡ Some n) where
+        there : hex_in (first_word (five words)) (length text) ≡ Some n
         there = sym (ap (λ (x : List ℕ). hex_in x (length text)) ew) ∙ f
 
-        pub line_3 : numbers_in v (length tape) ≡ count.Bad → any_line words text tape aside ≡ (bad_text, over (pairs w) text, over (numbers_of v) tape, aside)
+        pub line_3 : numbers_in v (length tape) ≡ None → any_line words text tape aside ≡ (bad_text, over (pairs w) text, over (numbers_of v) tape, aside)
         line_3 g =
             third n there (sym (ap (λ (x : List ℕ). numbers_in x (length tape)) ev) ∙ g)
             ∙ ap (λ (x : List ℕ). (bad_text, over (pairs x) text, over (numbers_of (behind_word (five words))) tape, aside)) (sym ew)
             ∙ ap (λ (x : List ℕ). (bad_text, over (pairs w) text, over (numbers_of x) tape, aside)) (sym ev)
 
-        module _ (k : ℕ) (g : numbers_in v (length tape) ≡ count.Stored k) where
+        module _ (k : ℕ) (g : numbers_in v (length tape) ≡ Some k) where
           line_4 : any_line words text tape aside ≡ whole w v
           line_4 =
               fourth n k there (sym (ap (λ (x : List ℕ). numbers_in x (length tape)) ev) ∙ g)

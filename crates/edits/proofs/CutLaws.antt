@@ -1,4 +1,5 @@
 -- `p`, word by word. Assumes nothing.
+use Rattle.std.specs.Prelude.{Option, Some, None}
 use Prim.Native.Nat.{ℕ, ◌+◌, ◌-◌, ◌*◌, ◌≤◌, ◌<◌}
 use native.Mathlib.Omega.{arith}
 use mathlib.Core.Bool.{Bool, true, false, cond, ◌&&◌}
@@ -18,12 +19,8 @@ use Rattle.words.specs.Hex.{hex_in, pairs, pairs_in}
 use Rattle.words.specs.Number.{decimal_of}
 use Rattle.words.specs.Said.{by_hex}
 use Rattle.words.specs.Split.{first_word, behind_word}
-use Rattle.words.specs.declared.hex.Hex.{Hex}
-use Rattle.words.specs.declared.hex.Hex.TheVariants as hex
-use Rattle.words.specs.declared.number.Decimal.TheVariants as number
 use Rattle.words.proofs.Dashes.{dash_is}
 use Rattle.words.proofs.SaidLaws.{hex_said}
-use Rattle.edits.specs.declared.repair_text.Said.TheVariants as ends
 use Rattle.edits.specs.Repairs.{edit_in, replaced, both_texts, cut_line, ends_of, text_line}
 use Rattle.edits.proofs.LineLaws.{Line, Answered, answered, Edit, Done, done}
 use Rattle.edits.proofs.MoveLaws.{over_whole}
@@ -31,22 +28,22 @@ use Rattle.edits.proofs.TextLaws.{edit_same}
 
 -- ---- how many bytes a word says
 
-abbrev bytes_of : Hex → ℕ
-bytes_of (hex.Bytes n) = n
-bytes_of hex.Bad = 0
+abbrev bytes_of : Option ℕ → ℕ
+bytes_of (Some n) = n
+bytes_of None = 0
 
-abbrev Says : Hex → Type 0
-Says (hex.Bytes n) = Unit
-Says hex.Bad = ⊥
+abbrev Says : Option ℕ → Type 0
+Says (Some n) = Unit
+Says None = ⊥
 
 module _ (w : List ℕ) (room n : ℕ) where
-  abbrev Fits : Hex → Type 0
-  Fits h = h ≡ hex.Bytes n → (n ≡ length (pairs w)) × (n ≤ room)
+  abbrev Fits : Option ℕ → Type 0
+  Fits h = h ≡ Some n → (n ≡ length (pairs w)) × (n ≤ room)
 
-  bad_fits : Fits hex.Bad
+  bad_fits : Fits None
   bad_fits e = absurd (subst Says (sym e) tt)
 
-  dash_fits : is_dash w ≡ true → Fits (hex.Bytes 0)
+  dash_fits : is_dash w ≡ true → Fits (Some 0)
   unfolding pairs
   dash_fits d e = let z : n ≡ 0 = sym (ap bytes_of e) in (z ∙ sym (ap (λ (x : List ℕ). length (pairs x)) (dash_is w d)), omega (arith, z))
 
@@ -58,14 +55,14 @@ module _ (w : List ℕ) (room n : ℕ) where
       (z, omega (arith, z, leb-true (length (pairs w)) room (and_true (eqb (2 * length (pairs w)) (length w)) _ t).1)))
       (λ f. bad_fits)
 
-  pub hex_fits : hex_in w room ≡ hex.Bytes n → (n ≡ length (pairs w)) × (n ≤ room)
+  pub hex_fits : hex_in w room ≡ Some n → (n ≡ length (pairs w)) × (n ≤ room)
   unfolding hex_in
   hex_fits = cond_cases Fits (is_dash w) _ _ dash_fits (λ d. cond_cases Fits (eqb (length w) 0) _ _ (λ z. bad_fits) (λ z. pairs_fits))
 
 -- ---- bytes behind others
 
 module _ (word text : List ℕ) (k : ℕ) (part : List ℕ) (e : part ≡ drop k text) where
-  pub behind_read : (r : Hex) (last : List ℕ) → (r ≡ hex_in word (length part)) → (last ≡ over (pairs word) part)
+  pub behind_read : (r : Option ℕ) (last : List ℕ) → (r ≡ hex_in word (length part)) → (last ≡ over (pairs word) part)
       → (r ≡ hex_in word (length (drop k text))) × (put_mid k (length text - k) text last ≡ take k text ++ over (pairs word) (drop k text))
   behind_read r last f g =
       let most : length (drop k text) ≤ length text - k = omega (arith, length-drop k text) in
@@ -124,16 +121,16 @@ module _ (word text : List ℕ) (n a b : ℕ) (tape aside : List ℕ) (l : n ≤
     passes : cut_line word a b old text tape aside ≡ behind n
     passes = by_test true (rw (le-leb a b h, le-leb b n i, le-leb (n + a) (length text) (omega (arith, l))))
 
-    pub cut_4 : hex_in word (length (drop (n + a) text)) ≡ hex.Bad → cut_line word a b old text tape aside ≡ bad n
-    cut_4 e = passes ∙ ap (λ (x : Hex). by_hex x (bad n) (cond fits (good n) (bad n))) e
+    pub cut_4 : hex_in word (length (drop (n + a) text)) ≡ None → cut_line word a b old text tape aside ≡ bad n
+    cut_4 e = passes ∙ ap (λ (x : Option ℕ). by_hex x (bad n) (cond fits (good n) (bad n))) e
 
-    module _ (k : ℕ) (e : hex_in word (length (drop (n + a) text)) ≡ hex.Bytes k) where
+    module _ (k : ℕ) (e : hex_in word (length (drop (n + a) text)) ≡ Some k) where
       many : k ≡ length bytes
       many = (hex_fits word (length (drop (n + a) text)) k e).0
 
       by-room : (t : Bool) → fits ≡ t → cut_line word a b old text tape aside ≡ cond t (good n) (bad n)
       by-room t f =
-          passes ∙ ap (λ (x : Hex). by_hex x (bad n) (cond fits (good n) (bad n))) e ∙ ap (λ (x : Bool). cond x (good n) (bad n)) f
+          passes ∙ ap (λ (x : Option ℕ). by_hex x (bad n) (cond fits (good n) (bad n))) e ∙ ap (λ (x : Bool). cond x (good n) (bad n)) f
 
       made_length : length (replaced a b bytes old) ≡ a + k + (n - b)
       made_length =
@@ -205,7 +202,7 @@ module _ (word text : List ℕ) (n a b : ℕ) (tape aside : List ℕ) (l : n ≤
               answered (cut_line word a b old text tape aside) (good n) out last cut_6 (w.0, m, w.1, w.2)
 
 -- the bytes that were read are there
-pub cut_fits : (word text : List ℕ) (k n : ℕ) → k ≤ length text → hex_in word (length (drop k text)) ≡ hex.Bytes n
+pub cut_fits : (word text : List ℕ) (k n : ℕ) → k ≤ length text → hex_in word (length (drop k text)) ≡ Some n
     → (length (take k text) ≡ k) × (k + n ≤ length (take k text ++ over (pairs word) (drop k text))) × (length (take k text ++ over (pairs word) (drop k text)) ≡ length text)
 cut_fits word text k n h e =
     let t : length (take k text) ≡ k = length-take-le k text h in
@@ -218,16 +215,16 @@ cut_fits word text k n h e =
 -- ---- the line
 
 module _ (words : List ℕ) where
-  pub ends_1 : decimal_of (first_word words) ≡ number.Bad → ends.Bad ≡ ends_of words
+  pub ends_1 : decimal_of (first_word words) ≡ None → None ≡ ends_of words
   unfolding ends_of
   ends_1 e = rw e
 
-  module _ (a : ℕ) (e : decimal_of (first_word words) ≡ number.Value a) where
-    pub ends_2 : decimal_of (first_word (behind_word words)) ≡ number.Bad → ends.Bad ≡ ends_of words
+  module _ (a : ℕ) (e : decimal_of (first_word words) ≡ Some a) where
+    pub ends_2 : decimal_of (first_word (behind_word words)) ≡ None → None ≡ ends_of words
     unfolding ends_of
     ends_2 f = rw (e, f)
 
-    pub ends_3 : (b : ℕ) → decimal_of (first_word (behind_word words)) ≡ number.Value b → ends.Asks a b ≡ ends_of words
+    pub ends_3 : (b : ℕ) → decimal_of (first_word (behind_word words)) ≡ Some b → Some (a, b) ≡ ends_of words
     unfolding ends_of
     ends_3 b f = rw (e, f)
 
@@ -235,12 +232,12 @@ abbrev three : List ℕ → List ℕ
 three words = behind_word (behind_word words)
 
 module _ (words text tape aside : List ℕ) where
-  pub text_1 : ends_of words ≡ ends.Bad → text_line words text tape aside ≡ (bad_text, text, tape, aside)
+  pub text_1 : ends_of words ≡ None → text_line words text tape aside ≡ (bad_text, text, tape, aside)
   unfolding text_line
   text_1 e = rw e
 
-  module _ (a b : ℕ) (e : ends_of words ≡ ends.Asks a b) where
-    second : hex_in (behind_word (three words)) (length text) ≡ hex.Bad
+  module _ (a b : ℕ) (e : ends_of words ≡ Some (a, b)) where
+    second : hex_in (behind_word (three words)) (length text) ≡ None
         → text_line words text tape aside ≡ (bad_text, over (pairs (behind_word (three words))) text, tape, aside)
     unfolding text_line
     second f = rw (e, f)
@@ -248,16 +245,16 @@ module _ (words text tape aside : List ℕ) where
     abbrev rest : List ℕ → List ℕ → Line
     rest w v = cut_line v a b (pairs w) (over (pairs w) text) tape aside
 
-    third : (n : ℕ) → hex_in (behind_word (three words)) (length text) ≡ hex.Bytes n
+    third : (n : ℕ) → hex_in (behind_word (three words)) (length text) ≡ Some n
         → text_line words text tape aside ≡ rest (behind_word (three words)) (first_word (three words))
     unfolding text_line
     third n f = rw (e, f)
 
     module _ (w : List ℕ) (ew : w ≡ behind_word (three words)) where
-      pub text_2 : hex_in w (length text) ≡ hex.Bad → text_line words text tape aside ≡ (bad_text, over (pairs w) text, tape, aside)
-      text_2 = subst (λ (x : List ℕ). hex_in x (length text) ≡ hex.Bad → text_line words text tape aside ≡ (bad_text, over (pairs x) text, tape, aside)) (sym ew) second
+      pub text_2 : hex_in w (length text) ≡ None → text_line words text tape aside ≡ (bad_text, over (pairs w) text, tape, aside)
+      text_2 = subst (λ (x : List ℕ). hex_in x (length text) ≡ None → text_line words text tape aside ≡ (bad_text, over (pairs x) text, tape, aside)) (sym ew) second
 
-      pub text_3 : (v : List ℕ) → v ≡ first_word (three words) → (n : ℕ) → hex_in w (length text) ≡ hex.Bytes n → (left : List ℕ) → left ≡ over (pairs w) text
+      pub text_3 : (v : List ℕ) → v ≡ first_word (three words) → (n : ℕ) → hex_in w (length text) ≡ Some n → (left : List ℕ) → left ≡ over (pairs w) text
           → text_line words text tape aside ≡ cut_line v a b (take n left) left tape aside
       text_3 v ev n f left el =
           third n (sym (ap (λ (x : List ℕ). hex_in x (length text)) ew) ∙ f)

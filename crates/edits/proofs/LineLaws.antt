@@ -1,15 +1,15 @@
 -- What a line of words says, word by word. Assumes nothing.
+use Rattle.std.specs.Prelude.{Option}
 use Prim.Native.Nat.{ℕ, zero, suc}
 use mathlib.Core.List.{List, [], ◌∷◌}
 use mathlib.Core.Path.{◌≡◌, refl, sym, subst}
 use lib.ListN.{length, take, drop}
 use Rattle.lines.specs.Out.{put}
 use Rattle.words.specs.Number.{decimal_of}
-use Rattle.words.specs.declared.number.Decimal.{Decimal}
 use Rattle.words.proofs.DecidedLaws.{said as of-word}
 
 -- a word's number by another name of the word
-pub said : {w v : List ℕ} {d e : Decimal} → w ≡ v → d ≡ decimal_of w → d ≡ e → decimal_of v ≡ e
+pub said : {w v : List ℕ} {d e : Option ℕ} → w ≡ v → d ≡ decimal_of w → d ≡ e → decimal_of v ≡ e
 said {w} {v} {d} {e} f g h = of-word decimal_of w v d e g f h
 
 -- behind what was taken stands what is dropped

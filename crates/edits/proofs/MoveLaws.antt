@@ -1,64 +1,26 @@
--- The loop that moves bytes, turn by turn. Assumes nothing.
-use Prim.Native.Nat.{ℕ, zero, suc, ◌+◌, ◌-◌, ◌<◌, ◌≤◌}
+-- Bytes copied behind a text. Assumes nothing.
+use Prim.Native.Nat.{ℕ, ◌+◌, ◌-◌, ◌≤◌}
 use native.Mathlib.Nat.{not-suc-le-zero, le_of_suc-le-suc}
 use native.Mathlib.Omega.{arith}
-use mathlib.Core.List.{List, [], ◌∷◌, ◌++◌, append_assoc, append-nil}
+use mathlib.Core.List.{List, [], ◌∷◌, ◌++◌, append_assoc}
 use mathlib.Core.Path.{◌≡◌, ap, refl, sym, subst, ◌∙◌}
-use lib.ListN.{length, get_or, set, take, drop, length-append, length-drop, take-append-drop, get_or-append}
-use lib.Seq.{set_out, take_all, drop-drop, length-take-le, take-append-le, drop-append-le, set-append_seam}
+use lib.ListN.{length, take, drop, length-append, length-drop, take-append-drop}
+use lib.Seq.{paste, take_all, drop-drop, length-take-le, take-append-le, take-append_seam, drop-append-le, drop-append_seam}
 use Rattle.lines.specs.Over.{over}
-use Rattle.text.proofs.Lists.{front}
-use Rattle.edits.specs.Moves.{moved}
 use Rattle.edits.specs.Repairs.{replaced, both_texts}
 
--- past the end nothing is written
-pub moved_out : (n i k : ℕ) (s : List ℕ) → length s ≤ k → moved n i k s ≡ s
-unfolding moved
-moved_out zero i k s h = refl
-moved_out (suc n) i k s h = rw (set_out s k (get_or s i 0) h) (moved_out n (i + 1) (k + 1) s (omega arith))
+-- The bytes with n of them, from place i on, copied to place k.
+abbrev pub moved : ℕ → ℕ → ℕ → List ℕ → List ℕ
+moved n i k s = paste s k (drop i s) n
 
--- what is left to move
-module _ (to i k : ℕ) (s : List ℕ) where
-  pub moved_on : i < to → (x : ℕ) → x ≡ get_or s i 0 → moved (to - (i + 1)) (i + 1) (k + 1) (set s k x) ≡ moved (to - i) i k s
-  unfolding moved
-  moved_on h x e =
-      let n : to - i ≡ suc (to - (i + 1)) = omega arith in
-      ap (λ (y : ℕ). moved (to - (i + 1)) (i + 1) (k + 1) (set s k y)) e ∙ sym (ap (λ (m : ℕ). moved m i k s) n)
-
-  pub moved_ends : to ≤ i → moved (to - i) i k s ≡ s
-  unfolding moved
-  moved_ends h = let n : to - i ≡ 0 = omega arith in ap (λ (m : ℕ). moved m i k s) n
-
--- ---- bytes of a text copied behind it
-
-one_more : (w : List ℕ) (v : ℕ) → length w + 1 ≡ length (w ++ (v ∷ []))
-one_more w v = sym (length-append w (v ∷ []))
-
-module _ (n i : ℕ) (w : List ℕ) (v : ℕ) where
-  -- the bytes to copy are those before the one that was copied
-  same-bytes : i + n ≤ length w → take n (drop i (w ++ (v ∷ []))) ≡ take n (drop i w)
-  same-bytes h =
-      ap (take n) (drop-append-le i w (v ∷ []) (omega arith)) ∙ take-append-le n (drop i w) (v ∷ []) (omega (arith, length-drop i w))
-
-pub moved_behind : (n i : ℕ) (w z : List ℕ) → i + n ≤ length w → n ≤ length z → moved n i (length w) (w ++ z) ≡ (w ++ take n (drop i w)) ++ drop n z
-unfolding moved
-moved_behind zero i w z h k = sym (ap (λ (l : List ℕ). l ++ z) (append-nil w))
-moved_behind (suc n) i w [] h k = absurd (not-suc-le-zero k)
-moved_behind (suc n) i w (x ∷ z) h k =
-    let v : ℕ = get_or w i 0 in
-    let more : length w + 1 ≡ length (w ++ (v ∷ [])) = one_more w v in
-    ap (λ (y : ℕ). moved n (i + 1) (length w + 1) (set (w ++ x ∷ z) (length w) y)) (get_or-append w (x ∷ z) 0 i (omega arith))
-    ∙ ap (λ (l : List ℕ). moved n (i + 1) (length w + 1) l) (set-append_seam w x z v ∙ sym (append_assoc w (v ∷ []) z))
-    ∙ ap (λ (m : ℕ). moved n (i + 1) m ((w ++ (v ∷ [])) ++ z)) more
-    ∙ moved_behind n (i + 1) (w ++ (v ∷ [])) z (omega (arith, more)) (le_of_suc-le-suc k)
-    ∙ ap (λ (l : List ℕ). ((w ++ (v ∷ [])) ++ l) ++ drop n z) (same-bytes n (i + 1) w v (omega arith))
-    ∙ ap (λ (l : List ℕ). l ++ drop n z)
-    (append_assoc w (v ∷ []) (take n (drop (i + 1) w)) ∙ ap (λ (l : List ℕ). w ++ l) (sym (ap (take (suc n)) (front w i (omega arith)))))
-
--- the same with the places by other names
-moved_at : (n i m j : ℕ) (w z : List ℕ) → m ≡ n → j ≡ length w → i + n ≤ length w → n ≤ length z → moved m i j (w ++ z) ≡ (w ++ take n (drop i w)) ++ drop n z
-moved_at n i m j w z e f h k =
-    ap (λ (x : ℕ). moved x i j (w ++ z)) e ∙ ap (λ (x : ℕ). moved n i x (w ++ z)) f ∙ moved_behind n i w z h k
+-- bytes of a text copied behind it, with the places by other names
+moved_at : (n i m j : ℕ) (w z : List ℕ) → m ≡ n → j ≡ length w → i + n ≤ length w → moved m i j (w ++ z) ≡ (w ++ take n (drop i w)) ++ drop n z
+moved_at n i m j w z e f h =
+    ap (λ (x : ℕ). moved x i j (w ++ z)) e ∙ ap (λ (x : ℕ). moved n i x (w ++ z)) f
+    ∙ ap (λ (l : List ℕ). (l ++ take n (drop i (w ++ z))) ++ drop (length w + n) (w ++ z)) (take-append_seam w z)
+    ∙ ap (λ (l : List ℕ). (w ++ l) ++ drop (length w + n) (w ++ z))
+    (ap (take n) (drop-append-le i w z (omega arith)) ∙ take-append-le n (drop i w) z (omega (arith, length-drop i w)))
+    ∙ ap (λ (l : List ℕ). (w ++ take n (drop i w)) ++ l) (sym (drop-drop n (length w) (w ++ z)) ∙ ap (drop n) (drop-append_seam w z))
 
 -- ---- texts over a room
 
@@ -89,7 +51,7 @@ module _ (old z bytes : List ℕ) (a b k : ℕ) (h : a ≤ b) (i : b ≤ length 
 
   front_there : (m : ℕ) → m ≡ a → moved m 0 (length old) (old ++ z) ≡ ((old ++ take a old) ++ bytes) ++ drop k (drop a z)
   front_there m f =
-      moved_at a 0 m (length old) old z f refl (omega arith) (omega arith)
+      moved_at a 0 m (length old) old z f refl (omega arith)
       ∙ ap (λ (l : List ℕ). (old ++ take a old) ++ l) (sym (take-append-drop k (drop a z)) ∙ ap (λ (l : List ℕ). l ++ drop k (drop a z)) (sym e))
       ∙ sym (append_assoc (old ++ take a old) bytes (drop k (drop a z)))
 
@@ -103,8 +65,7 @@ module _ (old z bytes : List ℕ) (a b k : ℕ) (h : a ≤ b) (i : b ≤ length 
   rest_there : moved (length old - b) b (length old + a + k) (((old ++ take a old) ++ bytes) ++ drop k (drop a z))
       ≡ (((old ++ take a old) ++ bytes) ++ drop b old) ++ drop (length old - b) (drop k (drop a z))
   rest_there =
-      let d : length (drop k (drop a z)) ≡ length z - a - k = length-drop k (drop a z) ∙ ap (λ (x : ℕ). x - k) (length-drop a z) in
-      moved_at (length old - b) b (length old - b) (length old + a + k) ((old ++ take a old) ++ bytes) (drop k (drop a z)) refl (sym one) (omega (arith, one)) (omega (arith, d))
+      moved_at (length old - b) b (length old - b) (length old + a + k) ((old ++ take a old) ++ bytes) (drop k (drop a z)) refl (sym one) (omega (arith, one))
       ∙ ap (λ (l : List ℕ). (((old ++ take a old) ++ bytes) ++ l) ++ drop (length old - b) (drop k (drop a z))) rest_is
 
   made_length : length (replaced a b bytes old) ≡ a + k + (length old - b)

@@ -1,5 +1,5 @@
 -- `P COUNT OLDLEN A B HEX N,N,..` and `p A B NEWHEX HEX`: a tape repaired after an edit.
-use Rattle.std.specs.Prelude.{ℕ, ◌+◌, ◌*◌, max, min, cond, ◌&&◌, List, ◌++◌, leb, length, take, drop}
+use Rattle.std.specs.Prelude.{ℕ, ◌+◌, ◌*◌, max, min, cond, ◌&&◌, List, ◌++◌, leb, length, take, drop, Option, Some, None}
 use Rattle.text.specs.Words.{starts_with}
 use Rattle.lent.specs.Marks.{mark_at, marked, kept_from}
 use Rattle.lines.specs.Ascii.{ascii}
@@ -17,10 +17,6 @@ use Rattle.words.specs.Numbers.{numbers_of}
 use Rattle.words.specs.Said.{by_number, by_bytes, by_numbers}
 use Rattle.words.specs.Split.{first_word, behind_word}
 use Rattle.edits.specs.declared.cuts.Cut.{Cut}
-use Rattle.edits.specs.declared.repair_any.Said.{Said}
-use Rattle.edits.specs.declared.repair_any.Said.TheVariants.{Asks, Bad}
-use Rattle.edits.specs.declared.repair_text.Said.{Said as Ends}
-use Rattle.edits.specs.declared.repair_text.Said.TheVariants as ends
 
 -- The tape's count, the old length, and the cut's ends.
 abbrev pub cut_of : ℕ → ℕ → ℕ → ℕ → Cut
@@ -49,19 +45,19 @@ repair_in text q tape rest aside =
     (any_text (told_of tape q text) left copy, left ++ rest, copy)
 
 -- What the first four words of `P` say.
-unfoldable pub front_of : List ℕ → Said
+unfoldable pub front_of : List ℕ → Option Cut
 front_of words =
     let two = behind_word words in
     let three = behind_word two in
-    by_number (decimal_of (first_word words)) Bad (λ count.
-    by_number (decimal_of (first_word two)) Bad (λ old.
-    by_number (decimal_of (first_word three)) Bad (λ a.
-    by_number (decimal_of (first_word (behind_word three))) Bad (λ b. Asks (cut_of count old a b)))))
+    by_number (decimal_of (first_word words)) None (λ count.
+    by_number (decimal_of (first_word two)) None (λ old.
+    by_number (decimal_of (first_word three)) None (λ a.
+    by_number (decimal_of (first_word (behind_word three))) None (λ b. Some (cut_of count old a b)))))
 
 -- What goes on with them, or what is said of a line that is no case.
-abbrev pub by_said : {A : Type 0} → Said → A → (Cut → A) → A
-by_said (Asks q) bad own = own q
-by_said Bad bad own = bad
+abbrev pub by_said : {A : Type 0} → Option Cut → A → (Cut → A) → A
+by_said (Some q) bad own = own q
+by_said None bad own = bad
 
 -- `P COUNT OLDLEN A B HEX N,N,..`: any tape, as many numbers as the line has. What is said, and the rooms for the text, the tape and the copy afterwards.
 unfoldable pub any_line : List ℕ → List ℕ → List ℕ → List ℕ → List ℕ × List ℕ × List ℕ × List ℕ
@@ -139,15 +135,15 @@ cut_line word a b old text tape aside =
     (bad_text, text, tape, aside)
 
 -- What the first two words of `p` say.
-unfoldable pub ends_of : List ℕ → Ends
+unfoldable pub ends_of : List ℕ → Option (ℕ × ℕ)
 ends_of words =
-    by_number (decimal_of (first_word words)) ends.Bad (λ a.
-    by_number (decimal_of (first_word (behind_word words))) ends.Bad (λ b. ends.Asks a b))
+    by_number (decimal_of (first_word words)) None (λ a.
+    by_number (decimal_of (first_word (behind_word words))) None (λ b. Some (a, b)))
 
 -- What goes on with them, or what is said of a line that is no case.
-abbrev pub by_ends : {A : Type 0} → Ends → A → (ℕ → ℕ → A) → A
-by_ends (ends.Asks a b) bad own = own a b
-by_ends ends.Bad bad own = bad
+abbrev pub by_ends : {A : Type 0} → Option (ℕ × ℕ) → A → (ℕ → ℕ → A) → A
+by_ends (Some e) bad own = own e.0 e.1
+by_ends None bad own = bad
 
 -- `p A B NEWHEX HEX`: what is said, and the rooms for the texts, the tape and the copy afterwards.
 unfoldable pub text_line : List ℕ → List ℕ → List ℕ → List ℕ → List ℕ × List ℕ × List ℕ × List ℕ

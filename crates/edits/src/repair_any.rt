@@ -7,41 +7,19 @@ ghost use Rattle.edits.specs.Repairs.{told_of, tape_after, any_text, repair_in, 
 use crate::cuts::Cut;
 use lent::copies;
 use sarridok::RepairAnswer;
-use words::hex::Hex;
-use words::list::Count;
-use words::number::Decimal;
 use words::{hex, list, number};
 
-// The cut that is asked for; or the line is no case.
-#[derive(Clone, Copy)]
-enum Said {
-    Asks(Cut),
-    Bad,
-}
-
-// What the first four words say.
-fn front(words: &[u8]) -> Said
+// What the first four words ask; none where the line is no case.
+fn front(words: &[u8]) -> Option<Cut>
     ensures { result ≡ front_of words.now }
 {
-    let first = number::decimal_of(words::word(words));
-    let Decimal::Value(count) = first else {
-        return Said::Bad;
-    };
+    let count = number::decimal_of(words::word(words))?;
     let words = words::behind(words);
-    let second = number::decimal_of(words::word(words));
-    let Decimal::Value(old) = second else {
-        return Said::Bad;
-    };
+    let old = number::decimal_of(words::word(words))?;
     let words = words::behind(words);
-    let third = number::decimal_of(words::word(words));
-    let Decimal::Value(a) = third else {
-        return Said::Bad;
-    };
-    let fourth = number::decimal_of(words::word(words::behind(words)));
-    let Decimal::Value(b) = fourth else {
-        return Said::Bad;
-    };
-    Said::Asks(Cut {
+    let a = number::decimal_of(words::word(words))?;
+    let b = number::decimal_of(words::word(words::behind(words)))?;
+    Some(Cut {
         count: count as usize,
         old: old as usize,
         a: a as usize,
@@ -114,17 +92,14 @@ pub fn answer(
         × (tape.new ≡ (any_line words.now text.old tape.old aside.old).2)
         × (aside.new ≡ (any_line words.now text.old tape.old aside.old).3) }
 {
-    let asked = front(words);
-    let Said::Asks(q) = asked else {
+    let Some(q) = front(words) else {
         return show::bad(o, at);
     };
     let words = words::behind(words::behind(words::behind(words::behind(words))));
-    let bytes = hex::bytes(words::word(words), text);
-    let Hex::Bytes(n) = bytes else {
+    let Some(n) = hex::bytes(words::word(words), text) else {
         return show::bad(o, at);
     };
-    let numbers = list::numbers(words::behind(words), tape);
-    let Count::Stored(k) = numbers else {
+    let Some(k) = list::numbers(words::behind(words), tape) else {
         return show::bad(o, at);
     };
     lent(lines::part(&text[..], 0, n), q, k, tape, aside, o, at)

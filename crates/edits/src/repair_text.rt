@@ -10,29 +10,15 @@ use crate::cuts::Cut;
 use lent::{copies, numbers};
 use rows::row;
 use sarridok::{ReadAnswer, RepairAnswer};
-use words::hex::Hex;
-use words::number::Decimal;
 use words::{hex, number};
 
-// The ends of the cut; or the line is no case.
-#[derive(Clone, Copy)]
-enum Said {
-    Asks(usize, usize),
-    Bad,
-}
-
-fn front(words: &[u8]) -> Said
+// The ends of the cut, which the first two words say; none where the line is no case.
+fn front(words: &[u8]) -> Option<(usize, usize)>
     ensures { result ≡ ends_of words.now }
 {
-    let first = number::decimal_of(words::word(words));
-    let Decimal::Value(a) = first else {
-        return Said::Bad;
-    };
-    let second = number::decimal_of(words::word(words::behind(words)));
-    let Decimal::Value(b) = second else {
-        return Said::Bad;
-    };
-    Said::Asks(a as usize, b as usize)
+    let a = number::decimal_of(words::word(words))?;
+    let b = number::decimal_of(words::word(words::behind(words)))?;
+    Some((a as usize, b as usize))
 }
 
 fn most(n: usize, m: usize) -> usize
@@ -180,8 +166,8 @@ fn edit(
     )
 }
 
-// The bytes that a word says, behind the first k.
-fn bytes_behind(word: &[u8], k: usize, text: &mut [u8]) -> Hex
+// How many bytes a word says, with these behind the first k.
+fn bytes_behind(word: &[u8], k: usize, text: &mut [u8]) -> Option<usize>
     requires { k ≤ length text.old }
     ensures { (result ≡ hex_in word.now (length (drop k text.old)))
         × (text.new ≡ take k text.old ++ over (pairs word.now) (drop k text.old)) }
@@ -218,8 +204,7 @@ fn cut(
         return show::bad(o, at);
     }
     let first = n + a;
-    let bytes = bytes_behind(word, first, text);
-    let Hex::Bytes(k) = bytes else {
+    let Some(k) = bytes_behind(word, first, text) else {
         return show::bad(o, at);
     };
     let end = first + k;
@@ -246,13 +231,11 @@ pub fn answer(
         × (tape.new ≡ (text_line words.now text.old tape.old aside.old).2)
         × (aside.new ≡ (text_line words.now text.old tape.old aside.old).3) }
 {
-    let asked = front(words);
-    let Said::Asks(a, b) = asked else {
+    let Some((a, b)) = front(words) else {
         return show::bad(o, at);
     };
     let words = words::behind(words::behind(words));
-    let old = hex::bytes(words::behind(words), text);
-    let Hex::Bytes(n) = old else {
+    let Some(n) = hex::bytes(words::behind(words), text) else {
         return show::bad(o, at);
     };
     cut(words::word(words), n, a, b, text, tape, aside, o, at)
