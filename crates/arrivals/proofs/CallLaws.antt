@@ -1,4 +1,5 @@
 -- What is said of a call is what its definition gives: the entries stand at the tape's front. Assumes nothing.
+use Rattle.std.proofs.Common.{Ok, Err}
 use Prim.Native.Nat.{ℕ, min, ◌+◌, ◌-◌, ◌*◌, ◌≤◌}
 use native.Mathlib.Omega.{arith}
 use mathlib.Core.Bool.{Bool, true, false, cond}
@@ -21,7 +22,7 @@ use Rattle.rows.specs.declared.Entry.{Entry}
 use Rattle.rows.proofs.RowLaws.{length_flat, entries_flat}
 use Rattle.show.specs.Answers.{bad_text, refused_text}
 use Rattle.show.specs.Readings.{entries_text, tape_text}
-use Rattle.text.specs.Refusals.{Told, accepted, refused}
+use Rattle.text.specs.Refusals.{Told}
 use Rattle.text.specs.declared.refusal.Refusal.{Refusal}
 use Rattle.arrivals.specs.Arrives.{given_text, piece_text, end_text}
 use Rattle.arrivals.specs.Any.{left_text, piece_line, room_for}
@@ -71,8 +72,8 @@ module _ (es : List Entry) (tape left : List ℕ) (l : left ≡ laid es tape) (s
 -- ---- the end
 
 pub end_says : (told : Told Rest) (tape left : List ℕ) → left ≡ rest_laid told tape → length left ≡ length tape → ended_text (ended_of told) left ≡ end_text told
-end_says (accepted e) tape left l same = given_said e.entries tape left l same e.refusal (eqb e.refusal.number 0) refl
-end_says (refused r) tape left l same = refl
+end_says (Ok e) tape left l same = given_said e.entries tape left l same e.refusal (eqb e.refusal.number 0) refl
+end_says (Err r) tape left l same = refl
 
 pub end_said : (told : Told Rest) (tape left : List ℕ) (out end : List ℕ × ℕ) (r : Ended) → r ≡ ended_of told → left ≡ rest_laid told tape
     → length left ≡ length tape → end ≡ put out (ended_text r left) → end ≡ put out (end_text told)
@@ -94,15 +95,15 @@ leaves_choice false n d a buffer = refl
 
 pub piece_says : (told : Told Outcome) (tape left : List ℕ) → left ≡ laid_in told tape → length left ≡ length tape
     → ended_text (without_state (arrived_of told)) left ≡ piece_text told
-piece_says (accepted o) tape left l same =
+piece_says (Ok o) tape left l same =
     let d : Refusal = o.next.refusal in
     ap (λ (x : Ended). ended_text x left) (without_choice (eqb d.number 0) (length o.entries) d o.next)
     ∙ given_said o.entries tape left l same d (eqb d.number 0) refl
-piece_says (refused r) tape left l same = refl
+piece_says (Err r) tape left l same = refl
 
 leaves_says : (told : Told Outcome) (buffer : List ℕ) → leaves_text (arrived_of told) (kept_in told buffer) ≡ left_text told buffer
-leaves_says (accepted o) buffer = leaves_choice (eqb o.next.refusal.number 0) (length o.entries) o.next.refusal o.next (kept_in (accepted o) buffer)
-leaves_says (refused r) buffer = refl
+leaves_says (Ok o) buffer = leaves_choice (eqb o.next.refusal.number 0) (length o.entries) o.next.refusal o.next (kept_in (Ok o) buffer)
+leaves_says (Err r) buffer = refl
 
 module _ (told : Told Outcome) (buffer after tape left : List ℕ) (r : Arrived) (e : r ≡ arrived_of told) (k : after ≡ kept_in told buffer)
     (l : left ≡ laid_in told tape) (same : length left ≡ length tape) (out mid : List ℕ × ℕ) (p : mid ≡ put out (ended_text (without_state r) left)) where

@@ -1,4 +1,5 @@
 -- A call over a marked tape leaves every mark behind the entries that it gives. Assumes nothing.
+use Rattle.std.proofs.Common.{Ok, Err}
 use Prim.Native.Nat.{ℕ, zero, suc, min, ◌+◌, ◌*◌, ◌<◌, ◌≤◌}
 use native.Mathlib.Omega.{arith}
 use mathlib.Core.Bool.{Bool, true, false, cond, ◌&&◌}
@@ -20,7 +21,7 @@ use Rattle.rows.specs.Rows.{width, room_of, flat, laid}
 use Rattle.rows.specs.declared.Entry.{Entry}
 use Rattle.rows.proofs.RowLaws.{length_flat}
 use Rattle.show.specs.Answers.{clean_text}
-use Rattle.text.specs.Refusals.{Told, accepted, refused}
+use Rattle.text.specs.Refusals.{Told}
 use Rattle.text.specs.declared.refusal.Refusal.{Refusal}
 use Rattle.text.proofs.Choices.{either, lt_or_le}
 use Rattle.arrivals.specs.inner.Says.{without_state, is_clean}
@@ -95,14 +96,14 @@ module _ (tape before left : List ℕ) (m : before ≡ marked mark_at (length ta
   refused_clean r c = c
 
   end_clean : (told : Told Rest) → left ≡ rest_laid told before → is_clean (ended_of told) left ≡ true
-  end_clean (accepted e) l = given_clean (eqb e.refusal.number 0) (length e.entries) e.refusal (laid_clean e.entries l)
-  end_clean (refused r) l = refused_clean r (kept_clean l)
+  end_clean (Ok e) l = given_clean (eqb e.refusal.number 0) (length e.entries) e.refusal (laid_clean e.entries l)
+  end_clean (Err r) l = refused_clean r (kept_clean l)
 
   piece_clean : (told : Told Outcome) → left ≡ laid_in told before → is_clean (without_state (arrived_of told)) left ≡ true
-  piece_clean (accepted o) l =
+  piece_clean (Ok o) l =
       ap (λ (x : Ended). is_clean x left) (without_choice (eqb o.next.refusal.number 0) (length o.entries) o.next.refusal o.next)
       ∙ given_clean (eqb o.next.refusal.number 0) (length o.entries) o.next.refusal (laid_clean o.entries l)
-  piece_clean (refused r) l = refused_clean r (kept_clean l)
+  piece_clean (Err r) l = refused_clean r (kept_clean l)
 
   -- so nothing is said of it
   module _ (out mid end : List ℕ × ℕ) (said : List ℕ) (p : mid ≡ put out said) (b : Bool) (z : end ≡ put mid (clean_text b)) where

@@ -1,4 +1,5 @@
 -- A piece of a text: the next bytes stand behind those that are kept, and the rest is as it was. Assumes nothing.
+use Rattle.std.proofs.Common.{Ok, Err}
 use Prim.Native.Nat.{ℕ, zero, suc, min, ◌+◌, ◌-◌, ◌≤◌}
 use native.Mathlib.Nat.{not-suc-le-zero, le_of_suc-le-suc}
 use native.Mathlib.Omega.{arith, min_cases}
@@ -15,7 +16,7 @@ use Rattle.lines.specs.Over.{over}
 use Rattle.pieces.specs.Pieces.{Outcome, arrived_of, kept_in, piece_of}
 use Rattle.pieces.specs.declared.state.Arrival.{Arrival}
 use Rattle.pieces.specs.declared.state.Arrived.TheVariants as arrived
-use Rattle.text.specs.Refusals.{Told, accepted, refused}
+use Rattle.text.specs.Refusals.{Told}
 use Rattle.text.specs.declared.refusal.Refusal.{Refusal}
 use Rattle.text.proofs.Lists.{tail_part}
 use Rattle.arrivals.specs.Arrives.{next_of, piece_text}
@@ -31,8 +32,8 @@ next_choice true n d s a = refl
 next_choice false n d s a = refl
 
 pub next_says : (s : Arrival) (told : Told Outcome) → next_by s (arrived_of told) ≡ next_of s told
-next_says s (accepted o) = next_choice (eqb o.next.refusal.number 0) (length o.entries) o.next.refusal s o.next
-next_says s (refused r) = refl
+next_says s (Ok o) = next_choice (eqb o.next.refusal.number 0) (length o.entries) o.next.refusal s o.next
+next_says s (Err r) = refl
 
 -- ---- bytes over others, and a front of them
 

@@ -1,4 +1,5 @@
 -- `Q NUMBERS STATE KEPT PIECE`: one call over any state, with a tape of so many numbers; `ANSWER -> STATE KEPT` for a piece, the answer alone for the end.
+use Rattle.std.specs.Prelude.{Ok, Err}
 use Rattle.std.specs.Prelude.{ℕ, ◌-◌, min, Bool, cond, ◌&&◌, List, [], ◌++◌, eqb, length, get_or}
 use Rattle.pieces.specs.Ends.{finish_of}
 use Rattle.pieces.specs.Pieces.{Outcome, kept_in, piece_of}
@@ -6,7 +7,7 @@ use Rattle.pieces.specs.declared.state.Arrival.{Arrival}
 use Rattle.rows.specs.Rows.{room_of}
 use Rattle.show.specs.Answers.{bad_text, refused_text}
 use Rattle.stored.specs.Numbers.{state_of}
-use Rattle.text.specs.Refusals.{Told, accepted, refused, not_in_order}
+use Rattle.text.specs.Refusals.{Told, not_in_order}
 use Rattle.words.specs.Hex.{hex_in, pairs}
 use Rattle.words.specs.Number.{decimal_of}
 use Rattle.words.specs.Said.{by_number, by_bytes, by_numbers}
@@ -42,8 +43,8 @@ spoken_of word kept room = by_numbers word room spoken.Bad (λ s. cond (eqb (len
 
 -- What a piece leaves: nothing is said of it where the piece was not taken.
 abbrev pub left_text : Told Outcome → List ℕ → List ℕ
-left_text (accepted o) buffer = stands_text o.next (kept_in (accepted o) buffer)
-left_text (refused r) buffer = []
+left_text (Ok o) buffer = stands_text o.next (kept_in (Ok o) buffer)
+left_text (Err r) buffer = []
 
 -- What the last n bytes of a buffer say and leave as a piece.
 unfoldable pub piece_line : Arrival → List ℕ → ℕ → ℕ → List ℕ

@@ -1,4 +1,5 @@
 -- A state as text: the nine numbers of crate stored, `taken,part,gap,level,last,number,place,reason,former`, and the bytes that are kept.
+use Rattle.std.specs.Prelude.{Some, None, Option}
 use Rattle.std.specs.Prelude.{ℕ, cond, List, ◌∷◌, ◌++◌, eqb, length, take}
 use Rattle.gaps.specs.declared.state.Open.{Open}
 use Rattle.gaps.specs.declared.state.Open.TheVariants.{Clear, Slash, Line, Block}
@@ -6,17 +7,15 @@ use Rattle.lines.specs.Ascii.{ascii}
 use Rattle.lines.specs.Decimal.{decimal}
 use Rattle.pieces.specs.declared.state.Arrival.{Arrival}
 use Rattle.show.specs.Hexes.{hex_text}
-use Rattle.stored.specs.declared.states.Stored.{Stored}
-use Rattle.stored.specs.declared.states.Stored.TheVariants as stored
 use Rattle.arrivals.specs.declared.states.Spoken.{Spoken}
 use Rattle.arrivals.specs.declared.states.Spoken.TheVariants as spoken
 
 -- ---- read
 
 -- What numbers say that a word has.
-abbrev pub spoken_by : Stored → Spoken
-spoken_by (stored.State a) = spoken.State a
-spoken_by stored.Unfit = spoken.Unfit
+abbrev pub spoken_by : Option Arrival → Spoken
+spoken_by (Some a) = spoken.State a
+spoken_by None = spoken.Unfit
 
 -- ---- shown
 

@@ -8,7 +8,6 @@ ghost use Rattle.arrivals.specs.inner.Says.{leaves_text};
 use gaps::Open;
 use lines::out;
 use pieces::state::{Arrival, Arrived};
-use stored::Stored;
 
 // The state that a word says; or numbers that no state has; or the word is no state.
 #[derive(Clone, Copy)]
@@ -24,8 +23,8 @@ pub fn state_of(s: &[u32], kept: usize) -> Spoken
 {
     let said = stored::state_of(s, kept);
     match said {
-        Stored::State(a) => Spoken::State(a),
-        Stored::Unfit => Spoken::Unfit,
+        Some(a) => Spoken::State(a),
+        None => Spoken::Unfit,
     }
 }
 

@@ -1,4 +1,5 @@
 -- What is printed of a call is what its definition gives: the entries stand at the tape's front. Assumes nothing.
+use Rattle.std.proofs.Common.{Ok, Err}
 use Prim.Native.Nat.{ℕ, min, ◌+◌, ◌*◌, ◌≤◌}
 use native.Mathlib.Omega.{arith}
 use mathlib.Core.Bool.{Bool, true, false, cond}
@@ -17,7 +18,7 @@ use Rattle.pieces.specs.declared.state.Ended.TheVariants as ended
 use Rattle.rows.specs.Rows.{width, room_of, entries_of, flat, laid}
 use Rattle.rows.specs.declared.Entry.{Entry}
 use Rattle.rows.proofs.RowLaws.{length_flat, entries_flat}
-use Rattle.text.specs.Refusals.{Told, accepted, refused}
+use Rattle.text.specs.Refusals.{Told}
 use Rattle.text.specs.declared.refusal.Refusal.{Refusal}
 use Rattle.arrive.specs.Printed.{lines_text, refusal_text, given_text, piece_text, end_text, next_of, goes_on}
 use Rattle.arrive.specs.inner.Said.{tape_lines, stopped_text, ended_text, without_state, next_by, on_by}
@@ -56,8 +57,8 @@ module _ (es : List Entry) (tape left : List ℕ) (l : left ≡ laid es tape) (s
 -- ---- the end
 
 end_says : (told : Told Rest) (tape left : List ℕ) → left ≡ rest_laid told tape → length left ≡ length tape → ended_text (ended_of told) left ≡ end_text told
-end_says (accepted e) tape left l same = given_said e.entries tape left l same e.refusal (eqb e.refusal.number 0) refl
-end_says (refused r) tape left l same = refl
+end_says (Ok e) tape left l same = given_said e.entries tape left l same e.refusal (eqb e.refusal.number 0) refl
+end_says (Err r) tape left l same = refl
 
 pub end_said : (told : Told Rest) (tape left : List ℕ) (r : Ended) → r ≡ ended_of told → left ≡ rest_laid told tape → length left ≡ length tape
     → (out end : List ℕ × ℕ) → end ≡ put out (ended_text r left) → end ≡ put out (end_text told)
@@ -82,19 +83,19 @@ on_choice false n d a = refl
 
 piece_says : (told : Told Outcome) (tape left : List ℕ) → left ≡ laid_in told tape → length left ≡ length tape
     → ended_text (without_state (arrived_of told)) left ≡ piece_text told
-piece_says (accepted o) tape left l same =
+piece_says (Ok o) tape left l same =
     let d : Refusal = o.next.refusal in
     ap (λ (x : Ended). ended_text x left) (without_choice (eqb d.number 0) (length o.entries) d o.next)
     ∙ given_said o.entries tape left l same d (eqb d.number 0) refl
-piece_says (refused r) tape left l same = refl
+piece_says (Err r) tape left l same = refl
 
 next_says : (s : Arrival) (told : Told Outcome) → next_by s (arrived_of told) ≡ next_of s told
-next_says s (accepted o) = next_choice (eqb o.next.refusal.number 0) (length o.entries) o.next.refusal s o.next
-next_says s (refused r) = refl
+next_says s (Ok o) = next_choice (eqb o.next.refusal.number 0) (length o.entries) o.next.refusal s o.next
+next_says s (Err r) = refl
 
 on_says : (told : Told Outcome) → on_by (arrived_of told) ≡ goes_on told
-on_says (accepted o) = on_choice (eqb o.next.refusal.number 0) (length o.entries) o.next.refusal o.next
-on_says (refused r) = refl
+on_says (Ok o) = on_choice (eqb o.next.refusal.number 0) (length o.entries) o.next.refusal o.next
+on_says (Err r) = refl
 
 module _ (told : Told Outcome) (r : Arrived) (e : r ≡ arrived_of told) where
   pub piece_said : (tape left : List ℕ) → left ≡ laid_in told tape → length left ≡ length tape

@@ -1,5 +1,6 @@
 -- What the program prints (document 02, change request 3): "We want to hand over each piece and get the entries decided so far. .. One answer may carry entries with
 -- a refusal behind them". An entry's five numbers on a line of its own, and a refusal's number and place last, as the program `tape` prints them.
+use Rattle.std.specs.Prelude.{Ok, Err}
 use Rattle.std.specs.Prelude.{ℕ, Bool, false, cond, List, [], ◌∷◌, ◌++◌, eqb}
 use Rattle.lines.specs.Decimal.{decimal, word_of}
 use Rattle.pieces.specs.Ends.{Rest}
@@ -7,7 +8,7 @@ use Rattle.pieces.specs.Pieces.{Outcome}
 use Rattle.pieces.specs.declared.state.Arrival.{Arrival}
 use Rattle.rows.specs.declared.Entry.{Entry}
 use Rattle.show.specs.Answers.{placed_text}
-use Rattle.text.specs.Refusals.{Told, accepted, refused}
+use Rattle.text.specs.Refusals.{Told}
 use Rattle.text.specs.declared.refusal.Refusal.{Refusal}
 
 -- An entry's line.
@@ -29,20 +30,20 @@ given_text es d = lines_text es ++ cond (eqb d.number 0) [] (refusal_text d)
 
 -- What is printed of a piece.
 abbrev pub piece_text : Told Outcome → List ℕ
-piece_text (accepted o) = given_text o.entries o.next.refusal
-piece_text (refused r) = refusal_text r
+piece_text (Ok o) = given_text o.entries o.next.refusal
+piece_text (Err r) = refusal_text r
 
 -- What is printed of the end.
 abbrev pub end_text : Told Rest → List ℕ
-end_text (accepted e) = given_text e.entries e.refusal
-end_text (refused r) = refusal_text r
+end_text (Ok e) = given_text e.entries e.refusal
+end_text (Err r) = refusal_text r
 
 -- The state behind a piece: as it was where the piece was not taken.
 abbrev pub next_of : Arrival → Told Outcome → Arrival
-next_of a (accepted o) = o.next
-next_of a (refused r) = a
+next_of a (Ok o) = o.next
+next_of a (Err r) = a
 
 -- Whether the text goes on behind a piece: nothing was refused.
 abbrev pub goes_on : Told Outcome → Bool
-goes_on (accepted o) = eqb o.next.refusal.number 0
-goes_on (refused r) = false
+goes_on (Ok o) = eqb o.next.refusal.number 0
+goes_on (Err r) = false

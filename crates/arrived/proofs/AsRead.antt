@@ -7,6 +7,7 @@
 --     calls-30, calls-1, calls-2    each of the three is given where it is said to be
 --     calls_last      the last entry given is sealed by what has come
 -- Assumes nothing.
+use Rattle.std.proofs.Common.{Ok, Err}
 use Prim.Native.Nat.{ℕ, zero, suc, ◌+◌, ◌<◌, ◌≤◌}
 use native.Mathlib.Nat.{zero-add}
 use native.Mathlib.Omega.{arith}
@@ -19,9 +20,7 @@ use lib.ListN.{length, take}
 use borrow.Author.Tests.{le-ltb, ne_eqb}
 use Rattle.text.proofs.Choices.{and_true}
 use Rattle.text.specs.Judged.{behind_judged, judged_of}
-use Rattle.text.specs.Refusals.{Told, accepted, refused, entry_too_long, not_utf8, too_long}
-use Rattle.text.specs.declared.judge.Judged.{Judged}
-use Rattle.text.specs.declared.judge.Judged.TheVariants.{Fit}
+use Rattle.text.specs.Refusals.{Told, entry_too_long, not_utf8, too_long}
 use Rattle.text.specs.declared.refusal.Refusal.{Refusal}
 use Rattle.rows.specs.Rows.{laid, room_of}
 use Rattle.rows.specs.declared.Entry.{Entry}
@@ -62,8 +61,8 @@ use Rattle.arrived.proofs.OneReading.{bars_1, bars_2, bars_30, barred_halts, cal
 
 -- so many entries behind n others and no refusal, or the refusal
 abbrev Counts : ℕ → Reading → Told ℕ → Type 0
-Counts n r (accepted m) = (m ≡ n + length (entries r)) × (last_of r ≡ no_refusal)
-Counts n r (refused d) = last_of r ≡ d
+Counts n r (Ok m) = (m ≡ n + length (entries r)) × (last_of r ≡ no_refusal)
+Counts n r (Err d) = last_of r ≡ d
 
 counts : (r : Reading) (n : ℕ) → Counts n r (counted n r)
 unfolding counted entries last_of
@@ -72,40 +71,40 @@ counts (broken d) n = refl
 counts (entry e r) n = go (counted (n + 1) r) (counts r (n + 1))
   where
     go : (t : Told ℕ) → Counts (n + 1) r t → Counts n (entry e r) t
-    go (accepted m) h = (omega (arith, h.0), h.1)
-    go (refused d) h = h
+    go (Ok m) h = (omega (arith, h.0), h.1)
+    go (Err d) h = h
 
 -- a refusal that a call gives has a number
 given_some : (r : Refusal) → Given r → r.number ≡ 0 → ⊥
 unfolding given within
 given_some r h e = true≢false (sym (and_true (given r.number) (reasoned r) h).0 ∙ ap given e)
 
-module _ (text : List ℕ) (fit : judged_of text ≡ Fit) where
+module _ (text : List ℕ) (fit : judged_of text ≡ Ok tt) where
   answers : (numbers : ℕ) (t : Told ℕ) → counted 0 (reading_of text) ≡ t → read_answer text numbers ≡ room_for (room_of numbers) t
   unfolding read_answer
-  answers numbers t h = ap (λ (j : Judged). behind_judged j (fitted (room_of numbers) (reading_of text))) fit ∙ ap (room_for (room_of numbers)) h
+  answers numbers t h = ap (λ (j : Told Unit). behind_judged j (fitted (room_of numbers) (reading_of text))) fit ∙ ap (room_for (room_of numbers)) h
 
   -- the reading is not refused, and there is room
   accepts : (tape : List ℕ) → (last_of (reading_of text)).number ≡ 0 → length (entries (reading_of text)) ≤ room_of (length tape)
-      → (read_answer text (length tape) ≡ accepted (length (entries (reading_of text)))) × (read_tape text tape ≡ laid (entries (reading_of text)) tape)
+      → (read_answer text (length tape) ≡ Ok (length (entries (reading_of text)))) × (read_tape text tape ≡ laid (entries (reading_of text)) tape)
   unfolding read_tape
   accepts tape n l = go (counted 0 (reading_of text)) refl (counts (reading_of text) 0)
     where
       go : (t : Told ℕ) → counted 0 (reading_of text) ≡ t → Counts 0 (reading_of text) t
-          → (read_answer text (length tape) ≡ accepted (length (entries (reading_of text)))) × (read_tape text tape ≡ laid (entries (reading_of text)) tape)
-      go (accepted m) q h =
+          → (read_answer text (length tape) ≡ Ok (length (entries (reading_of text)))) × (read_tape text tape ≡ laid (entries (reading_of text)) tape)
+      go (Ok m) q h =
           let fits : ltb (room_of (length tape)) m ≡ false = le-ltb (room_of (length tape)) m (omega (arith, h.0)) in
-          let is : read_answer text (length tape) ≡ accepted m = answers (length tape) (accepted m) q ∙ rw fits in
-          (is ∙ ap (λ (k : ℕ). accepted k) (h.0 ∙ zero-add (length (entries (reading_of text)))), ap (λ (t : Told ℕ). laid_by t (reading_of text) tape) is)
-      go (refused d) q h = absurd (given_some d (read_given text (length tape) d (answers (length tape) (refused d) q)) (ap (λ (r : Refusal). r.number) (sym h) ∙ n))
+          let is : read_answer text (length tape) ≡ Ok m = answers (length tape) (Ok m) q ∙ rw fits in
+          (is ∙ ap (λ (k : ℕ). Ok k) (h.0 ∙ zero-add (length (entries (reading_of text)))), ap (λ (t : Told ℕ). laid_by t (reading_of text) tape) is)
+      go (Err d) q h = absurd (given_some d (read_given text (length tape) d (answers (length tape) (Err d) q)) (ap (λ (r : Refusal). r.number) (sym h) ∙ n))
 
   -- the reading is refused
-  refuses : (numbers : ℕ) → ((last_of (reading_of text)).number ≡ 0 → ⊥) → read_answer text numbers ≡ refused (last_of (reading_of text))
+  refuses : (numbers : ℕ) → ((last_of (reading_of text)).number ≡ 0 → ⊥) → read_answer text numbers ≡ Err (last_of (reading_of text))
   refuses numbers n = go (counted 0 (reading_of text)) refl (counts (reading_of text) 0)
     where
-      go : (t : Told ℕ) → counted 0 (reading_of text) ≡ t → Counts 0 (reading_of text) t → read_answer text numbers ≡ refused (last_of (reading_of text))
-      go (accepted m) q h = absurd (n (ap (λ (r : Refusal). r.number) h.1))
-      go (refused d) q h = answers numbers (refused d) q ∙ ap (λ (r : Refusal). refused r) (sym h)
+      go : (t : Told ℕ) → counted 0 (reading_of text) ≡ t → Counts 0 (reading_of text) t → read_answer text numbers ≡ Err (last_of (reading_of text))
+      go (Ok m) q h = absurd (n (ap (λ (r : Refusal). r.number) h.1))
+      go (Err d) q h = answers numbers (Err d) q ∙ ap (λ (r : Refusal). Err r) (sym h)
 
 -- ---- the calls beside read
 
@@ -114,21 +113,21 @@ pub calls_end : {ps : List (List ℕ)} {es : List Entry} {a : Arrival} {kept : L
     → finish_of a (kept ++ junk) room ≡ fitting room (rest_given (text_ends (joined ps)))
 calls_end k = finish_shows (begun_calls k).shows
 
-module _ {ps : List (List ℕ)} {es : List Entry} {a : Arrival} {kept : List ℕ} (k : FromBegin ps es a kept) (fit : judged_of (joined ps) ≡ Fit) (no-30 : a.refusal.number ≡ 30 → ⊥)
-    (junk : List ℕ) (room : ℕ) (e : Rest) (h : finish_of a (kept ++ junk) room ≡ accepted e) where
+module _ {ps : List (List ℕ)} {es : List Entry} {a : Arrival} {kept : List ℕ} (k : FromBegin ps es a kept) (fit : judged_of (joined ps) ≡ Ok tt) (no-30 : a.refusal.number ≡ 30 → ⊥)
+    (junk : List ℕ) (room : ℕ) (e : Rest) (h : finish_of a (kept ++ junk) room ≡ Ok e) where
   -- the text is accepted: so it is by read, with room enough, and all entries are those on its tape
   pub calls_accept : e.refusal.number ≡ 0 → (tape : List ℕ) → length (es ++ e.entries) ≤ room_of (length tape)
-      → (read_answer (joined ps) (length tape) ≡ accepted (length (es ++ e.entries))) × (read_tape (joined ps) tape ≡ laid (es ++ e.entries) tape)
+      → (read_answer (joined ps) (length tape) ≡ Ok (length (es ++ e.entries))) × (read_tape (joined ps) tape ≡ laid (es ++ e.entries) tape)
   calls_accept n tape l =
       let c = calls_read k fit no-30 junk room e h in
-      subst (λ (xs : List Entry). (read_answer (joined ps) (length tape) ≡ accepted (length xs)) × (read_tape (joined ps) tape ≡ laid xs tape)) (sym c.0)
+      subst (λ (xs : List Entry). (read_answer (joined ps) (length tape) ≡ Ok (length xs)) × (read_tape (joined ps) tape ≡ laid xs tape)) (sym c.0)
       (accepts (joined ps) fit tape (ap (λ (r : Refusal). r.number) (sym c.1) ∙ n) (omega (arith, ap length c.0)))
 
   -- the text is refused: read refuses it so, whatever its room
-  pub calls_refuse : (e.refusal.number ≡ 0 → ⊥) → (numbers : ℕ) → read_answer (joined ps) numbers ≡ refused e.refusal
+  pub calls_refuse : (e.refusal.number ≡ 0 → ⊥) → (numbers : ℕ) → read_answer (joined ps) numbers ≡ Err e.refusal
   calls_refuse n numbers =
       let c = calls_read k fit no-30 junk room e h in
-      refuses (joined ps) fit numbers (λ q. n (ap (λ (r : Refusal). r.number) c.1 ∙ q)) ∙ ap (λ (r : Refusal). refused r) (sym c.1)
+      refuses (joined ps) fit numbers (λ q. n (ap (λ (r : Refusal). r.number) c.1 ∙ q)) ∙ ap (λ (r : Refusal). Err r) (sym c.1)
 
 -- ---- the three exceptions are given where they are said to be
 
@@ -187,7 +186,7 @@ module _ {ps : List (List ℕ)} {es : List Entry} {a : Arrival} {kept : List ℕ
       go (inr w) = barred_arrives w.0
 
   -- and so is its end
-  pub end_numbers : (junk : List ℕ) (room : ℕ) (e : Rest) → finish_of a (kept ++ junk) room ≡ accepted e → (e.refusal.number ≡ 0 → ⊥) → Arrives e.refusal
+  pub end_numbers : (junk : List ℕ) (room : ℕ) (e : Rest) → finish_of a (kept ++ junk) room ≡ Ok e → (e.refusal.number ≡ 0 → ⊥) → Arrives e.refusal
   unfolding last_of arrives within
   end_numbers junk room e h n =
       let text : List ℕ = joined ps in

@@ -1,5 +1,7 @@
 -- However a text is cut: what the calls give together, and the state behind them (`calls-show`, `calls-cut`); the only refusal of a call is 22 (`only-no-room`); a refusal
 -- that was given comes again (`refusal-again`, `refusal-at-the-end`). Assumes nothing.
+use Rattle.std.proofs.Common.{Ok, Err}
+use Rattle.text.specs.Refusals.{Told}
 use Prim.Native.Nat.{ℕ, ◌+◌, ◌-◌, ◌≤◌}
 use native.Mathlib.Nat.{add-zero}
 use native.Mathlib.Omega.{arith}
@@ -8,7 +10,7 @@ use mathlib.Core.List.{List, [], ◌++◌}
 use mathlib.Core.Path.{◌≡◌, ap, ap₂, refl, subst, sym, ◌∙◌}
 use lib.Dec.{eqb, ltb}
 use lib.ListN.{length}
-use Rattle.text.specs.Refusals.{accepted, refused, no_room}
+use Rattle.text.specs.Refusals.{no_room}
 use Rattle.text.specs.declared.refusal.Refusal.{Refusal}
 use Rattle.rows.specs.declared.Entry.{Entry}
 use Rattle.octets.specs.Octets.{allowed_of}
@@ -33,35 +35,35 @@ use Rattle.arrived.proofs.States.{begun_shows, shown_in_order, shown_kept}
 -- ---- one call
 
 -- an accepted call is its outcome
-room_accepted : (room : ℕ) (o q : Outcome) → in_room room o ≡ accepted q → o ≡ q
+room_accepted : (room : ℕ) (o q : Outcome) → in_room room o ≡ Ok q → o ≡ q
 room_accepted room o q = go (ltb room (length o.entries))
   where
-    go : (t : Bool) → cond t (refused no_room) (accepted o) ≡ accepted q → o ≡ q
+    go : (t : Bool) → ◌≡◌ {A = Told _} (cond t (Err no_room) (Ok o)) (Ok q) → o ≡ q
     go true e = let z : ◌≡◌ {A = ℕ} 0 1 = cc in absurd (omega arith)
     go false e = cc
 
-room_refused : (room : ℕ) (o : Outcome) (d : Refusal) → in_room room o ≡ refused d → d ≡ no_room
+room_refused : (room : ℕ) (o : Outcome) (d : Refusal) → in_room room o ≡ Err d → d ≡ no_room
 room_refused room o d = go (ltb room (length o.entries))
   where
-    go : (t : Bool) → cond t (refused no_room) (accepted o) ≡ refused d → d ≡ no_room
+    go : (t : Bool) → ◌≡◌ {A = Told _} (cond t (Err no_room) (Ok o)) (Err d) → d ≡ no_room
     go true e = let z : no_room ≡ d = cc in sym z
     go false e = let z : ◌≡◌ {A = ℕ} 0 1 = cc in absurd (omega arith)
 
 module _ {c : Coming} {t : ℕ} {a : Arrival} {kept : List ℕ} (s : Shows c t a kept) (w junk : List ℕ) (room : ℕ) where
-  pub call_answers : (o : Outcome) → piece_of a (kept ++ (w ++ junk)) (length w) room ≡ accepted o → Answers (piece ron_reader rule_bar c w) t a.former o
+  pub call_answers : (o : Outcome) → piece_of a (kept ++ (w ++ junk)) (length w) room ≡ Ok o → Answers (piece ron_reader rule_bar c w) t a.former o
   call_answers o e =
       let k = called s w junk room in
       subst (Answers (piece ron_reader rule_bar c w) t a.former) (room_accepted room k.outcome o (sym k.is ∙ e)) k.answers
 
   -- document 02: 23 "never for [a state] that these calls made": a call over one is refused with 22, or not at all
-  pub only_no_room : (d : Refusal) → piece_of a (kept ++ (w ++ junk)) (length w) room ≡ refused d → d ≡ no_room
+  pub only_no_room : (d : Refusal) → piece_of a (kept ++ (w ++ junk)) (length w) room ≡ Err d → d ≡ no_room
   only_no_room d e = let k = called s w junk room in room_refused room k.outcome d (sym k.is ∙ e)
 
 -- nor is the end
-pub end_no_room : {c : Coming} {t : ℕ} {a : Arrival} {kept : List ℕ} → Shows c t a kept → (junk : List ℕ) (room : ℕ) (d : Refusal) → finish_of a (kept ++ junk) room ≡ refused d → d ≡ no_room
+pub end_no_room : {c : Coming} {t : ℕ} {a : Arrival} {kept : List ℕ} → Shows c t a kept → (junk : List ℕ) (room : ℕ) (d : Refusal) → finish_of a (kept ++ junk) room ≡ Err d → d ≡ no_room
 end_no_room {c} s junk room d e = go (ltb room (length (entries (end_gives c)))) (sym (finish_shows s junk room) ∙ e)
   where
-    go : (t : Bool) → cond t (refused no_room) (accepted (rest_given (end_gives c))) ≡ refused d → d ≡ no_room
+    go : (t : Bool) → ◌≡◌ {A = Told _} (cond t (Err no_room) (Ok (rest_given (end_gives c)))) (Err d) → d ≡ no_room
     go true h = let z : no_room ≡ d = cc in sym z
     go false h = let z : ◌≡◌ {A = ℕ} 0 1 = cc in absurd (omega arith)
 
@@ -139,8 +141,8 @@ calls_in_order k = shown_in_order (begun_calls k).shows
 
 module _ {c : Coming} {t : ℕ} {a : Arrival} {kept : List ℕ} (s : Shows c t a kept) (given : eqb a.refusal.number 0 ≡ false) where
   -- document 02: "After a refusal every later piece gets the same one"
-  pub refusal_again : (w junk : List ℕ) (room : ℕ) → piece_of a (kept ++ (w ++ junk)) (length w) room ≡ accepted (unchanged a kept)
+  pub refusal_again : (w junk : List ℕ) (room : ℕ) → piece_of a (kept ++ (w ++ junk)) (length w) room ≡ Ok (unchanged a kept)
   refusal_again w junk room = call_is a kept w junk room (shown_kept s).0 (shown_in_order s) ∙ rw given
 
-  pub refusal_at_the_end : (junk : List ℕ) (room : ℕ) → finish_of a (kept ++ junk) room ≡ accepted (record { entries = []; refusal = a.refusal })
+  pub refusal_at_the_end : (junk : List ℕ) (room : ℕ) → finish_of a (kept ++ junk) room ≡ Ok (record { entries = []; refusal = a.refusal })
   refusal_at_the_end junk room = finish_is a kept junk room (shown_kept s).0 (shown_in_order s) ∙ rw given

@@ -1,4 +1,5 @@
 -- The end by the calls is the end by the text: `finish-shows`. Assumes nothing.
+use Rattle.std.proofs.Common.{Ok}
 use Prim.Native.Nat.{ℕ, zero, suc, ◌+◌, ◌-◌, ◌≤◌}
 use native.Mathlib.Omega.{arith}
 use mathlib.Core.Bool.{true, false, cond}
@@ -8,7 +9,7 @@ use lib.Dec.{eqb, leb}
 use lib.ListN.{drop, length, length-append, take}
 use lib.Seq.{drop-append-add, drop-length, take-append_seam, take-length}
 use borrow.Author.Tests.{le-leb, le-ltb, lt-ltb, ne_eqb}
-use Rattle.text.specs.Refusals.{accepted, eof, not_utf8, placed_behind, unclosed_block_comment}
+use Rattle.text.specs.Refusals.{eof, not_utf8, placed_behind, unclosed_block_comment}
 use Rattle.text.specs.Utf8.{Text}
 use Rattle.text.specs.declared.refusal.Refusal.{Refusal}
 use Rattle.comments.specs.Gaps.{gap_of}
@@ -194,13 +195,13 @@ ending_is at rest zero k = whole_ending at rest k ∙ ap (λ (a : Allowed). rest
 ending_is at rest (suc m) k = part_ending at rest m (parts at rest (suc m) k).few ∙ ap (λ (a : Allowed). rest_given (end_by a at rest)) (sym k.utf8)
 
 pub finish_is : (a : Arrival) (kept junk : List ℕ) (room : ℕ) → a.kept ≡ length kept → in_order a ≡ true
-    → finish_of a (kept ++ junk) room ≡ cond (eqb a.refusal.number 0) (fitting room (ending_of a kept)) (accepted (record { entries = []; refusal = a.refusal }))
+    → finish_of a (kept ++ junk) room ≡ cond (eqb a.refusal.number 0) (fitting room (ending_of a kept)) (Ok (record { entries = []; refusal = a.refusal }))
 unfolding finish_of
 finish_is a kept junk room n h =
     let s : List ℕ = kept ++ junk in
     let one : take a.kept s ≡ kept = ap (λ (j : ℕ). take j s) n ∙ take-append_seam kept junk in
     let fits : leb a.kept (length s) ≡ true = le-leb a.kept (length s) (omega (arith, length-append kept junk)) in
-    rw (h, fits) (ap (λ (x : List ℕ). cond (eqb a.refusal.number 0) (fitting room (ending_of a x)) (accepted (record { entries = []; refusal = a.refusal }))) one)
+    rw (h, fits) (ap (λ (x : List ℕ). cond (eqb a.refusal.number 0) (fitting room (ending_of a x)) (Ok (record { entries = []; refusal = a.refusal }))) one)
 
 stopped_end : (n former : ℕ) (d : Refusal) (junk : List ℕ) (room : ℕ) → in_order (stopped_state n former d) ≡ true → eqb d.number 0 ≡ false
     → finish_of (stopped_state n former d) ([] ++ junk) room ≡ fitting room (rest_given (broken d))

@@ -1,5 +1,6 @@
 -- What the rule comes to is in order: behind every byte, what has come may go on so, or the refusal is one that may have been given (`fits-piece`).
 -- Assumes nothing.
+use Rattle.std.proofs.Common.{Err}
 use Prim.Native.Nat.{ℕ, ◌+◌, ◌-◌, ◌<◌, ◌≤◌}
 use native.Mathlib.Nat.{add-zero, sub_self}
 use native.Mathlib.Omega.{arith}
@@ -38,7 +39,6 @@ use Rattle.tokens.proofs.RonLaws.{gap_token, refused_within, token_is}
 use Rattle.tokens.specs.Lexemes.{lexeme_of}
 use Rattle.tokens.specs.Ron.{by_gap, lexeme_behind, ron_token}
 use Rattle.tokens.specs.Token.{token_of}
-use Rattle.tokens.specs.declared.lexeme.LexemeAnswer.TheVariants as lexeme
 use Rattle.arriving.specs.Arrivals.{Coming, Given, Passing, is_refused, piece}
 use Rattle.arriving.specs.Arrivals.Coming.{going, halted, shut}
 use Rattle.arriving.specs.Arrivals.Passing.{halt, pass}
@@ -183,7 +183,7 @@ once_by : (s : List ℕ) (a : Gap) → gap_of s ≡ a → once_behind s a ≡ tr
 once_by s (gap.Clear g) e h =
     let n = nothing (drop g s) h in
     let i : g < length s = omega (arith, n.come, char_len_le (drop g s), length-drop g s) in
-    let is : lexeme_of (token_of (drop g s)) ≡ lexeme.Refused (unexpected_char 0) = ap (λ (t : List ℕ). lexeme_of (token_of t)) (sym (append-nil (drop g s))) ∙ ap lexeme_of (nothing_stays (drop g s) [] n) in
+    let is : lexeme_of (token_of (drop g s)) ≡ Err (unexpected_char 0) = ap (λ (t : List ℕ). lexeme_of (token_of t)) (sym (append-nil (drop g s))) ∙ ap lexeme_of (nothing_stays (drop g s) [] n) in
     ap is_refused (gap_token s g i ∙ ap (lexeme_behind g) is)
 once_by s (gap.InLine n) e h = let z : ◌≡◌ {A = ℕ} 0 1 = cc in absurd (omega arith)
 once_by s (gap.Refused r) e h = refl

@@ -6,6 +6,8 @@
 --     calls-unsealed   no entry is given late
 --     calls-sealed     nor too early
 -- Assumes nothing.
+use Rattle.std.proofs.Common.{Ok, Err, Some, None, Option}
+use Rattle.text.specs.Refusals.{Told}
 use Prim.Native.Nat.{ℕ, ◌+◌, ◌-◌, ◌<◌, ◌≤◌}
 use native.Mathlib.Nat.{add-zero, zero-add}
 use native.Mathlib.Omega.{arith}
@@ -20,12 +22,9 @@ use borrow.Author.Tests.{eqb-false, le-leb, lt-leb}
 use Rattle.text.proofs.Choices.{bool_cases, either}
 use Rattle.text.proofs.JudgeLaws.{fit_short}
 use Rattle.text.specs.Judged.{by_utf8, judged_of}
-use Rattle.text.specs.Refusals.{accepted, refused, entry_too_long, no_room, not_utf8, placed_behind, too_long}
+use Rattle.text.specs.Refusals.{entry_too_long, no_room, not_utf8, placed_behind, too_long}
 use Rattle.text.specs.Utf8.{utf8_of}
-use Rattle.text.specs.declared.judge.Judged.TheVariants.{Fit, Refused}
 use Rattle.text.specs.declared.refusal.Refusal.{Refusal}
-use Rattle.text.specs.declared.utf8.Utf8Answer.{Utf8Answer}
-use Rattle.text.specs.declared.utf8.Utf8Answer.TheVariants.{Good, BadAt}
 use Rattle.rows.specs.declared.Entry.{Entry}
 use Rattle.octets.proofs.Cutting.{all_good}
 use Rattle.octets.specs.Octets.{allowed_of}
@@ -65,19 +64,19 @@ use Rattle.arrived.proofs.States.{given_number}
 
 -- ---- a sound text
 
-pub fit_utf8 : (text : List ℕ) → judged_of text ≡ Fit → allowed_of text ≡ All 0
+pub fit_utf8 : (text : List ℕ) → judged_of text ≡ Ok tt → allowed_of text ≡ All 0
 unfolding judged_of
 fit_utf8 text h =
     either (bool_cases (ltb 65536 (length text)))
-    (λ t. let q : Refused too_long ≡ Fit = rw t at h in let z : ◌≡◌ {A = ℕ} 0 1 = cc in absurd (omega arith))
-    (λ t. let q : by_utf8 (utf8_of text) ≡ Fit = rw t at h in (all_good text).1 (by (utf8_of text) q))
+    (λ t. let q : ◌≡◌ {A = Told Unit} (Err too_long) (Ok tt) = rw t at h in let z : ◌≡◌ {A = ℕ} 0 1 = cc in absurd (omega arith))
+    (λ t. let q : by_utf8 (utf8_of text) ≡ Ok tt = rw t at h in (all_good text).1 (by (utf8_of text) q))
   where
-    by : (a : Utf8Answer) → by_utf8 a ≡ Fit → a ≡ Good
-    by Good e = refl
-    by (BadAt p) e = let z : ◌≡◌ {A = ℕ} 0 1 = cc in absurd (omega arith)
+    by : (a : Option ℕ) → by_utf8 a ≡ Ok tt → a ≡ None
+    by None e = refl
+    by (Some p) e = let z : ◌≡◌ {A = ℕ} 0 1 = cc in absurd (omega arith)
 
 -- over a sound text no byte is left but for 30
-pub only_30 : (text : List ℕ) (d : Refusal) → judged_of text ≡ Fit → (text_gives text).next ≡ halted d → d.number ≡ 30
+pub only_30 : (text : List ℕ) (d : Refusal) → judged_of text ≡ Ok tt → (text_gives text).next ≡ halted d → d.number ≡ 30
 only_30 text d h e = let w = halts_why text d e in by w.0 w.1
   where
     by : {n : ℕ} {c : Refusal} → Barred text n c → n < length text → c.number ≡ 30
@@ -110,10 +109,10 @@ unfolding last_of
 last_front [] r = refl
 last_front (e ∷ es) r = last_front es r
 
-pub fitting_accepted : (room : ℕ) (e q : Rest) → fitting room e ≡ accepted q → e ≡ q
+pub fitting_accepted : (room : ℕ) (e q : Rest) → fitting room e ≡ Ok q → e ≡ q
 fitting_accepted room e q = go (ltb room (length e.entries))
   where
-    go : (t : Bool) → cond t (refused no_room) (accepted e) ≡ accepted q → e ≡ q
+    go : (t : Bool) → ◌≡◌ {A = Told _} (cond t (Err no_room) (Ok e)) (Ok q) → e ≡ q
     go true h = let z : ◌≡◌ {A = ℕ} 0 1 = cc in absurd (omega arith)
     go false h = cc
 
@@ -140,7 +139,7 @@ taken_all (halted d) h = h d refl
 
 module _ {ps : List (List ℕ)} {es : List Entry} {a : Arrival} {kept : List ℕ} (k : FromBegin ps es a kept) where
   -- document 02: "However the text is cut, the entries .. and the last answer are those of one reading"
-  pub calls_read : judged_of (joined ps) ≡ Fit → (a.refusal.number ≡ 30 → ⊥) → (junk : List ℕ) (room : ℕ) (e : Rest) → finish_of a (kept ++ junk) room ≡ accepted e
+  pub calls_read : judged_of (joined ps) ≡ Ok tt → (a.refusal.number ≡ 30 → ⊥) → (junk : List ℕ) (room : ℕ) (e : Rest) → finish_of a (kept ++ junk) room ≡ Ok e
       → (es ++ e.entries ≡ entries (reading_of (joined ps))) × (e.refusal ≡ last_of (reading_of (joined ps)))
   calls_read fit no-30 junk room e h =
       let text : List ℕ = joined ps in

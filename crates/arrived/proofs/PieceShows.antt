@@ -1,4 +1,5 @@
 -- A piece by the calls is the piece by the text: `piece-shows`; with too little room nothing is taken: `piece-no-room`. Assumes nothing.
+use Rattle.std.proofs.Common.{Ok, Err}
 use Prim.Native.Nat.{ℕ, suc, ◌+◌, ◌-◌, ◌<◌, ◌≤◌}
 use native.Mathlib.Nat.{add-zero}
 use native.Mathlib.Omega.{arith}
@@ -11,7 +12,7 @@ use lib.ListN.{drop, drop_of_length-le, get_or, length, length-append, length-dr
 use lib.Seq.{drop-append_seam, drop_at, drop-cons, length-take-le, take-append_seam}
 use borrow.Author.Tests.{le-leb, le-ltb, lt-ltb}
 use Rattle.text.proofs.Choices.{either, lt_or_le}
-use Rattle.text.specs.Refusals.{accepted, refused, no_room, placed_behind}
+use Rattle.text.specs.Refusals.{no_room, placed_behind}
 use Rattle.text.specs.declared.refusal.Refusal.{Refusal}
 use Rattle.rows.specs.declared.Entry.{Entry}
 use Rattle.gaps.specs.Opens.{kept_of, open_of}
@@ -367,17 +368,17 @@ module _ (at : ℕ) (rest : List ℕ) (part : ℕ) (k : GoesOn at rest part) (w 
 
 -- over a state in order, with what is kept and the piece in the buffer
 pub call_is : (a : Arrival) (kept w junk : List ℕ) (room : ℕ) → a.kept ≡ length kept → in_order a ≡ true
-    → piece_of a (kept ++ (w ++ junk)) (length w) room ≡ cond (eqb a.refusal.number 0 && ltb 0 (length w)) (in_room room (outcome_of a kept w)) (accepted (unchanged a kept))
+    → piece_of a (kept ++ (w ++ junk)) (length w) room ≡ cond (eqb a.refusal.number 0 && ltb 0 (length w)) (in_room room (outcome_of a kept w)) (Ok (unchanged a kept))
 unfolding piece_of
 call_is a kept w junk room n h =
     let s : List ℕ = kept ++ (w ++ junk) in
     let one : take a.kept s ≡ kept = ap (λ (j : ℕ). take j s) n ∙ take-append_seam kept (w ++ junk) in
     let two : take (length w) (drop a.kept s) ≡ w = ap (take (length w)) (ap (λ (j : ℕ). drop j s) n ∙ drop-append_seam kept (w ++ junk)) ∙ take-append_seam w junk in
     let fits : leb (a.kept + length w) (length s) ≡ true = le-leb (a.kept + length w) (length s) (omega (arith, length-append kept (w ++ junk), length-append w junk)) in
-    rw (h, fits) (ap₂ (λ (x z : List ℕ). cond (eqb a.refusal.number 0 && ltb 0 (length w)) (in_room room (outcome_of a x z)) (accepted (unchanged a x))) one two)
+    rw (h, fits) (ap₂ (λ (x z : List ℕ). cond (eqb a.refusal.number 0 && ltb 0 (length w)) (in_room room (outcome_of a x z)) (Ok (unchanged a x))) one two)
 
 -- room for nothing is always there
-no_entries : (room : ℕ) (a : Arrival) (kept : List ℕ) → accepted (unchanged a kept) ≡ in_room room (unchanged a kept)
+no_entries : (room : ℕ) (a : Arrival) (kept : List ℕ) → Ok (unchanged a kept) ≡ in_room room (unchanged a kept)
 no_entries room a kept = rw (le-ltb room 0 (omega arith))
 
 -- what a piece comes to, up to its room: any bytes behind what is kept, with any bytes behind them
@@ -407,21 +408,21 @@ called (Shows.shows_going at rest part k) [] junk room =
 called (Shows.shows_going at rest part k) (b ∷ w) junk room = record {
   outcome = outcome_of (going_state at rest part) (held_of rest part) (b ∷ w);
   is = call_is (going_state at rest part) (held_of rest part) (b ∷ w) junk room refl (going_in_order at rest part k)
-      ∙ ap (λ (t : Bool). cond t (in_room room (outcome_of (going_state at rest part) (held_of rest part) (b ∷ w))) (accepted (unchanged (going_state at rest part) (held_of rest part))))
+      ∙ ap (λ (t : Bool). cond t (in_room room (outcome_of (going_state at rest part) (held_of rest part) (b ∷ w))) (Ok (unchanged (going_state at rest part) (held_of rest part))))
       (lt-ltb 0 (length (b ∷ w)) (omega arith));
   answers = outcome_shows at rest part k (b ∷ w);
 }
 
 -- document 02: the calls give what the text gives, and their state stands for what has come
 pub piece_shows : {c : Coming} {t : ℕ} {a : Arrival} {kept : List ℕ} → Shows c t a kept → (w junk : List ℕ) (room : ℕ) → length (piece ron_reader rule_bar c w).entries ≤ room
-    → (o : Outcome) × (piece_of a (kept ++ (w ++ junk)) (length w) room ≡ accepted o) × Answers (piece ron_reader rule_bar c w) t a.former o
+    → (o : Outcome) × (piece_of a (kept ++ (w ++ junk)) (length w) room ≡ Ok o) × Answers (piece ron_reader rule_bar c w) t a.former o
 piece_shows s w junk room l =
     let k = called s w junk room in
     (k.outcome, k.is ∙ rw (le-ltb room (length k.outcome.entries) (omega (arith, ap length k.answers.entries_are))), k.answers)
 
 -- 22, "the piece's entries don't fit": nothing was taken
 pub piece_no_room : {c : Coming} {t : ℕ} {a : Arrival} {kept : List ℕ} → Shows c t a kept → (w junk : List ℕ) (room : ℕ) → room < length (piece ron_reader rule_bar c w).entries
-    → piece_of a (kept ++ (w ++ junk)) (length w) room ≡ refused no_room
+    → piece_of a (kept ++ (w ++ junk)) (length w) room ≡ Err no_room
 piece_no_room s w junk room l =
     let k = called s w junk room in
     k.is ∙ rw (lt-ltb room (length k.outcome.entries) (omega (arith, ap length k.answers.entries_are)))

@@ -1,4 +1,6 @@
 -- Laws of the list of extensions, at an index of the text, as the loop asks for them. Assumes nothing.
+use Rattle.std.proofs.Common.{Err}
+use Rattle.text.specs.Refusals.{Told}
 use Prim.Native.Nat.{◌+◌, ◌-◌, ◌<◌, ◌≤◌, pred, suc, zero, ℕ}
 use native.Mathlib.Nat.{add-zero}
 use native.Mathlib.Omega.{arith}
@@ -14,10 +16,8 @@ use Rattle.attributes.specs.Steps.{all_at, consume_of, skip_from}
 use Rattle.attributes.specs.declared.extensions.Extension.{Extension}
 use Rattle.attributes.specs.declared.list.Item.{Item}
 use Rattle.attributes.specs.declared.list.Item.TheVariants.{More}
-use Rattle.attributes.specs.declared.list.Listed.TheVariants.{Refused}
 use Rattle.attributes.specs.declared.list.OtherChar.{OtherChar}
 use Rattle.attributes.specs.declared.list.OtherChar.TheVariants.{Ends}
-use Rattle.attributes.specs.declared.steps.All.{All}
 use Rattle.names.proofs.IdentifierLaws.{Within, identifier_within}
 use Rattle.names.specs.Identifiers.{identifier_of}
 use Rattle.names.specs.declared.Identifier.{Identifier}
@@ -36,7 +36,7 @@ module _ (t : List ℕ) (e : Extension) where
   unfolding item_end
   other_by comma at r d = ap (λ (x : OtherChar). by_other x e comma at) d
 
-  pub comma_by : (n : ℕ) (r : All) → r ≡ consume_of 0x2c t (all_at true (skip_from t n)) → by_comma t e r ≡ behind_name t e n
+  pub comma_by : (n : ℕ) (r : Told (Bool × ℕ)) → r ≡ consume_of 0x2c t (all_at true (skip_from t n)) → by_comma t e r ≡ behind_name t e n
   unfolding behind_name
   comma_by n r d = ap (by_comma t e) d
 
@@ -89,7 +89,7 @@ module _ (s : List ℕ) (at sum : ℕ) where
       ∙ list_step (get_or s at 0) (drop (at + 1) s) at sum
       ∙ ap (λ (x : Item). by_item x (λ n e. list_from (drop (at + 1) s) (pred n) (at + 1) (added_to e sum)) at sum) (ap item_of (sym f) ∙ e)
 
-  pub list_out : length s ≤ at → list_from (drop at s) 0 at sum ≡ Refused (eof at)
+  pub list_out : length s ≤ at → list_from (drop at s) 0 at sum ≡ Err (eof at)
   unfolding list_from
   list_out h = rw (drop_of_length-le s h)
 

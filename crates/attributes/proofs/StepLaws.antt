@@ -1,4 +1,7 @@
 -- Laws of steps, signs and words, as the functions ask for them. Assumes nothing.
+use Rattle.std.proofs.Common.{Ok, Err}
+use Rattle.text.specs.Refusals.{Told}
+use Rattle.strings.specs.declared.literal.Literal.{Literal}
 use Prim.Native.Nat.{◌%◌, ◌+◌, ◌-◌, ◌/◌, ◌<◌, ◌≤◌, ℕ}
 use native.Mathlib.Nat.{add-zero}
 use native.Mathlib.Omega.{arith}
@@ -12,14 +15,8 @@ use Rattle.attributes.specs.Close.{answer_at, by_bracket, by_string, close_list,
 use Rattle.attributes.specs.Extensions.{added_to, adds_of}
 use Rattle.attributes.specs.Steps.{all_at, and_then, step_behind, consume_from, sign_at, sign_from, skip_from}
 use Rattle.attributes.specs.Words.{by_word, keyword_at, keywords, keyword_of}
-use Rattle.attributes.specs.declared.AttributeAnswer.TheVariants.{Read, Refused}
 use Rattle.attributes.specs.declared.extensions.Extension.{Extension}
 use Rattle.attributes.specs.declared.extensions.Extension.TheVariants.{ExplicitStructNames, ImplicitSome, UnwrapNewtypes, UnwrapVariantNewtypes}
-use Rattle.attributes.specs.declared.steps.All.{All}
-use Rattle.attributes.specs.declared.steps.All.TheVariants.{At}
-use Rattle.attributes.specs.declared.steps.Step.{Step}
-use Rattle.attributes.specs.declared.steps.Step.TheVariants.{On}
-use Rattle.attributes.specs.declared.steps.Step.TheVariants as step
 use Rattle.attributes.specs.declared.words.Keyword.TheVariants.{Enable, NoKeyword, Text}
 use Rattle.comments.proofs.GapLaws.{EndsBy, gap_bounded}
 use Rattle.comments.specs.Gaps.{gap_from, gap_of}
@@ -29,7 +26,6 @@ use Rattle.integers.specs.declared.ident.Found.{Found}
 use Rattle.strings.proofs.Bounds.{Bounded-string, string_bounded}
 use Rattle.strings.proofs.Wholes.{none_here}
 use Rattle.strings.specs.Strings.{string_of}
-use Rattle.strings.specs.declared.literal.LiteralAnswer.{LiteralAnswer}
 use Rattle.text.proofs.Choices.{cond_cases}
 use Rattle.text.proofs.Lists.{tail_part}
 use Rattle.text.specs.Refusals.{expected_attribute, expected_attribute_end, expected_string}
@@ -38,9 +34,9 @@ use Rattle.integers.proofs.Words.{first_le}
 
 -- ---- whitespace
 
-pub skip_out : (s : List ℕ) (at : ℕ) → length s ≤ at → On at ≡ skip_from s at
+pub skip_out : (s : List ℕ) (at : ℕ) → length s ≤ at → Ok at ≡ skip_from s at
 unfolding skip_from gap_of gap_from
-skip_out s at h = rw (drop_of_length-le s h) (ap On (sym (add-zero at)))
+skip_out s at h = rw (drop_of_length-le s h) (ap Ok (sym (add-zero at)))
 
 module _ (s : List ℕ) (at : ℕ) (g : Gap) (e : g ≡ gap_of (take (length s - at) (drop at s))) where
   pub skip_by : step_behind at g ≡ skip_from s at
@@ -64,54 +60,54 @@ module _ (s : List ℕ) (at b x : ℕ) (e : x ≡ get_or s at 0) where
   pub stands_fits : 0 < b → x ≡ b → at < length s
   stands_fits p q = none_here s at b p (present q)
 
-  pub consume_out : (all : Bool) → (x ≡ b → ⊥) → At false at ≡ consume_from b s all at
+  pub consume_out : (all : Bool) → (x ≡ b → ⊥) → Ok (false, at) ≡ consume_from b s all at
   unfolding consume_from
   consume_out all n = rw (absent n)
 
-  pub consume_in : (all : Bool) (r : Step) → x ≡ b → r ≡ skip_from s (at + 1) → all_at all r ≡ consume_from b s all at
+  pub consume_in : (all : Bool) (r : Told ℕ) → x ≡ b → r ≡ skip_from s (at + 1) → all_at all r ≡ consume_from b s all at
   unfolding consume_from
   consume_in all r q d = rw (present q) (ap (all_at all) d)
 
-  pub sign_out : (x ≡ b → ⊥) → step.Refused (expected_attribute 0) ≡ sign_at b s at
+  pub sign_out : (x ≡ b → ⊥) → Err (expected_attribute 0) ≡ sign_at b s at
   unfolding sign_at
   sign_out n = rw (absent n)
 
-  pub sign_in : (r : Step) → x ≡ b → r ≡ skip_from s (at + 1) → r ≡ sign_at b s at
+  pub sign_in : (r : Told ℕ) → x ≡ b → r ≡ skip_from s (at + 1) → r ≡ sign_at b s at
   unfolding sign_at
   sign_in r q d = rw (present q) d
 
-pub sign-by : (b : ℕ) (s : List ℕ) (at : ℕ) (r : Step) → r ≡ skip_from s at → and_then r (sign_at b s) ≡ sign_from b s at
+pub sign-by : (b : ℕ) (s : List ℕ) (at : ℕ) (r : Told ℕ) → r ≡ skip_from s at → and_then r (sign_at b s) ≡ sign_from b s at
 unfolding sign_from
-sign-by b s at r e = ap (λ (x : Step). and_then x (sign_at b s)) e
+sign-by b s at r e = ap (λ (x : Told ℕ). and_then x (sign_at b s)) e
 
 -- ---- the `]`
 
 module _ (s : List ℕ) (at sum x : ℕ) (e : x ≡ get_or s at 0) where
-  pub end_out : (all : Bool) → (x ≡ 0x5d → ⊥) → Refused (expected_attribute_end 0) ≡ list_end s all at sum
+  pub end_out : (all : Bool) → (x ≡ 0x5d → ⊥) → Err (expected_attribute_end 0) ≡ list_end s all at sum
   unfolding list_end
   end_out all n = rw (absent s at 0x5d x e n)
 
-  pub end_in : (all : Bool) → x ≡ 0x5d → cond all (Read (at + 1) sum) (no_end s (at + 1)) ≡ list_end s all at sum
+  pub end_in : (all : Bool) → x ≡ 0x5d → cond all (Ok (at + 1, sum)) (no_end s (at + 1)) ≡ list_end s all at sum
   unfolding list_end
   end_in all q = rw (present s at 0x5d x e q)
 
-pub no_end_by : (s : List ℕ) (at : ℕ) (r : Step) → r ≡ skip_from s at → answer_at r (λ p. Refused (expected_attribute_end 0)) ≡ no_end s at
+pub no_end_by : (s : List ℕ) (at : ℕ) (r : Told ℕ) → r ≡ skip_from s at → answer_at r (λ p. Err (expected_attribute_end 0)) ≡ no_end s at
 unfolding no_end
-no_end_by s at r e = ap (λ (x : Step). answer_at x (λ p. Refused (expected_attribute_end 0))) e
+no_end_by s at r e = ap (λ (x : Told ℕ). answer_at x (λ p. Err (expected_attribute_end 0))) e
 
-pub close_by : (s : List ℕ) (at sum : ℕ) (r : All) → r ≡ consume_from 0x29 s true at → by_bracket s sum r ≡ close_list s at sum
+pub close_by : (s : List ℕ) (at sum : ℕ) (r : Told (Bool × ℕ)) → r ≡ consume_from 0x29 s true at → by_bracket s sum r ≡ close_list s at sum
 unfolding close_list
 close_by s at sum r e = ap (by_bracket s sum) e
 
-pub string_end_by : (s : List ℕ) (at : ℕ) (r : Step) → r ≡ skip_from s at → answer_at r (λ p. list_end s true p 0) ≡ string_end s at
+pub string_end_by : (s : List ℕ) (at : ℕ) (r : Told ℕ) → r ≡ skip_from s at → answer_at r (λ p. list_end s true p 0) ≡ string_end s at
 unfolding string_end
-string_end_by s at r e = ap (λ (x : Step). answer_at x (λ p. list_end s true p 0)) e
+string_end_by s at r e = ap (λ (x : Told ℕ). answer_at x (λ p. list_end s true p 0)) e
 
-pub string_out : (s : List ℕ) (at : ℕ) → length s ≤ at → Refused (expected_string at) ≡ string_from s at
+pub string_out : (s : List ℕ) (at : ℕ) → length s ≤ at → Err (expected_string at) ≡ string_from s at
 unfolding string_from string_of
-string_out s at h = rw (drop_of_length-le s h) (ap (λ (n : ℕ). Refused (expected_string n)) (sym (add-zero at)))
+string_out s at h = rw (drop_of_length-le s h) (ap (λ (n : ℕ). Err (expected_string n)) (sym (add-zero at)))
 
-module _ (s : List ℕ) (at : ℕ) (a : LiteralAnswer) (e : a ≡ string_of (take (length s - at) (drop at s))) where
+module _ (s : List ℕ) (at : ℕ) (a : Told Literal) (e : a ≡ string_of (take (length s - at) (drop at s))) where
   pub string_by : by_string s at a ≡ string_from s at
   unfolding string_from
   string_by = ap (by_string s at) (e ∙ ap string_of (tail_part s at))

@@ -1,4 +1,7 @@
 -- What a `]` stops: the words and names of an attribute that stand before its `]` don't depend on what stands behind it. Assumes nothing.
+use Rattle.std.proofs.Common.{Ok, Err, Some, None, Option}
+use Rattle.text.specs.Refusals.{Told}
+use Rattle.strings.specs.declared.literal.Literal.{Literal}
 use Prim.Native.Nat.{◌+◌, ◌<◌, ℕ}
 use native.Mathlib.Omega.{arith}
 use mathlib.Core.Bool.{Bool, cond, false, not, true}
@@ -11,8 +14,6 @@ use Rattle.attributes.specs.Extensions.{extension_of, extensions, first_named, i
 use Rattle.attributes.specs.Words.{by_word, keywords, keyword_of}
 use Rattle.attributes.specs.declared.extensions.Extension.{Extension}
 use Rattle.attributes.specs.declared.extensions.Extension.TheVariants.{ExplicitStructNames, ImplicitSome, UnwrapNewtypes, UnwrapVariantNewtypes}
-use Rattle.attributes.specs.declared.extensions.Named.{Named}
-use Rattle.attributes.specs.declared.extensions.Named.TheVariants.{Known, Unknown}
 use Rattle.attributes.specs.declared.words.Keyword.TheVariants.{Enable, NoKeyword, Text}
 use Rattle.integers.proofs.WordStops.{first_stopped, fit}
 use Rattle.integers.specs.Words.{Word, first_of, ident_of}
@@ -24,8 +25,6 @@ use Rattle.names.specs.Starts.{begins_raw, begins_string}
 use Rattle.names.specs.declared.Identifier.{Identifier}
 use Rattle.names.specs.declared.Identifier.TheVariants.{Missing, Name, RawName}
 use Rattle.strings.specs.Strings.{string_of}
-use Rattle.strings.specs.declared.literal.LiteralAnswer.{LiteralAnswer}
-use Rattle.strings.specs.declared.literal.LiteralAnswer.TheVariants.{Read as ReadString, Refused as NoString}
 use Rattle.text.proofs.Choices.{bool_cases, cond_cases, either, lt_or_le}
 use Rattle.text.proofs.ClassLaws.{all_of}
 use Rattle.text.proofs.Stops.{Stopped, always, on, on₂}
@@ -53,8 +52,8 @@ is_stopped e n = on (λ (b : Bool). cond (eqb n (length (name_of e))) b false) (
 
 named_stopped : (es : List Extension) (n : ℕ) → Stopped 0x5d (λ t. first_named es t n)
 unfolding first_named
-named_stopped [] n = always Unknown
-named_stopped (e ∷ es) n = on₂ (λ (b : Bool) (r : Named). cond b (Known e) r) (is_stopped e n) (named_stopped es n)
+named_stopped [] n = always None
+named_stopped (e ∷ es) n = on₂ (λ (b : Bool) (r : Option Extension). cond b (Some e) r) (is_stopped e n) (named_stopped es n)
 
 pub extension_stopped : (n : ℕ) → Stopped 0x5d (λ t. extension_of t n)
 unfolding extension_of
@@ -113,9 +112,9 @@ name_begins ImplicitSome = (omega arith, refl)
 name_begins UnwrapVariantNewtypes = (omega arith, refl)
 name_begins ExplicitStructNames = (omega arith, refl)
 
-abbrev pub GoodName : List ℕ → Named → Type 0
-GoodName t (Known e) = Good (get_or t 0 0)
-GoodName t Unknown = Unit {0}
+abbrev pub GoodName : List ℕ → Option Extension → Type 0
+GoodName t (Some e) = Good (get_or t 0 0)
+GoodName t None = Unit {0}
 
 is_good : (e : Extension) (t : List ℕ) (n : ℕ) → is_word (name_of e) t n ≡ true → Good (get_or t 0 0)
 unfolding is_word
@@ -126,7 +125,7 @@ is_good e t n =
 first_good : (es : List Extension) (t : List ℕ) (n : ℕ) → GoodName t (first_named es t n)
 unfolding first_named
 first_good [] t n = tt
-first_good (e ∷ es) t n = cond_cases (GoodName t) (is_word (name_of e) t n) (Known e) (first_named es t n) (λ q. is_good e t n q) (λ q. first_good es t n)
+first_good (e ∷ es) t n = cond_cases (GoodName t) (is_word (name_of e) t n) (Some e) (first_named es t n) (λ q. is_good e t n q) (λ q. first_good es t n)
 
 pub extension_good : (t : List ℕ) (n : ℕ) → GoodName t (extension_of t n)
 unfolding extension_of
@@ -181,9 +180,9 @@ unfolding keyword_of
 keyword_good t h = table_good keywords t ((omega arith, refl), ((omega arith, refl), ((omega arith, refl), tt))) h
 
 -- a string begins with a quote or `r`
-abbrev pub GoodString : List ℕ → LiteralAnswer → Type 0
-GoodString t (ReadString l) = Good (get_or t 0 0)
-GoodString t (NoString r) = Unit {0}
+abbrev pub GoodString : List ℕ → Told Literal → Type 0
+GoodString t (Ok l) = Good (get_or t 0 0)
+GoodString t (Err r) = Unit {0}
 
 pub string_good : (t : List ℕ) → GoodString t (string_of t)
 unfolding string_of
@@ -191,6 +190,6 @@ string_good t =
     either (bool_cases (eqb (get_or t 0 0) 0x22)) (λ e. either_way (string_of t) (good_by (get_or t 0 0) 0x22 (eqb-true (get_or t 0 0) 0x22 e) (omega arith) refl))
     (λ e. either (bool_cases (eqb (get_or t 0 0) 0x72)) (λ f. either_way (string_of t) (good_by (get_or t 0 0) 0x72 (eqb-true (get_or t 0 0) 0x72 f) (omega arith) refl)) (λ f. rw (e, f) tt))
   where
-    either_way : (a : LiteralAnswer) → Good (get_or t 0 0) → GoodString t a
-    either_way (ReadString l) g = g
-    either_way (NoString r) g = tt
+    either_way : (a : Told Literal) → Good (get_or t 0 0) → GoodString t a
+    either_way (Ok l) g = g
+    either_way (Err r) g = tt

@@ -1,10 +1,9 @@
 -- The extensions (document 01, module 7): "`unwrap_newtypes`, `implicit_some`, `unwrap_variant_newtypes`, `explicit_struct_names` ..; detail adds 1, 2, 4,
 -- 8, each at most once."
+use Rattle.std.specs.Prelude.{Some, None, Option}
 use Rattle.std.specs.Prelude.{ℕ, ◌+◌, ◌/◌, ◌%◌, Bool, false, cond, List, [], ◌∷◌, length, eqb}
 use Rattle.attributes.specs.declared.extensions.Extension.{Extension}
 use Rattle.attributes.specs.declared.extensions.Extension.TheVariants.{UnwrapNewtypes, ImplicitSome, UnwrapVariantNewtypes, ExplicitStructNames}
-use Rattle.attributes.specs.declared.extensions.Named.{Named}
-use Rattle.attributes.specs.declared.extensions.Named.TheVariants.{Known, Unknown}
 use Rattle.text.specs.Words.{starts_with}
 
 -- An extension's name.
@@ -23,16 +22,16 @@ unfoldable pub is_word : (word t : List ℕ) → ℕ → Bool
 is_word word t n = cond (eqb n (length word)) (starts_with word t) false
 
 -- The first of the extensions with the name of n bytes at the front.
-unfoldable pub first_named : List Extension → List ℕ → ℕ → Named
-first_named [] t n = Unknown
-first_named (e ∷ es) t n = let rest = first_named es t n in cond (is_word (name_of e) t n) (Known e) rest
+unfoldable pub first_named : List Extension → List ℕ → ℕ → Option Extension
+first_named [] t n = None
+first_named (e ∷ es) t n = let rest = first_named es t n in cond (is_word (name_of e) t n) (Some e) rest
 
 -- The four.
 abbrev pub extensions : List Extension
 extensions = UnwrapNewtypes ∷ ImplicitSome ∷ UnwrapVariantNewtypes ∷ ExplicitStructNames ∷ []
 
 -- The extension with the name of n bytes at the front.
-unfoldable pub extension_of : List ℕ → ℕ → Named
+unfoldable pub extension_of : List ℕ → ℕ → Option Extension
 extension_of t n = first_named extensions t n
 
 -- What an extension adds.

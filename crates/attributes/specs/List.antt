@@ -1,5 +1,7 @@
 -- The list of extensions (document 01, module 7): "`enable` takes one or more of .., commas between, one allowed behind. In the list no name is 21 and a
 -- missing comma 20."
+use Rattle.std.specs.Prelude.{Ok, Err, Some, None, Option}
+use Rattle.text.specs.Refusals.{Told}
 use Rattle.std.specs.Prelude.{ℕ, zero, suc, pred, ◌+◌, ◌-◌, Bool, true, cond, List, [], ◌∷◌, drop}
 use Rattle.text.specs.Ahead.{next_ahead}
 use Rattle.text.specs.Refusals.{placed_behind, eof, no_such_extension, expected_attribute_end}
@@ -8,20 +10,12 @@ use Rattle.names.specs.declared.Identifier.{Identifier}
 use Rattle.names.specs.declared.Identifier.TheVariants.{Missing, Name, RawName}
 use Rattle.attributes.specs.Steps.{skip_from, all_at, consume_of}
 use Rattle.attributes.specs.Extensions.{extension_of, added_to}
-use Rattle.attributes.specs.declared.steps.All.{All}
-use Rattle.attributes.specs.declared.steps.All.TheVariants.{At}
-use Rattle.attributes.specs.declared.steps.All.TheVariants as consumed
 use Rattle.attributes.specs.declared.extensions.Extension.{Extension}
-use Rattle.attributes.specs.declared.extensions.Named.{Named}
-use Rattle.attributes.specs.declared.extensions.Named.TheVariants.{Known, Unknown}
 use Rattle.attributes.specs.declared.list.OtherChar.{OtherChar}
 use Rattle.attributes.specs.declared.list.OtherChar.TheVariants.{Goes, Ends}
 use Rattle.attributes.specs.declared.list.Item.{Item}
 use Rattle.attributes.specs.declared.list.Item.TheVariants.{More, Last, NoName, NoComma}
 use Rattle.attributes.specs.declared.list.Item.TheVariants as items
-use Rattle.attributes.specs.declared.list.Listed.{Listed}
-use Rattle.attributes.specs.declared.list.Listed.TheVariants.{Ended}
-use Rattle.attributes.specs.declared.list.Listed.TheVariants as listing
 
 -- Whether a name's character stands at a place.
 unfoldable pub other_char : List ℕ → ℕ → OtherChar
@@ -37,18 +31,18 @@ unfoldable pub item_end : List ℕ → Extension → Bool → ℕ → Item
 item_end t e comma at = by_other (other_char t at) e comma at
 
 -- The answer by the comma.
-abbrev pub by_comma : List ℕ → Extension → All → Item
-by_comma t e (At comma at) = item_end t e comma at
-by_comma t e (consumed.Refused r) = items.Refused r
+abbrev pub by_comma : List ℕ → Extension → Told (Bool × ℕ) → Item
+by_comma t e (Ok (comma, at)) = item_end t e comma at
+by_comma t e (Err r) = items.Refused r
 
 -- Behind the n bytes of an extension's name: whitespace, a comma and whitespace.
 unfoldable pub behind_name : List ℕ → Extension → ℕ → Item
 behind_name t e n = by_comma t e (consume_of 0x2c t (all_at true (skip_from t n)))
 
 -- A name of n bytes, which may be an extension's.
-abbrev pub by_extension_name : List ℕ → ℕ → Named → Item
-by_extension_name t n (Known e) = behind_name t e n
-by_extension_name t n Unknown = NoName
+abbrev pub by_extension_name : List ℕ → ℕ → Option Extension → Item
+by_extension_name t n (Some e) = behind_name t e n
+by_extension_name t n None = NoName
 
 -- What stands where a name should; a raw name's `r#` is no part of the extension's name.
 abbrev pub by_list_name : List ℕ → Identifier → Item
@@ -61,19 +55,19 @@ unfoldable pub item_of : List ℕ → Item
 item_of t = by_list_name t (identifier_of t)
 
 -- What an item at the place `at` comes to, behind extensions of the sum: behind n bytes the list goes on.
-abbrev pub by_item : Item → (ℕ → Extension → Listed) → ℕ → ℕ → Listed
+abbrev pub by_item : Item → (ℕ → Extension → Told (ℕ × ℕ)) → ℕ → ℕ → Told (ℕ × ℕ)
 by_item (More n e) on at sum = on n e
-by_item (Last n e) on at sum = Ended (at + n) (added_to e sum)
-by_item NoName on at sum = listing.Refused (no_such_extension 0)
-by_item NoComma on at sum = listing.Refused (expected_attribute_end 0)
-by_item (items.Refused r) on at sum = listing.Refused (placed_behind at r)
+by_item (Last n e) on at sum = Ok (at + n, added_to e sum)
+by_item NoName on at sum = Err (no_such_extension 0)
+by_item NoComma on at sum = Err (expected_attribute_end 0)
+by_item (items.Refused r) on at sum = Err (placed_behind at r)
 
 -- The list from the place `at`, with the bytes t in front, of which the first `left` belong to an item already judged, behind extensions of the sum.
-unfoldable pub list_from : List ℕ → ℕ → ℕ → ℕ → Listed
-list_from [] left at sum = listing.Refused (eof at)
+unfoldable pub list_from : List ℕ → ℕ → ℕ → ℕ → Told (ℕ × ℕ)
+list_from [] left at sum = Err (eof at)
 list_from (a ∷ t) (suc left) at sum = list_from t left (at + 1) sum
 list_from (a ∷ t) zero at sum = by_item (item_of (a ∷ t)) (λ n e. list_from t (pred n) (at + 1) (added_to e sum)) at sum
 
 -- The list that begins at a place.
-unfoldable pub list_of : List ℕ → ℕ → Listed
+unfoldable pub list_of : List ℕ → ℕ → Told (ℕ × ℕ)
 list_of s at = list_from (drop at s) 0 at 0

@@ -13,13 +13,6 @@ pub enum Extension {
     ExplicitStructNames,
 }
 
-// What a name in the list names.
-#[derive(Clone, Copy)]
-pub enum Named {
-    Known(Extension),
-    Unknown,
-}
-
 // The name of n bytes at the front is the word.
 fn is_word(t: &[u8], n: usize, word: &[u8]) -> bool
     ensures { result ≡ is_word word.now t.now n }
@@ -31,22 +24,22 @@ fn is_word(t: &[u8], n: usize, word: &[u8]) -> bool
 }
 
 // The extension with the name of n bytes at the front.
-pub fn from_ident(t: &[u8], n: usize) -> Named
+pub fn from_ident(t: &[u8], n: usize) -> Option<Extension>
     ensures { result ≡ extension_of t.now n }
 {
     if is_word(t, n, b"unwrap_newtypes") {
-        return Named::Known(Extension::UnwrapNewtypes);
+        return Some(Extension::UnwrapNewtypes);
     }
     if is_word(t, n, b"implicit_some") {
-        return Named::Known(Extension::ImplicitSome);
+        return Some(Extension::ImplicitSome);
     }
     if is_word(t, n, b"unwrap_variant_newtypes") {
-        return Named::Known(Extension::UnwrapVariantNewtypes);
+        return Some(Extension::UnwrapVariantNewtypes);
     }
     if is_word(t, n, b"explicit_struct_names") {
-        return Named::Known(Extension::ExplicitStructNames);
+        return Some(Extension::ExplicitStructNames);
     }
-    Named::Unknown
+    None
 }
 
 // What an extension adds to the sum.

@@ -11,72 +11,63 @@ pub mod words;
 ghost use Rattle.std.specs.Prelude.{◌≡◌};
 ghost use Rattle.attributes.specs.Attributes.{enable_from, string_value_from, keyword_from, attribute_of};
 
-use list::Listed;
-use steps::{All, Step};
 use text::Refusal;
 use words::Keyword;
 
-// The attribute's length, its `]` included, and the sum of its extensions; or a refusal, of which 19, 20 and 21 stand at the `#`.
-#[derive(Clone, Copy)]
-pub enum AttributeAnswer {
-    Read(usize, u32),
-    Refused(Refusal),
-}
-
 // Behind `enable`: the list in its brackets.
-fn enable(s: &[u8], at: usize) -> AttributeAnswer
+fn enable(s: &[u8], at: usize) -> Result<(usize, u32), Refusal>
     ensures { result ≡ enable_from s.now at }
 {
     let opened = steps::sign(s, b'(', at);
     match opened {
-        Step::On(start) => {
+        Ok(start) => {
             let listed = list::extension_list(s, start);
             match listed {
-                Listed::Ended(end, extensions) => close::close_list(s, end, extensions),
-                Listed::Refused(r) => AttributeAnswer::Refused(r),
+                Ok((end, extensions)) => close::close_list(s, end, extensions),
+                Err(r) => Err(r),
             }
         }
-        Step::Refused(r) => AttributeAnswer::Refused(r),
+        Err(r) => Err(r),
     }
 }
 
 // Behind `type` or `schema`: a string.
-fn value(s: &[u8], at: usize) -> AttributeAnswer
+fn value(s: &[u8], at: usize) -> Result<(usize, u32), Refusal>
     ensures { result ≡ string_value_from s.now at }
 {
     let given = steps::sign(s, b'=', at);
     match given {
-        Step::On(start) => close::string_value(s, start),
-        Step::Refused(r) => AttributeAnswer::Refused(r),
+        Ok(start) => close::string_value(s, start),
+        Err(r) => Err(r),
     }
 }
 
 // Behind `#`, `!` and `[`.
-fn keyword(s: &[u8], at: usize) -> AttributeAnswer
+fn keyword(s: &[u8], at: usize) -> Result<(usize, u32), Refusal>
     ensures { result ≡ keyword_from s.now at }
 {
     let found = words::keyword_at(s, at);
     match found {
         Keyword::Enable(behind) => enable(s, behind),
         Keyword::Text(behind) => value(s, behind),
-        Keyword::NoKeyword => AttributeAnswer::Refused(Refusal::expected_attribute(0)),
+        Keyword::NoKeyword => Err(Refusal::expected_attribute(0)),
     }
 }
 
 // The attribute that s begins with.
-pub fn attribute(s: &[u8]) -> AttributeAnswer
+pub fn attribute(s: &[u8]) -> Result<(usize, u32), Refusal>
     ensures { result ≡ attribute_of s.now }
 {
-    let hash = steps::consume(s, b'#', All::At(true, 0));
+    let hash = steps::consume(s, b'#', Ok((true, 0)));
     let bang = steps::consume(s, b'!', hash);
     let bracket = steps::consume(s, b'[', bang);
     match bracket {
-        All::At(all, at) => {
+        Ok((all, at)) => {
             if all {
                 return keyword(s, at);
             }
-            AttributeAnswer::Refused(Refusal::expected_attribute(0))
+            Err(Refusal::expected_attribute(0))
         }
-        All::Refused(r) => AttributeAnswer::Refused(r),
+        Err(r) => Err(r),
     }
 }

@@ -2,8 +2,7 @@
 ghost use Rattle.std.specs.Prelude.{◌≡◌, ◌≤◌, length};
 ghost use Rattle.attributes.specs.List.{other_char, item_end, behind_name, by_extension_name, item_of, list_of};
 
-use crate::extensions::{Extension, Named};
-use crate::steps::{All, Step};
+use crate::extensions::Extension;
 use crate::{extensions, steps};
 use names::Identifier;
 use names::identifiers::identifier;
@@ -27,13 +26,6 @@ pub enum Item {
     NoName,
     // Refusal 20.
     NoComma,
-    Refused(Refusal),
-}
-
-// The place behind the list and the sum of its extensions.
-#[derive(Clone, Copy)]
-pub enum Listed {
-    Ended(usize, u32),
     Refused(Refusal),
 }
 
@@ -74,18 +66,18 @@ fn behind_name(t: &[u8], e: Extension, n: usize) -> Item
     let so_far = steps::all_at(gap);
     let comma = steps::consume(t, b',', so_far);
     match comma {
-        All::At(found, at) => item_end(t, e, found, at),
-        All::Refused(r) => Item::Refused(r),
+        Ok((found, at)) => item_end(t, e, found, at),
+        Err(r) => Item::Refused(r),
     }
 }
 
 // A name of n bytes, which may be an extension's.
-fn by_named(t: &[u8], n: usize, named: Named) -> Item
+fn by_named(t: &[u8], n: usize, named: Option<Extension>) -> Item
     ensures { result ≡ by_extension_name t.now n named }
 {
     match named {
-        Named::Known(e) => behind_name(t, e, n),
-        Named::Unknown => Item::NoName,
+        Some(e) => behind_name(t, e, n),
+        None => Item::NoName,
     }
 }
 
@@ -105,7 +97,7 @@ pub fn next_item(t: &[u8]) -> Item
 }
 
 // The list that begins at a place.
-pub fn extension_list(s: &[u8], start: usize) -> Listed
+pub fn extension_list(s: &[u8], start: usize) -> Result<(usize, u32), Refusal>
     ensures { result ≡ list_of s.now start }
 {
     let mut at = start;
@@ -119,18 +111,18 @@ pub fn extension_list(s: &[u8], start: usize) -> Listed
             }
             Item::Last(n, e) => {
                 let end = at + n;
-                return Listed::Ended(end, extensions::add(e, extensions));
+                return Ok((end, extensions::add(e, extensions)));
             }
             Item::NoName => {
-                return Listed::Refused(Refusal::no_such_extension(0));
+                return Err(Refusal::no_such_extension(0));
             }
             Item::NoComma => {
-                return Listed::Refused(Refusal::expected_attribute_end(0));
+                return Err(Refusal::expected_attribute_end(0));
             }
             Item::Refused(r) => {
-                return Listed::Refused(placed_behind(r, at));
+                return Err(placed_behind(r, at));
             }
         }
     }
-    Listed::Refused(Refusal::eof(at))
+    Err(Refusal::eof(at))
 }

@@ -7,98 +7,88 @@ use text::Refusal;
 use text::bytes::peek;
 use text::refusal::placed_behind;
 
-// The place where the next thing begins, or a refusal.
-#[derive(Clone, Copy)]
-pub enum Step {
-    On(usize),
-    Refused(Refusal),
-}
-
-// How far `consume_all` has come, and whether it has found all so far: it goes on where a sign is missing.
-#[derive(Clone, Copy)]
-pub enum All {
-    At(bool, usize),
-    Refused(Refusal),
-}
-
 // Behind whitespace and comments.
-pub fn skip_ws(s: &[u8], at: usize) -> Step
+pub fn skip_ws(s: &[u8], at: usize) -> Result<usize, Refusal>
     ensures { result ≡ skip_from s.now at }
 {
     if s.len() <= at {
-        return Step::On(at);
+        return Ok(at);
     }
     let gap = skip_gap(&s[at..]);
     match gap {
         Gap::Clear(n) => {
             let next = at + n;
-            Step::On(next)
+            Ok(next)
         }
         Gap::InLine(n) => {
             let end = at + n;
-            Step::On(end)
+            Ok(end)
         }
-        Gap::Refused(r) => Step::Refused(placed_behind(r, at)),
+        Gap::Refused(r) => Err(placed_behind(r, at)),
     }
 }
 
 // The start of `consume_all` behind a step.
-pub fn all_at(step: Step) -> All
+pub fn all_at(step: Result<usize, Refusal>) -> Result<(bool, usize), Refusal>
     ensures { result ≡ all_at true step }
 {
     match step {
-        Step::On(place) => All::At(true, place),
-        Step::Refused(r) => All::Refused(r),
+        Ok(place) => Ok((true, place)),
+        Err(r) => Err(r),
     }
 }
 
 // One sign of `consume_all` at a place, and the whitespace behind it.
-fn consume_at(s: &[u8], b: u8, all: bool, at: usize) -> All
+fn consume_at(s: &[u8], b: u8, all: bool, at: usize) -> Result<(bool, usize), Refusal>
     requires { 0 < b }
     ensures { result ≡ consume_from b s.now all at }
 {
     if peek(s, at) != b {
-        return All::At(false, at);
+        return Ok((false, at));
     }
     let next = at + 1;
     let behind = skip_ws(s, next);
     match behind {
-        Step::On(place) => All::At(all, place),
-        Step::Refused(r) => All::Refused(r),
+        Ok(place) => Ok((all, place)),
+        Err(r) => Err(r),
     }
 }
 
 // One sign more of `consume_all`.
-pub fn consume(s: &[u8], b: u8, done: All) -> All
+pub fn consume(
+    s: &[u8],
+    b: u8,
+    done: Result<(bool, usize), Refusal>,
+) -> Result<(bool, usize), Refusal>
     requires { 0 < b }
     ensures { result ≡ consume_of b s.now done }
 {
     match done {
-        All::At(all, at) => consume_at(s, b, all, at),
-        All::Refused(r) => All::Refused(r),
+        Ok((all, at)) => consume_at(s, b, all, at),
+        Err(r) => Err(r),
     }
 }
 
 // A sign that has to stand at a place, and the whitespace behind it.
-fn sign_at(s: &[u8], b: u8, at: usize) -> Step
+fn sign_at(s: &[u8], b: u8, at: usize) -> Result<usize, Refusal>
     requires { 0 < b }
     ensures { result ≡ sign_at b s.now at }
 {
     if peek(s, at) != b {
-        return Step::Refused(Refusal::expected_attribute(0));
+        return Err(Refusal::expected_attribute(0));
     }
     let next = at + 1;
     skip_ws(s, next)
 }
 
 // A sign that has to stand there, between whitespace.
-pub fn sign(s: &[u8], b: u8, at: usize) -> Step
+pub fn sign(s: &[u8], b: u8, at: usize) -> Result<usize, Refusal>
     requires { 0 < b }
     ensures { result ≡ sign_from b s.now at }
 {
     let behind = skip_ws(s, at);
     match behind {
-        Step::On(place) => sign_at(s, b, place),
-        Step::Refused(r) => Step::Refused(r),
+        Ok(place) => sign_at(s, b, place),
+        Err(r) => Err(r),
     }
 }

@@ -1,4 +1,5 @@
 -- `c KIND START HEX` and `C ENTRY COUNT BUFFER HEX N,N,..`: contents and decoded of an entry, the view and then the decoding into a marked buffer.
+use Rattle.std.specs.Prelude.{Ok, Err}
 use Rattle.std.specs.Prelude.{ℕ, ◌+◌, ◌-◌, ◌^◌, min, List, [], ◌∷◌, ◌++◌, length, take, drop}
 use Rattle.lent.specs.Marks.{byte_mark_at, marked, kept_from}
 use Rattle.lines.specs.Ascii.{ascii}
@@ -6,7 +7,7 @@ use Rattle.lines.specs.Over.{over}
 use Rattle.sarridok.specs.Contents.{contents_of, decoded_answer, decoded_out}
 use Rattle.show.specs.Answers.{answer_text, bad_text, clean_text}
 use Rattle.show.specs.Contents.{span_text, wrote_text}
-use Rattle.text.specs.Refusals.{Told, accepted, refused}
+use Rattle.text.specs.Refusals.{Told}
 use Rattle.words.specs.Hex.{pairs}
 use Rattle.words.specs.Number.{decimal_of}
 use Rattle.words.specs.Numbers.{numbers_of}
@@ -23,8 +24,8 @@ asked entry count buffer = record { entry = entry; count = count; buffer = buffe
 
 -- How many bytes a decoding may change.
 abbrev pub wrote_of : Told ℕ → ℕ
-wrote_of (accepted n) = n
-wrote_of (refused r) = 0
+wrote_of (Ok n) = n
+wrote_of (Err r) = 0
 
 -- The buffer behind a decoding: marked before it.
 unfoldable pub buffer_after : List ℕ → List ℕ → Asked → List ℕ → List ℕ

@@ -1,7 +1,7 @@
 // Contents and decoded of an entry: the view, then the decoding into a marked buffer.
 ghost use Rattle.std.specs.Prelude.{◌≡◌, true, length};
 ghost use Rattle.lines.specs.Out.{put};
-ghost use Rattle.entries.specs.Contents.{told_contents, told_decoded};
+ghost use Rattle.entries.specs.Contents.{told_contents};
 ghost use Rattle.sarridok.specs.Contents.{part_of, decoded_answer};
 ghost use Rattle.cases.specs.Contents.{wrote_of, view_text, decoding_text, both_text, buffer_after, most_for, room_for, contents_in};
 
@@ -29,7 +29,7 @@ fn agrees(view: ContentsAnswer, text: &[u8], part: &[u8]) -> bool
 }
 
 fn written(r: DecodedAnswer) -> usize
-    ensures { result ≡ wrote_of (told_decoded r) }
+    ensures { result ≡ wrote_of (r) }
 {
     match r {
         DecodedAnswer::Wrote(n) => n,
@@ -56,7 +56,7 @@ fn viewed(text: &[u8], tape: &[u32], q: Asked, o: &mut [u8], at: usize) -> usize
 
 // The decoding into a marked buffer.
 fn decode(text: &[u8], tape: &[u32], q: Asked, buffer: &mut [u8]) -> DecodedAnswer
-    ensures result_value { told_decoded result ≡ decoded_answer text.now tape.now q.count q.entry (length buffer.old) }
+    ensures result_value { result ≡ decoded_answer text.now tape.now q.count q.entry (length buffer.old) }
     ensures buffer_after { buffer.new ≡ buffer_after text.now tape.now q buffer.old }
 {
     bytes::mark(buffer);
@@ -65,7 +65,7 @@ fn decode(text: &[u8], tape: &[u32], q: Asked, buffer: &mut [u8]) -> DecodedAnsw
 
 // What the decoding says, and whether it left all marks behind what it wrote.
 fn decoding(r: DecodedAnswer, buffer: &[u8], o: &mut [u8], at: usize) -> usize
-    ensures { (o.new, result) ≡ put (o.old, at) (decoding_text buffer.now (told_decoded r)) }
+    ensures { (o.new, result) ≡ put (o.old, at) (decoding_text buffer.now (r)) }
 {
     let a = show::contents::decoded(o, at, r, buffer);
     let clean = bytes::kept(buffer, written(r));

@@ -1,4 +1,5 @@
 -- Laws of block comments, at an index of the text, as the loop asks for them. Assumes nothing.
+use Rattle.std.proofs.Common.{Some, None, Option}
 use Prim.Native.Nat.{◌+◌, ◌-◌, ◌<◌, ◌≤◌, suc, ℕ}
 use native.Mathlib.Nat.{add-zero, le_of_suc-le-suc, not-suc-le-zero}
 use native.Mathlib.Omega.{arith}
@@ -11,8 +12,6 @@ use lib.Seq.{drop-drop}
 use borrow.Author.Tests.{eqb-false, not-true}
 use Rattle.comments.proofs.RuleLaws.{not_last, passes_other}
 use Rattle.comments.specs.Blocks.{block_end, block_from, decision_of}
-use Rattle.comments.specs.declared.block.CommentEnd.{CommentEnd}
-use Rattle.comments.specs.declared.block.CommentEnd.TheVariants.{Closed, Unclosed}
 use Rattle.comments.specs.declared.block.Decision.{Decision}
 use Rattle.comments.specs.declared.block.Decision.TheVariants.{Open, CloseLast, CloseInner, PassOn}
 use Rattle.search.specs.inner.Others.{neither}
@@ -23,11 +22,11 @@ use Rattle.text.specs.Runs.{run}
 -- ---- the rule
 
 -- what follows a decision over two bytes, of which b is the second, with s behind them
-abbrev pub after : ℕ → List ℕ → ℕ → ℕ → Decision → CommentEnd
+abbrev pub after : ℕ → List ℕ → ℕ → ℕ → Decision → Option ℕ
 after b s level at d =
     elim d [
       | Open ↦ block_from s (level + 1) (at + 2)
-      | CloseLast ↦ Closed (at + 2)
+      | CloseLast ↦ Some (at + 2)
       | CloseInner ↦ block_from s (level - 1) (at + 2)
       | PassOn ↦ block_from (b ∷ s) level (at + 1)
     ]
@@ -37,8 +36,8 @@ unfolding block_from
 step a b s level at = refl
 
 -- what holds behind each decision holds
-pub step_cases : (P : CommentEnd → Type 0) (a b : ℕ) (s : List ℕ) (level at : ℕ)
-    → P (block_from s (level + 1) (at + 2)) → P (Closed (at + 2)) → P (block_from s (level - 1) (at + 2)) → P (block_from (b ∷ s) level (at + 1))
+pub step_cases : (P : Option ℕ → Type 0) (a b : ℕ) (s : List ℕ) (level at : ℕ)
+    → P (block_from s (level + 1) (at + 2)) → P (Some (at + 2)) → P (block_from s (level - 1) (at + 2)) → P (block_from (b ∷ s) level (at + 1))
     → P (block_from (a ∷ b ∷ s) level at)
 step_cases P a b s level at o l c n = subst P (sym (step a b s level at)) (go (decision_of a b level))
   where
@@ -51,7 +50,7 @@ step_cases P a b s level at o l c n = subst P (sym (step a b s level at)) (go (d
 -- what a decision at the place i of a text says of the comment there
 abbrev pub Decided : List ℕ → ℕ → ℕ → Decision → Type 0
 Decided s i level Open = block_from (drop i s) level i ≡ block_from (drop (i + 2) s) (level + 1) (i + 2)
-Decided s i level CloseLast = block_from (drop i s) level i ≡ Closed (i + 2)
+Decided s i level CloseLast = block_from (drop i s) level i ≡ Some (i + 2)
 Decided s i level CloseInner = (level ≡ 1 → ⊥) × (block_from (drop i s) level i ≡ block_from (drop (i + 2) s) (level - 1) (i + 2))
 Decided s i level PassOn = block_from (drop i s) level i ≡ block_from (drop (i + 1) s) level (i + 1)
 
@@ -100,25 +99,25 @@ block_passes s i level j e =
     rw e (passes (drop i s) level i ∙ ap (λ (t : List ℕ). block_from t level (i + n)) (drop-drop n i s))
 
 -- with fewer than two bytes left, no comment is closed
-short : (t : List ℕ) (level at : ℕ) → length t < 2 → block_from t level at ≡ Unclosed
+short : (t : List ℕ) (level at : ℕ) → length t < 2 → block_from t level at ≡ None
 unfolding block_from
 short [] level at p = refl
 short (a ∷ []) level at p = refl
 short (a ∷ b ∷ t) level at p = absurd (not-suc-le-zero (le_of_suc-le-suc (le_of_suc-le-suc p)))
 
-pub block_short : (s : List ℕ) (i level : ℕ) → length s - i < 2 → block_from (drop i s) level i ≡ Unclosed
+pub block_short : (s : List ℕ) (i level : ℕ) → length s - i < 2 → block_from (drop i s) level i ≡ None
 block_short s i level h = short (drop i s) level i (rw (length-drop i s) h)
 
 -- ---- where a comment ends
 
 -- an end that is there lies within what is left of the text
-abbrev pub Bounded : ℕ → ℕ → CommentEnd → Type 0
-Bounded from to (Closed e) = (from ≤ e) × (e ≤ to)
-Bounded from to Unclosed = Unit {0}
+abbrev pub Bounded : ℕ → ℕ → Option ℕ → Type 0
+Bounded from to (Some e) = (from ≤ e) × (e ≤ to)
+Bounded from to None = Unit {0}
 
-pub wider : (from to from' to' : ℕ) → from ≤ from' → to' ≤ to → (r : CommentEnd) → Bounded from' to' r → Bounded from to r
-wider from to from' to' p q (Closed e) b = omega arith
-wider from to from' to' p q Unclosed b = tt
+pub wider : (from to from' to' : ℕ) → from ≤ from' → to' ≤ to → (r : Option ℕ) → Bounded from' to' r → Bounded from to r
+wider from to from' to' p q (Some e) b = omega arith
+wider from to from' to' p q None b = tt
 
 block_bounded : (s : List ℕ) (level at : ℕ) → Bounded at (at + length s) (block_from s level at)
 unfolding block_from

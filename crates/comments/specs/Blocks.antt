@@ -1,11 +1,10 @@
 -- Block comments (document 01, module 2): "Block comments nest."
 -- A part of the text is the list of its bytes; a reader has to believe `mark_of` and `Body`: that the rule, and so `block_end`, finds exactly a body's end
 -- is proved in proofs/Nesting.antt.
+use Rattle.std.specs.Prelude.{Some, None, Option}
 use Rattle.std.specs.Prelude.{ℕ, ◌+◌, ◌-◌, ◌≡◌, List, [], ◌∷◌, cond, ◌&&◌, eqb}
 use Rattle.comments.specs.declared.block.Decision.{Decision}
 use Rattle.comments.specs.declared.block.Decision.TheVariants.{Open, CloseLast, CloseInner, PassOn}
-use Rattle.comments.specs.declared.block.CommentEnd.{CommentEnd}
-use Rattle.comments.specs.declared.block.CommentEnd.TheVariants.{Closed, Unclosed}
 
 -- A mark opens a block comment or closes one.
 pub data Mark : Type 0 where
@@ -32,17 +31,17 @@ decision_of a b level =
     PassOn))
 
 -- Where `level` comments are open, at the place `at`, with the bytes s in front: where the outermost ends, as `block_comment` goes on behind each decision.
-unfoldable pub block_from : List ℕ → ℕ → ℕ → CommentEnd
-block_from [] level at = Unclosed
-block_from (a ∷ []) level at = Unclosed
+unfoldable pub block_from : List ℕ → ℕ → ℕ → Option ℕ
+block_from [] level at = None
+block_from (a ∷ []) level at = None
 block_from (a ∷ b ∷ s) level at =
     elim (decision_of a b level) [
       | Open ↦ block_from s (level + 1) (at + 2)
-      | CloseLast ↦ Closed (at + 2)
+      | CloseLast ↦ Some (at + 2)
       | CloseInner ↦ block_from s (level - 1) (at + 2)
       | PassOn ↦ block_from (b ∷ s) level (at + 1)
     ]
 
 -- s is what stands behind an opening mark: where its comment ends, counted from the front of s.
-unfoldable pub block_end : List ℕ → CommentEnd
+unfoldable pub block_end : List ℕ → Option ℕ
 block_end s = block_from s 1 0

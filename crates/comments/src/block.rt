@@ -2,13 +2,6 @@
 ghost use Rattle.std.specs.Prelude.{◌≡◌};
 ghost use Rattle.comments.specs.Blocks.{decision_of, block_end};
 
-// Where a comment ends: behind the closing mark of a block comment, at the LF of a line comment, or nowhere.
-#[derive(Clone, Copy)]
-pub enum CommentEnd {
-    Closed(usize),
-    Unclosed,
-}
-
 // What the two bytes at hand do to a block comment.
 #[derive(Clone, Copy)]
 pub enum Decision {
@@ -39,7 +32,7 @@ pub fn decide(a: u8, b: u8, level: usize) -> Decision
 }
 
 // s is what stands behind the opening mark.
-pub fn block_comment(s: &[u8]) -> CommentEnd
+pub fn block_comment(s: &[u8]) -> Option<usize>
     ensures { result ≡ block_end s.now }
 {
     let mut level: usize = 1;
@@ -48,7 +41,7 @@ pub fn block_comment(s: &[u8]) -> CommentEnd
         // On to the next byte that could begin a mark. It is here for speed: without it each byte before would be passed on by itself.
         i = search::find_either(s, i, b'*', b'/');
         if s.len() - i < 2 {
-            return CommentEnd::Unclosed;
+            return None;
         }
         match decide(s[i], s[i + 1], level) {
             Decision::Open => {
@@ -56,7 +49,7 @@ pub fn block_comment(s: &[u8]) -> CommentEnd
                 i += 2;
             }
             Decision::CloseLast => {
-                return CommentEnd::Closed(i + 2);
+                return Some(i + 2);
             }
             Decision::CloseInner => {
                 level -= 1;

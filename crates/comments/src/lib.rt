@@ -11,6 +11,6 @@ mod block;
 mod gap;
 mod line;
 
-pub use block::{CommentEnd, Decision, block_comment, decide};
+pub use block::{Decision, block_comment, decide};
 pub use gap::{Gap, is_blank, skip_gap};
 pub use line::line_comment;

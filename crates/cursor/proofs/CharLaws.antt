@@ -1,4 +1,6 @@
 -- Laws of the characters at a cursor. Assumes nothing.
+use Rattle.std.proofs.Common.{Ok, Err}
+use Rattle.text.specs.Refusals.{Told}
 use Prim.Native.Nat.{◌<◌, ◌≤◌, ℕ}
 use mathlib.Core.Bool.{false, true, true≢false}
 use mathlib.Core.List.{List}
@@ -11,9 +13,6 @@ use Rattle.cursor.specs.inner.Chars.{begins_with, consumed_of, expected_of, next
 use Rattle.cursor.specs.Cursor.{moved_by}
 use Rattle.cursor.specs.declared.ParserCursor.{ParserCursor}
 use Rattle.cursor.specs.declared.chars.Consumed.{Consumed}
-use Rattle.cursor.specs.declared.chars.Next.TheVariants.{Char, Refused}
-use Rattle.cursor.specs.declared.skip.Step.{Step}
-use Rattle.cursor.specs.declared.skip.Step.TheVariants.{Moved, Refused as Refuses}
 use Rattle.text.proofs.CharFronts.{code_ascii}
 use Rattle.text.proofs.Choices.{cond_cases, either, lt_or_le}
 use Rattle.text.proofs.Lists.{front, head_at}
@@ -23,20 +22,20 @@ use Rattle.text.specs.Utf8.{char_len, code_of}
 use Rattle.text.specs.declared.refusal.Refusal.{Refusal}
 
 module _ (text : List ℕ) (c : ParserCursor) where
-  pub next_end : length text ≤ c.cursor → next_of text c ≡ Refused (eof c.cursor)
+  pub next_end : length text ≤ c.cursor → next_of text c ≡ Err (eof c.cursor)
   unfolding next_of next_in
   next_end h = rw (drop_of_length-le text h)
 
-  pub next_here : c.cursor < length text → next_of text c ≡ Char (code_of (drop c.cursor text)) (moved_by (char_len (drop c.cursor text)) c)
+  pub next_here : c.cursor < length text → next_of text c ≡ Ok (code_of (drop c.cursor text), moved_by (char_len (drop c.cursor text)) c)
   unfolding next_of next_in
   next_here h = rw (front text c.cursor h)
 
   -- an ASCII character is its byte
-  pub next_ascii : c.cursor < length text → get_or text c.cursor 0 < 0x80 → next_of text c ≡ Char (get_or text c.cursor 0) (moved_by 1 c)
+  pub next_ascii : c.cursor < length text → get_or text c.cursor 0 < 0x80 → next_of text c ≡ Ok (get_or text c.cursor 0, moved_by 1 c)
   next_ascii h k =
       let low : get_or (drop c.cursor text) 0 0 < 0x80 = omega (arith, head_at text c.cursor, k) in
       next_here h
-      ∙ ap₂ Char (code_ascii (drop c.cursor text) low ∙ head_at text c.cursor)
+      ∙ ap₂ (λ (x : ℕ) (y : ParserCursor). Ok (x, y)) (code_ascii (drop c.cursor text) low ∙ head_at text c.cursor)
       (ap (λ (n : ℕ). moved_by n c) (char_len_ascii (drop c.cursor text) (omega (arith, length-drop c.cursor text, h)) low))
 
 -- where the part is empty, and where it is not
@@ -71,9 +70,9 @@ module _ (text : List ℕ) (c : ParserCursor) (b : ℕ) (some : 0 < b) where
       (λ t h. sym (begins_at b text c.cursor some) ∙ t))
 
 -- the same of a character that has to stand there
-abbrev pub Expected : List ℕ → ParserCursor → ℕ → Refusal → Step → Type 0
-Expected text c b r (Moved k) = (k ≡ moved_by 1 c) × (eqb (get_or text c.cursor 0) b ≡ true)
-Expected text c b r (Refuses q) = (q ≡ r) × (eqb (get_or text c.cursor 0) b ≡ false)
+abbrev pub Expected : List ℕ → ParserCursor → ℕ → Refusal → Told ParserCursor → Type 0
+Expected text c b r (Ok k) = (k ≡ moved_by 1 c) × (eqb (get_or text c.cursor 0) b ≡ true)
+Expected text c b r (Err q) = (q ≡ r) × (eqb (get_or text c.cursor 0) b ≡ false)
 
 pub expected_here : (text : List ℕ) (c : ParserCursor) (b : ℕ) (r : Refusal) → 0 < b → Expected text c b r (expected_of text c b r)
 unfolding expected_of
@@ -83,12 +82,12 @@ expected_here text c b r some =
     (λ t. (refl, sym (begins_at b text c.cursor some) ∙ t))
 
 -- what is found was taken, and what is not leaves the cursor
-pub found_taken : (text : List ℕ) (c : ParserCursor) (b : ℕ) (r : Refusal) → (consumed_of text c b).found ≡ true → expected_of text c b r ≡ Moved (consumed_of text c b).cursor
+pub found_taken : (text : List ℕ) (c : ParserCursor) (b : ℕ) (r : Refusal) → (consumed_of text c b).found ≡ true → expected_of text c b r ≡ Ok (consumed_of text c b).cursor
 unfolding consumed_of expected_of
 found_taken text c b r =
-    cond_cases (λ (x : Consumed). x.found ≡ true → expected_of text c b r ≡ Moved x.cursor) (begins_with b (drop c.cursor text)) _ _ (λ e h. rw e) (λ e h. let z : true ≡ false = sym h in cc)
+    cond_cases (λ (x : Consumed). x.found ≡ true → expected_of text c b r ≡ Ok x.cursor) (begins_with b (drop c.cursor text)) _ _ (λ e h. rw e) (λ e h. let z : true ≡ false = sym h in cc)
 
-pub lost_kept : (text : List ℕ) (c : ParserCursor) (b : ℕ) (r : Refusal) → (consumed_of text c b).found ≡ false → expected_of text c b r ≡ Refuses r
+pub lost_kept : (text : List ℕ) (c : ParserCursor) (b : ℕ) (r : Refusal) → (consumed_of text c b).found ≡ false → expected_of text c b r ≡ Err r
 unfolding consumed_of expected_of
 lost_kept text c b r =
-    cond_cases (λ (x : Consumed). x.found ≡ false → expected_of text c b r ≡ Refuses r) (begins_with b (drop c.cursor text)) _ _ (λ e h. cc) (λ e h. rw e)
+    cond_cases (λ (x : Consumed). x.found ≡ false → expected_of text c b r ≡ Err r) (begins_with b (drop c.cursor text)) _ _ (λ e h. cc) (λ e h. rw e)

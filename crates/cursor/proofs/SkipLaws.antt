@@ -1,4 +1,5 @@
 -- Laws of the cursor's whitespace. Assumes nothing.
+use Rattle.std.proofs.Common.{Ok}
 use Prim.Native.Nat.{◌+◌, ◌<◌, ◌≤◌, ℕ}
 use mathlib.Core.Bool.{◌&&◌, not, true}
 use mathlib.Core.List.{List}
@@ -10,7 +11,6 @@ use Rattle.comments.specs.Gaps.{gap_of}
 use Rattle.cursor.specs.Cursor.{cursor, unclosed_line}
 use Rattle.cursor.specs.Skip.{cursor_behind, behind_part, cursor_fits, pre_of, skip_ws_of, length_fits}
 use Rattle.cursor.specs.declared.ParserCursor.{ParserCursor}
-use Rattle.cursor.specs.declared.skip.Step.TheVariants.{Moved}
 use Rattle.text.proofs.Choices.{and_true}
 use Rattle.text.proofs.Lists.{front}
 use Rattle.text.specs.Classes.{within}
@@ -34,7 +34,7 @@ module _ (c : ParserCursor) where
 -- ---- the whole
 
 module _ (text : List ℕ) (c : ParserCursor) where
-  pub skip_at_end : length text ≤ c.cursor → skip_ws_of text c ≡ Moved (cursor c.cursor (pre_of c) c.last_ws_len)
+  pub skip_at_end : length text ≤ c.cursor → skip_ws_of text c ≡ Ok (cursor c.cursor (pre_of c) c.last_ws_len)
   unfolding skip_ws_of behind_part
   skip_at_end h = rw (drop_of_length-le text h)
 

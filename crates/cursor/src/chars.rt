@@ -2,16 +2,9 @@
 ghost use Rattle.std.specs.Prelude.{◌≡◌, ◌<◌, length};
 ghost use Rattle.cursor.specs.inner.Chars.{next_of, consumed_of, expected_of};
 
-use crate::{ParserCursor, Step};
+use crate::ParserCursor;
 use text::Refusal;
 use text::utf8::{char_len, code_point};
-
-// The character at the cursor and the cursor behind it.
-#[derive(Clone, Copy)]
-pub enum Next {
-    Char(u32, ParserCursor),
-    Refused(Refusal),
-}
 
 // Whether the character was there, and the cursor, which moves only then.
 #[derive(Clone, Copy)]
@@ -22,30 +15,30 @@ pub struct Consumed {
 
 impl ParserCursor {
     // The next character, by its code point; 6 at the end of the text.
-    pub fn next_char(self, text: &[u8]) -> Next
+    pub fn next_char(self, text: &[u8]) -> Result<(u32, ParserCursor), Refusal>
         ensures { result ≡ next_of text.now self }
     {
         let at = self.cursor;
         if text.len() <= at {
-            return Next::Refused(Refusal::eof(at));
+            return Err(Refusal::eof(at));
         }
         let first = text[at];
         if first < 0x80 {
             let code = first as u32;
-            return Next::Char(code, self.advance_bytes(1));
+            return Ok((code, self.advance_bytes(1)));
         }
         self.wide_char(text)
     }
 
     // The same where the text goes on, apart from ASCII, so that the way above stays short.
-    fn wide_char(self, text: &[u8]) -> Next
+    fn wide_char(self, text: &[u8]) -> Result<(u32, ParserCursor), Refusal>
         requires { self.cursor < length text.now }
         ensures { result ≡ next_of text.now self }
     {
         let at = self.cursor;
         let part = &text[at..];
         let bytes = char_len(part);
-        Next::Char(code_point(part), self.advance_bytes(bytes))
+        Ok((code_point(part), self.advance_bytes(bytes)))
     }
 
     // An ASCII character, taken where it stands.
@@ -72,14 +65,14 @@ impl ParserCursor {
     }
 
     // The same, refused where it does not stand.
-    pub fn expect_char(self, text: &[u8], c: u8, refusal: Refusal) -> Step
+    pub fn expect_char(self, text: &[u8], c: u8, refusal: Refusal) -> Result<ParserCursor, Refusal>
         ensures { result ≡ expected_of text.now self c refusal }
     {
         let got = self.consume_char(text, c);
         if got.found {
             let moved = got.cursor;
-            return Step::Moved(moved);
+            return Ok(moved);
         }
-        Step::Refused(refusal)
+        Err(refusal)
     }
 }

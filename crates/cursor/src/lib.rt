@@ -11,9 +11,8 @@ mod skip;
 ghost use Rattle.std.specs.Prelude.{◌≡◌, ◌+◌, ◌^◌, ◌<◌};
 ghost use Rattle.cursor.specs.Cursor.{cursor_at, moved_by};
 
-pub use chars::{Consumed, Next};
+pub use chars::Consumed;
 pub use escape::Escaped;
-pub use skip::Step;
 
 // The place, where the last whitespace began, and how long it was.
 #[derive(Clone, Copy)]

@@ -8,13 +8,6 @@ use text::Refusal;
 use text::judge::place_fits;
 use text::refusal::placed_behind;
 
-// The moved cursor, or the refusal.
-#[derive(Clone, Copy)]
-pub enum Step {
-    Moved(ParserCursor),
-    Refused(Refusal),
-}
-
 impl ParserCursor {
     // Its places are fit for the text, and its numbers agree.
     pub fn fits(self, text: &[u8]) -> bool
@@ -54,13 +47,13 @@ impl ParserCursor {
     }
 
     // Behind the whitespace and comments at the cursor.
-    pub fn skip_ws(self, text: &[u8]) -> Step
+    pub fn skip_ws(self, text: &[u8]) -> Result<ParserCursor, Refusal>
         ensures { result ≡ skip_ws_of text.now self }
     {
         let at = self.cursor;
         let pre = self.pre_ws();
         if text.len() <= at {
-            return Step::Moved(ParserCursor {
+            return Ok(ParserCursor {
                 cursor: at,
                 pre_ws_cursor: pre,
                 last_ws_len: self.last_ws_len,
@@ -72,7 +65,7 @@ impl ParserCursor {
                 let end = at + n;
                 // A host's own cursor can have the whitespace begin behind the place.
                 let len = end.saturating_sub(pre);
-                Step::Moved(ParserCursor {
+                Ok(ParserCursor {
                     cursor: end,
                     pre_ws_cursor: pre,
                     last_ws_len: len,
@@ -80,13 +73,13 @@ impl ParserCursor {
             }
             Gap::InLine(n) => {
                 let end = at + n;
-                Step::Moved(ParserCursor {
+                Ok(ParserCursor {
                     cursor: end,
                     pre_ws_cursor: pre,
                     last_ws_len: Self::WS_CURSOR_UNCLOSED_LINE,
                 })
             }
-            Gap::Refused(r) => Step::Refused(placed_behind(r, at)),
+            Gap::Refused(r) => Err(placed_behind(r, at)),
         }
     }
 }

@@ -1,10 +1,10 @@
 -- The depth is the most brackets that are open behind any number of the entries; an accepted walk's is within its limit. Assumes nothing.
+use Rattle.std.proofs.Common.{Ok}
 use Prim.Native.Nat.{ℕ, ◌≤◌}
 use native.Mathlib.Omega.{arith}
 use mathlib.Core.Path.{◌≡◌, refl, ap}
 use mathlib.Core.List.{List, [], ◌∷◌, ◌++◌}
 use Rattle.grammar.specs.declared.kinds.Kind.{Kind}
-use Rattle.grammar.specs.declared.ends.Verdict.TheVariants.{Accepted}
 use Rattle.grammar.specs.Kinds.{side_of}
 use Rattle.grammar.specs.Refused.{open_behind, open_after}
 use Rattle.grammar.specs.Walk.{walk_of}
@@ -28,5 +28,5 @@ deepest_within (k ∷ ks) d l h =
     omega arith
 
 -- an accepted walk
-pub accepted_deepest : (ks : List Kind) (limit : ℕ) → walk_of ks limit ≡ Accepted → deepest_of ks ≤ limit
+pub accepted_deepest : (ks : List Kind) (limit : ℕ) → walk_of ks limit ≡ Ok tt → deepest_of ks ≤ limit
 accepted_deepest ks limit e = deepest_within ks 0 limit (accepted_within ks limit e)

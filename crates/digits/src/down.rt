@@ -5,7 +5,7 @@ ghost use Rattle.digits.specs.inner.Down.{down_of};
 
 use crate::Run;
 use crate::up::Turned;
-use hexes::{HexAnswer, decode_hex};
+use hexes::decode_hex;
 
 // One character: a digit is multiplied in, judged, and subtracted, in this order; least is the lowest that may still be multiplied.
 fn turn_down(acc: i64, c: u8, base: u64, low: i64, least: i64) -> Turned<i64>
@@ -21,7 +21,7 @@ fn turn_down(acc: i64, c: u8, base: u64, low: i64, least: i64) -> Turned<i64>
     }
     let product = acc * b;
     let digit = decode_hex(c);
-    let HexAnswer::Digit(h) = digit else {
+    let Some(h) = digit else {
         return Turned::NotDigit;
     };
     let d = h as u64;

@@ -3,7 +3,7 @@ ghost use Rattle.std.specs.Prelude.{◌≡◌, ◌/◌, ◌<◌, ◌≤◌};
 ghost use Rattle.digits.specs.Digits.{turn_of, digits_of};
 
 use crate::Run;
-use hexes::{HexAnswer, decode_hex};
+use hexes::decode_hex;
 
 // What one character of a run does to the number before it.
 #[derive(Clone, Copy)]
@@ -26,7 +26,7 @@ fn turn(acc: u64, c: u8, base: u64, limit: u64, most: u64) -> Turned<u64>
     }
     let product = acc * base;
     let digit = decode_hex(c);
-    let HexAnswer::Digit(h) = digit else {
+    let Some(h) = digit else {
         return Turned::NotDigit;
     };
     let d = h as u64;

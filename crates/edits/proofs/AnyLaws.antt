@@ -1,4 +1,5 @@
 -- `P`, step by step. Assumes nothing.
+use Rattle.std.proofs.Common.{Ok, Err}
 use Rattle.std.specs.Prelude.{Some, None}
 use Prim.Native.Nat.{ℕ, ◌-◌, ◌≤◌}
 use native.Mathlib.Omega.{arith}
@@ -12,8 +13,6 @@ use Rattle.lines.specs.Out.{put}
 use Rattle.lines.specs.Over.{over}
 use Rattle.lines.proofs.OutLaws.{then}
 use Rattle.repair.specs.Repair.{Repaired, repair_of, repaired_tape, told_repair}
-use Rattle.repair.specs.declared.repairer.RepairAnswer.{RepairAnswer}
-use Rattle.repair.specs.declared.repairer.RepairAnswer.TheVariants as repair
 use Rattle.show.specs.Answers.{bad_text, clean_text, refused_text}
 use Rattle.show.specs.Repairs.{counts_text, numbers_text}
 use Rattle.text.specs.Refusals.{Told}
@@ -55,8 +54,8 @@ module _ (words : List ℕ) where
 
 -- ---- a repair
 
-module _ (tape text aside : List ℕ) (q : Cut) (r : RepairAnswer) (e : told_repair r ≡ repair_of tape q.count q.old q.a q.b text) where
-  pub told_by : (a : RepairAnswer) → r ≡ a → told_repair a ≡ told_of tape q text
+module _ (tape text aside : List ℕ) (q : Cut) (r : Told (ℕ × ℕ × ℕ)) (e : told_repair r ≡ repair_of tape q.count q.old q.a q.b text) where
+  pub told_by : (a : Told (ℕ × ℕ × ℕ)) → r ≡ a → told_repair a ≡ told_of tape q text
   unfolding told_of
   told_by a f = sym (ap told_repair f) ∙ e
 
@@ -69,24 +68,24 @@ module _ (tape text aside : List ℕ) (q : Cut) (r : RepairAnswer) (e : told_rep
       abbrev Says : Type 0
       Says = (end ≡ put out (any_text (told_of tape q text) (tape_after tape q text) (over tape aside))) × (left ≡ tape_after tape q text) × (copy ≡ over tape aside)
 
-      pub any_accepted : (n before behind : ℕ) → r ≡ repair.Repaired n before behind → mid ≡ put out (counts_text n before behind)
+      pub any_accepted : (n before behind : ℕ) → r ≡ Ok (n, before, behind) → mid ≡ put out (counts_text n before behind)
           → end ≡ put mid (numbers_text left) → Says
       any_accepted n before behind f g h = (
         then out mid end (counts_text n before behind) (numbers_text left) g h
             ∙ ap (λ (s : List ℕ). put out (counts_text n before behind ++ numbers_text s)) left_is
-            ∙ ap (λ (t : Told Repaired). put out (any_text t (tape_after tape q text) (over tape aside))) (told_by (repair.Repaired n before behind) f),
+            ∙ ap (λ (t : Told Repaired). put out (any_text t (tape_after tape q text) (over tape aside))) (told_by (Ok (n, before, behind)) f),
         left_is,
         k,
       )
 
-      pub any_refused : (f : Refusal) → r ≡ repair.Refused f → mid ≡ put out (refused_text f)
+      pub any_refused : (f : Refusal) → r ≡ Err f → mid ≡ put out (refused_text f)
           → (same : Bool) → same ≡ starts_with left copy → end ≡ put mid (clean_text same) → Says
       any_refused f g h same j i = (
         then out mid end (refused_text f) (clean_text same) h i
             ∙ ap (λ (b : Bool). put out (refused_text f ++ clean_text b)) j
             ∙ ap (λ (s : List ℕ). put out (refused_text f ++ clean_text (starts_with s copy))) left_is
             ∙ ap (λ (s : List ℕ). put out (refused_text f ++ clean_text (starts_with (tape_after tape q text) s))) k
-            ∙ ap (λ (t : Told Repaired). put out (any_text t (tape_after tape q text) (over tape aside))) (told_by (repair.Refused f) g),
+            ∙ ap (λ (t : Told Repaired). put out (any_text t (tape_after tape q text) (over tape aside))) (told_by (Err f) g),
         left_is,
         k,
       )

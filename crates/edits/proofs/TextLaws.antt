@@ -1,4 +1,5 @@
 -- `p` behind its words: the old text read, its tape repaired. Assumes nothing.
+use Rattle.std.proofs.Common.{Ok, Err}
 use Prim.Native.Nat.{ℕ, ◌+◌, ◌*◌, ◌≤◌, ◌<◌, max}
 use native.Mathlib.Omega.{arith}
 use mathlib.Core.Bool.{Bool}
@@ -12,11 +13,8 @@ use Rattle.text.specs.Words.{starts_with}
 use Rattle.lent.specs.Marks.{mark_at, marked, kept_from}
 use Rattle.lines.specs.Out.{put}
 use Rattle.lines.proofs.OutLaws.{then}
-use Rattle.read.specs.Read.{told_read, read_answer, read_tape}
-use Rattle.read.specs.declared.measure.ReadAnswer.{ReadAnswer}
+use Rattle.read.specs.Read.{read_answer, read_tape}
 use Rattle.repair.specs.Repair.{Repaired, repair_of, repaired_tape, told_repair}
-use Rattle.repair.specs.declared.repairer.RepairAnswer.{RepairAnswer}
-use Rattle.repair.specs.declared.repairer.RepairAnswer.TheVariants as repair
 use Rattle.rows.specs.Rows.{width}
 use Rattle.show.specs.Answers.{clean_text, refused_text}
 use Rattle.show.specs.Readings.{tape_text}
@@ -49,7 +47,7 @@ module _ (n m k : ℕ) (e : k ≡ max n m) where
 
 -- ---- a repair
 
-module _ (tape text aside : List ℕ) (q : Cut) (r : RepairAnswer) (e : told_repair r ≡ repair_of tape q.count q.old q.a q.b text)
+module _ (tape text aside : List ℕ) (q : Cut) (r : Told (ℕ × ℕ × ℕ)) (e : told_repair r ≡ repair_of tape q.count q.old q.a q.b text)
     (left : List ℕ) (l : left ≡ repaired_tape tape q.count q.old q.a q.b text) (copy : List ℕ) (k : copy ≡ over tape aside) (out mid end : List ℕ × ℕ) where
   abbrev after : List ℕ
   after = tape_after tape q text
@@ -57,11 +55,11 @@ module _ (tape text aside : List ℕ) (q : Cut) (r : RepairAnswer) (e : told_rep
   same_left : left ≡ after
   same_left = left_is tape text aside q r e left l
 
-  told_text : (a : RepairAnswer) → r ≡ a
+  told_text : (a : Told (ℕ × ℕ × ℕ)) → r ≡ a
       → put out (edit_text (told_repair a) q.count after (over tape aside)) ≡ put out (edit_text (told_of tape q text) q.count after (over tape aside))
   told_text a f = ap (λ (t : Told Repaired). put out (edit_text t q.count after (over tape aside))) (told_by tape text aside q r e a f)
 
-  pub text_accepted : (n before behind : ℕ) → r ≡ repair.Repaired n before behind → mid ≡ put out (counts_text n before behind)
+  pub text_accepted : (n before behind : ℕ) → r ≡ Ok (n, before, behind) → mid ≡ put out (counts_text n before behind)
       → (next : List ℕ × ℕ) → next ≡ put mid (tape_text 59 left n) → (w : ℕ) → w ≡ changed_of n q.count
       → (kept : Bool) → kept ≡ kept_from mark_at (drop w left) w → end ≡ put next (clean_text kept) → Done (repair_with q text tape aside) out end left copy
   unfolding repair_with
@@ -71,12 +69,12 @@ module _ (tape text aside : List ℕ) (q : Cut) (r : RepairAnswer) (e : told_rep
             ∙ ap (λ (b : Bool). put out (c ++ tape_text 59 left n ++ clean_text b)) j
             ∙ ap (λ (x : ℕ). put out (c ++ tape_text 59 left n ++ clean_text (kept_from mark_at (drop x left) x))) i
             ∙ ap (λ (t : List ℕ). put out (c ++ tape_text 59 t n ++ clean_text (kept_from mark_at (drop (changed_of n q.count) t) (changed_of n q.count)))) same_left
-            ∙ told_text (repair.Repaired n before behind) f,
+            ∙ told_text (Ok (n, before, behind)) f,
         same_left,
         k,
       )
 
-  pub text_refused : (f : Refusal) → r ≡ repair.Refused f → mid ≡ put out (refused_text f)
+  pub text_refused : (f : Refusal) → r ≡ Err f → mid ≡ put out (refused_text f)
       → (same : Bool) → same ≡ starts_with left copy → end ≡ put mid (clean_text same) → Done (repair_with q text tape aside) out end left copy
   unfolding repair_with
   text_refused f g h same j i = (
@@ -84,7 +82,7 @@ module _ (tape text aside : List ℕ) (q : Cut) (r : RepairAnswer) (e : told_rep
         ∙ ap (λ (b : Bool). put out (refused_text f ++ clean_text b)) j
         ∙ ap (λ (s : List ℕ). put out (refused_text f ++ clean_text (starts_with s copy))) same_left
         ∙ ap (λ (s : List ℕ). put out (refused_text f ++ clean_text (starts_with after s))) k
-        ∙ told_text (repair.Refused f) g,
+        ∙ told_text (Err f) g,
     same_left,
     k,
   )
@@ -92,13 +90,13 @@ module _ (tape text aside : List ℕ) (q : Cut) (r : RepairAnswer) (e : told_rep
 -- ---- the old text read first
 
 module _ (old new tape aside : List ℕ) (a b : ℕ) (marks : List ℕ) (e : marks ≡ marked mark_at (length tape) 0 tape)
-    (r : ReadAnswer) (f : told_read r ≡ read_answer old (length marks)) (left : List ℕ) (g : left ≡ read_tape old marks) where
-  pub told-read : (x : ReadAnswer) → r ≡ x → read_repair old new a b tape aside ≡ by_read (told_read x) old new a b left aside
+    (r : Told ℕ) (f : r ≡ read_answer old (length marks)) (left : List ℕ) (g : left ≡ read_tape old marks) where
+  pub told-read : (x : Told ℕ) → r ≡ x → read_repair old new a b tape aside ≡ by_read (x) old new a b left aside
   unfolding read_repair
   told-read x h =
       ap (λ (t : List ℕ). by_read (read_answer old (length t)) old new a b (read_tape old t) aside) (sym e)
-      ∙ ap (λ (t : Told ℕ). by_read t old new a b (read_tape old marks) aside) (sym f ∙ ap told_read h)
-      ∙ ap (λ (t : List ℕ). by_read (told_read x) old new a b t aside) (sym g)
+      ∙ ap (λ (t : Told ℕ). by_read t old new a b (read_tape old marks) aside) (sym f ∙ h)
+      ∙ ap (λ (t : List ℕ). by_read (x) old new a b t aside) (sym g)
 
 -- ---- a part of the tape, or all of it
 

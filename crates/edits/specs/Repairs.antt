@@ -1,4 +1,5 @@
 -- `P COUNT OLDLEN A B HEX N,N,..` and `p A B NEWHEX HEX`: a tape repaired after an edit.
+use Rattle.std.specs.Prelude.{Ok, Err}
 use Rattle.std.specs.Prelude.{ℕ, ◌+◌, ◌*◌, max, min, cond, ◌&&◌, List, ◌++◌, leb, length, take, drop, Option, Some, None}
 use Rattle.text.specs.Words.{starts_with}
 use Rattle.lent.specs.Marks.{mark_at, marked, kept_from}
@@ -10,7 +11,7 @@ use Rattle.rows.specs.Rows.{width}
 use Rattle.show.specs.Answers.{bad_text, clean_text, refused_text}
 use Rattle.show.specs.Readings.{tape_text}
 use Rattle.show.specs.Repairs.{counts_text, numbers_text}
-use Rattle.text.specs.Refusals.{Told, accepted, refused}
+use Rattle.text.specs.Refusals.{Told}
 use Rattle.words.specs.Hex.{pairs}
 use Rattle.words.specs.Number.{decimal_of}
 use Rattle.words.specs.Numbers.{numbers_of}
@@ -34,8 +35,8 @@ tape_after tape q text = repaired_tape tape q.count q.old q.a q.b text
 
 -- Accepted, every number of the slice; a refused repair may change none, which is told by a copy set aside before it.
 abbrev pub any_text : Told Repaired → List ℕ → List ℕ → List ℕ
-any_text (accepted r) left aside = counts_text r.count r.before r.behind ++ numbers_text left
-any_text (refused r) left aside = refused_text r ++ clean_text (starts_with left aside)
+any_text (Ok r) left aside = counts_text r.count r.before r.behind ++ numbers_text left
+any_text (Err r) left aside = refused_text r ++ clean_text (starts_with left aside)
 
 -- What is said of a tape with other numbers behind it, and all these and the copy afterwards.
 unfoldable pub repair_in : List ℕ → Cut → List ℕ → List ℕ → List ℕ → List ℕ × List ℕ × List ℕ
@@ -80,10 +81,10 @@ changed_of n count = cond (leb (max n count) 65536) (width * max n count) 0
 
 -- Accepted, the entries, and whether all behind them and the old ones kept its marks; a refused repair may change no number.
 abbrev pub edit_text : Told Repaired → ℕ → List ℕ → List ℕ → List ℕ
-edit_text (accepted r) count left aside =
+edit_text (Ok r) count left aside =
     let changed = changed_of r.count count in
     counts_text r.count r.before r.behind ++ tape_text 59 left r.count ++ clean_text (kept_from mark_at (drop changed left) changed)
-edit_text (refused r) count left aside = refused_text r ++ clean_text (starts_with left aside)
+edit_text (Err r) count left aside = refused_text r ++ clean_text (starts_with left aside)
 
 -- A tape repaired for a cut and a new text: what is said, the tape and the copy.
 unfoldable pub repair_with : Cut → List ℕ → List ℕ → List ℕ → List ℕ × List ℕ × List ℕ
@@ -94,8 +95,8 @@ repair_with q new tape aside =
 
 -- The same of the tape of an old text, where it was read.
 abbrev pub by_read : Told ℕ → List ℕ → List ℕ → ℕ → ℕ → List ℕ → List ℕ → List ℕ × List ℕ × List ℕ
-by_read (accepted count) old new a b tape aside = repair_with (cut_of count (length old) a b) new tape aside
-by_read (refused r) old new a b tape aside = (ascii "old " ++ refused_text r, tape, aside)
+by_read (Ok count) old new a b tape aside = repair_with (cut_of count (length old) a b) new tape aside
+by_read (Err r) old new a b tape aside = (ascii "old " ++ refused_text r, tape, aside)
 
 -- The old text read into a marked tape, and this repaired.
 unfoldable pub read_repair : List ℕ → List ℕ → ℕ → ℕ → List ℕ → List ℕ → List ℕ × List ℕ × List ℕ

@@ -1,4 +1,6 @@
 -- Where the string that an entry names lies: its place and its contents within the text. Assumes nothing.
+use Rattle.std.proofs.Common.{Ok, Err}
+use Rattle.strings.specs.declared.literal.Literal.{Literal}
 use Prim.Native.Nat.{ℕ, ◌≤◌}
 use native.Mathlib.Omega.{arith}
 use mathlib.Core.Path.{◌≡◌, refl, subst}
@@ -7,30 +9,24 @@ use mathlib.Core.List.{List}
 use lib.Dec.{eqb, ltb, leb}
 use lib.ListN.{length, drop}
 use Rattle.text.specs.Refusals.{Told}
-use Rattle.text.specs.Refusals.Told.{accepted, refused}
 use Rattle.text.specs.Judged.{place_fits}
 use Rattle.text.proofs.Choices.{cond_cases}
 use Rattle.text.proofs.JudgeLaws.{place_within}
 use Rattle.rows.specs.declared.Entry.{Entry}
 use Rattle.rows.specs.Rows.{room_of, entry_at}
-use Rattle.strings.specs.declared.literal.LiteralAnswer.{LiteralAnswer}
-use Rattle.strings.specs.declared.literal.LiteralAnswer.TheVariants.{Read, Refused}
 use Rattle.entries.specs.Named.{by_kind, inside_of, named_of, literal_of}
 use Rattle.entries.specs.Contents.{Span, by_named, contents_in}
-use Rattle.entries.specs.declared.named.Named.{Named}
-use Rattle.entries.specs.declared.named.Named.TheVariants.{At}
-use Rattle.entries.specs.declared.named.Named.TheVariants as named
 use Rattle.entries.proofs.LiteralLaws.{read_inside}
 
 -- the place fits the text
-abbrev pub Fits : List ℕ → Named → Type 0
-Fits text (At bytes place) = place_fits text place ≡ true
-Fits text (named.Refused r) = Unit
+abbrev pub Fits : List ℕ → Told (Bool × ℕ) → Type 0
+Fits text (Ok (bytes, place)) = place_fits text place ≡ true
+Fits text (Err r) = Unit
 
 -- and lies within it
-abbrev pub Within : List ℕ → Named → Type 0
-Within text (At bytes place) = place ≤ length text
-Within text (named.Refused r) = Unit
+abbrev pub Within : List ℕ → Told (Bool × ℕ) → Type 0
+Within text (Ok (bytes, place)) = place ≤ length text
+Within text (Err r) = Unit
 
 kind_fits : (text : List ℕ) (kind place : ℕ) → place_fits text place ≡ true → Fits text (by_kind kind place)
 unfolding by_kind
@@ -50,26 +46,26 @@ module _ (text tape : List ℕ) (count entry : ℕ) where
       cond_cases (Fits text) (leb count entry) _ _ (λ a. tt)
       (λ a. cond_cases (Fits text) (ltb entry (room_of (length tape))) _ _ (λ b. inside_fits text (room_of (length tape)) count (entry_at tape entry)) (λ b. tt))
 
-  pub named_fits : (n : Named) → named_of text tape count entry ≡ n → Fits text n
+  pub named_fits : (n : Told (Bool × ℕ)) → named_of text tape count entry ≡ n → Fits text n
   named_fits n e = subst (Fits text) e named_all
 
-  pub named_within : (n : Named) → named_of text tape count entry ≡ n → Within text n
-  named_within (At bytes place) e = place_within text place (named_fits (At bytes place) e)
-  named_within (named.Refused r) e = tt
+  pub named_within : (n : Told (Bool × ℕ)) → named_of text tape count entry ≡ n → Within text n
+  named_within (Ok (bytes, place)) e = place_within text place (named_fits (Ok (bytes, place)) e)
+  named_within (Err r) e = tt
 
 -- a part of the text
 abbrev pub Inside : List ℕ → Told Span → Type 0
-Inside text (accepted s) = (s.start ≤ s.end) × (s.end ≤ length text)
-Inside text (refused r) = Unit
+Inside text (Ok s) = (s.start ≤ s.end) × (s.end ≤ length text)
+Inside text (Err r) = Unit
 
 module _ (text : List ℕ) where
-  contents_read : (bytes : Bool) (place : ℕ) (a : LiteralAnswer) → place ≤ length text → literal_of bytes (drop place text) ≡ a → Inside text (contents_in place a)
-  contents_read bytes place (Read l) h e =
+  contents_read : (bytes : Bool) (place : ℕ) (a : Told Literal) → place ≤ length text → literal_of bytes (drop place text) ≡ a → Inside text (contents_in place a)
+  contents_read bytes place (Ok l) h e =
       let q = read_inside bytes text place h l e in
       cond_cases (Inside text) l.escaped _ _ (λ p. tt) (λ p. (omega (arith, q.0), q.1))
-  contents_read bytes place (Refused r) h e = tt
+  contents_read bytes place (Err r) h e = tt
 
   -- the contents of the string that an entry names are one
-  pub contents_inside : (n : Named) → Within text n → Inside text (by_named n (λ bytes place. contents_in place (literal_of bytes (drop place text))))
-  contents_inside (At bytes place) h = contents_read bytes place (literal_of bytes (drop place text)) h refl
-  contents_inside (named.Refused r) h = tt
+  pub contents_inside : (n : Told (Bool × ℕ)) → Within text n → Inside text (by_named n (λ bytes place. contents_in place (literal_of bytes (drop place text))))
+  contents_inside (Ok (bytes, place)) h = contents_read bytes place (literal_of bytes (drop place text)) h refl
+  contents_inside (Err r) h = tt

@@ -5,7 +5,3 @@
 pub mod decoding;
 pub mod named;
 pub mod view;
-
-pub use decoding::DecodedAnswer;
-pub use named::Named;
-pub use view::ContentsAnswer;

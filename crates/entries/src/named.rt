@@ -4,28 +4,20 @@ ghost use Rattle.rows.specs.Rows.{room_of, entry_at};
 ghost use Rattle.entries.specs.Named.{by_kind, inside_of, named_of, literal_of};
 
 use rows::{kinds, row};
-use strings::LiteralAnswer;
 use text::Refusal;
 use text::judge::place_fits;
 
-// A string or, with true, a byte string at a place; or the refusal.
-#[derive(Clone, Copy)]
-pub enum Named {
-    At(bool, usize),
-    Refused(Refusal),
-}
-
 // Kind 14 is a string, 15 a byte string.
-fn by_kind(kind: u32, place: usize) -> Named
+fn by_kind(kind: u32, place: usize) -> Result<(bool, usize), Refusal>
     ensures { result ≡ by_kind kind place }
 {
     if kind == kinds::STRING {
-        return Named::At(false, place);
+        return Ok((false, place));
     }
     if kind == kinds::BYTE_STRING {
-        return Named::At(true, place);
+        return Ok((true, place));
     }
-    Named::Refused(Refusal::other_kind())
+    Err(Refusal::other_kind())
 }
 
 fn start_of(start: u32) -> usize
@@ -35,36 +27,46 @@ fn start_of(start: u32) -> usize
 }
 
 // An entry inside the slice: its start is judged before the count.
-fn named_inside(text: &[u8], tape: &[u32], count: usize, entry: usize) -> Named
+fn named_inside(
+    text: &[u8],
+    tape: &[u32],
+    count: usize,
+    entry: usize,
+) -> Result<(bool, usize), Refusal>
     requires { entry < room_of (length tape.now) }
     ensures { result ≡ inside_of text.now (room_of (length tape.now)) count (entry_at tape.now entry) }
 {
     let e = row::entry(tape, entry);
     let place = start_of(e.start);
     if !place_fits(text, place) {
-        return Named::Refused(Refusal::unfit());
+        return Err(Refusal::unfit());
     }
     if row::room(tape) < count {
-        return Named::Refused(Refusal::not_in_order());
+        return Err(Refusal::not_in_order());
     }
     by_kind(e.kind, place)
 }
 
 // The string that the entry names; one outside the slice has no start to judge.
-pub fn find_named(text: &[u8], tape: &[u32], count: usize, entry: usize) -> Named
+pub fn find_named(
+    text: &[u8],
+    tape: &[u32],
+    count: usize,
+    entry: usize,
+) -> Result<(bool, usize), Refusal>
     ensures { result ≡ named_of text.now tape.now count entry }
 {
     if count <= entry {
-        return Named::Refused(Refusal::unfit());
+        return Err(Refusal::unfit());
     }
     if entry < row::room(tape) {
         return named_inside(text, tape, count, entry);
     }
-    Named::Refused(Refusal::not_in_order())
+    Err(Refusal::not_in_order())
 }
 
 // The string or byte string at the front of s.
-pub fn read_named(bytes: bool, s: &[u8]) -> LiteralAnswer
+pub fn read_named(bytes: bool, s: &[u8]) -> Result<Literal, Refusal>
     ensures { result ≡ literal_of bytes s.now }
 {
     if bytes {

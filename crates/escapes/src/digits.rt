@@ -4,7 +4,7 @@ ghost use Rattle.escapes.specs.Escapes.{second_digit, two_digits};
 
 use crate::EscapeAnswer;
 use crate::answers::{ended, invalid};
-use hexes::{HexAnswer, decode_hex};
+use hexes::decode_hex;
 use text::{EscapeReason, utf8};
 
 // The second of two digits, at the front of t; h is the first.
@@ -16,7 +16,7 @@ fn second_digit(t: &[u8], at: usize, h: u8) -> EscapeAnswer
         return ended(at);
     }
     let digit = decode_hex(t[0]);
-    let HexAnswer::Digit(k) = digit else {
+    let Some(k) = digit else {
         return invalid(EscapeReason::DigitNotHex, at + utf8::char_len(t));
     };
     EscapeAnswer::Ascii(h * 16 + k, at + 1)
@@ -31,7 +31,7 @@ pub fn decode_ascii_escape(t: &[u8], at: usize) -> EscapeAnswer
         return ended(at);
     }
     let digit = decode_hex(t[0]);
-    let HexAnswer::Digit(h) = digit else {
+    let Some(h) = digit else {
         return invalid(EscapeReason::DigitNotHex, at + utf8::char_len(t));
     };
     second_digit(&t[1..], at + 1, h)

@@ -4,7 +4,7 @@ ghost use Rattle.escapes.specs.Escapes.{close_of, unicode_escape};
 
 use crate::EscapeAnswer;
 use crate::answers::{ended, invalid};
-use hexes::{HexAnswer, decode_hex};
+use hexes::decode_hex;
 use text::{EscapeReason, utf8};
 
 // Behind the digits; v is what they come to, empty says that there were none.
@@ -48,7 +48,7 @@ pub fn unicode_escape(s: &[u8], at: usize) -> EscapeAnswer
             return close(&s[i..], at + i, i == 1, v);
         }
         let digit = decode_hex(b);
-        let HexAnswer::Digit(h) = digit else {
+        let Some(h) = digit else {
             return invalid(EscapeReason::DigitNotHex, at + i + utf8::char_len(&s[i..]));
         };
         v = v * 16 + h as u32;

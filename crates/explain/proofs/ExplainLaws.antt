@@ -1,4 +1,5 @@
 -- What is said of a text, by the answers of its read and its walk. Assumes nothing.
+use Rattle.std.proofs.Common.{Ok, Err}
 use Prim.Native.Nat.{ℕ, ◌≤◌}
 use mathlib.Core.List.{List}
 use mathlib.Core.Path.{◌≡◌, sym, ap, subst, ◌∙◌}
@@ -13,13 +14,9 @@ use Rattle.opened.specs.declared.begun.Begun.TheVariants.{Field}
 use Rattle.places.specs.Entries.{walk_place}
 use Rattle.places.specs.Lines.{between}
 use Rattle.read.proofs.AcceptedReads.{read_accepted}
-use Rattle.read.specs.Read.{read_answer, read_tape, told_read}
-use Rattle.read.specs.declared.measure.ReadAnswer.{ReadAnswer}
-use Rattle.read.specs.declared.measure.ReadAnswer.TheVariants.{Accepted, Refused as NotRead}
+use Rattle.read.specs.Read.{read_answer, read_tape}
 use Rattle.rows.specs.Rows.{room_of, entries_of}
-use Rattle.sarridok.specs.Walked.{told_walk, walk_of, links_after}
-use Rattle.sarridok.specs.declared.walk_call.WalkAnswer.{WalkAnswer}
-use Rattle.sarridok.specs.declared.walk_call.WalkAnswer.TheVariants.{Walked, Refused as NotWalked}
+use Rattle.sarridok.specs.Walked.{walk_of, links_after}
 use Rattle.text.specs.Refusals.{Told}
 use Rattle.text.specs.declared.refusal.Refusal.{Refusal}
 use Rattle.explain.specs.Explained.{accepted_text, began_text, named_text, begun_text, refusal_text, walked_text, read_text, links_behind, explained}
@@ -37,46 +34,46 @@ module _ (s : List ℕ) (out end : List ℕ × ℕ) (b : Begun) where
 
 -- ---- the walk
 
-module _ (s tape : List ℕ) (count : ℕ) (a : Told Unit) (r : WalkAnswer) (told_is : told_walk r ≡ a) (out end : List ℕ × ℕ) where
-  pub walked_accepted : r ≡ Walked → (depth : ℕ) → depth ≡ deepest_of (kinds_of (entries_of count tape)) → end ≡ put out (accepted_text count depth)
+module _ (s tape : List ℕ) (count : ℕ) (a : Told Unit) (r : Told Unit) (told_is : r ≡ a) (out end : List ℕ × ℕ) where
+  pub walked_accepted : r ≡ Ok tt → (depth : ℕ) → depth ≡ deepest_of (kinds_of (entries_of count tape)) → end ≡ put out (accepted_text count depth)
       → end ≡ put out (walked_text s tape count a)
   unfolding walked_text
   walked_accepted h depth e f =
-      f ∙ ap (λ (d : ℕ). put out (accepted_text count d)) e ∙ ap (λ (x : Told Unit). put out (walked_text s tape count x)) (sym (ap told_walk h) ∙ told_is)
+      f ∙ ap (λ (d : ℕ). put out (accepted_text count d)) e ∙ ap (λ (x : Told Unit). put out (walked_text s tape count x)) (sym (h) ∙ told_is)
 
-  pub walked_refused : (d : Refusal) → r ≡ NotWalked d → (p : ℕ) (b : Begun) → p ≡ walk_place tape count d → b ≡ walk_begun s tape count d
+  pub walked_refused : (d : Refusal) → r ≡ Err d → (p : ℕ) (b : Begun) → p ≡ walk_place tape count d → b ≡ walk_begun s tape count d
       → end ≡ put out (refusal_text s d p b)
       → end ≡ put out (walked_text s tape count a)
   unfolding walked_text
   walked_refused d h p b e g f =
       f ∙ ap (λ (k : ℕ). put out (refusal_text s d k b)) e ∙ ap (λ (x : Begun). put out (refusal_text s d (walk_place tape count d) x)) g
-      ∙ ap (λ (x : Told Unit). put out (walked_text s tape count x)) (sym (ap told_walk h) ∙ told_is)
+      ∙ ap (λ (x : Told Unit). put out (walked_text s tape count x)) (sym (h) ∙ told_is)
 
 -- ---- the read
 
-module _ (s tape t : List ℕ) (r : ReadAnswer) (told_is : told_read r ≡ read_answer s (length tape)) (tape_is : t ≡ read_tape s tape) where
+module _ (s tape t : List ℕ) (r : Told ℕ) (told_is : r ≡ read_answer s (length tape)) (tape_is : t ≡ read_tape s tape) where
   -- an accepted read has room for its entries
-  pub room_after : (n : ℕ) → r ≡ Accepted n → length t ≡ length tape → n ≤ room_of (length t)
-  room_after n h e = subst (λ (k : ℕ). n ≤ room_of k) (sym e) (read_accepted s (length tape) n (sym (sym (ap told_read h) ∙ told_is))).fits
+  pub room_after : (n : ℕ) → r ≡ Ok n → length t ≡ length tape → n ≤ room_of (length t)
+  room_after n h e = subst (λ (k : ℕ). n ≤ room_of k) (sym e) (read_accepted s (length tape) n (sym (sym (h) ∙ told_is))).fits
 
   module _ (out end : List ℕ × ℕ) (links : ℕ) where
-    pub explained_accepted : (n : ℕ) → r ≡ Accepted n → end ≡ put out (walked_text s t n (walk_of s t n 128 links)) → end ≡ put out (explained s tape links)
+    pub explained_accepted : (n : ℕ) → r ≡ Ok n → end ≡ put out (walked_text s t n (walk_of s t n 128 links)) → end ≡ put out (explained s tape links)
     unfolding explained read_text
     explained_accepted n h f =
         f ∙ ap (λ (x : List ℕ). put out (walked_text s x n (walk_of s x n 128 links))) tape_is
-        ∙ ap (λ (x : Told ℕ). put out (read_text s (read_tape s tape) links x)) (sym (ap told_read h) ∙ told_is)
+        ∙ ap (λ (x : Told ℕ). put out (read_text s (read_tape s tape) links x)) (sym (h) ∙ told_is)
 
-    pub explained_refused : (d : Refusal) → r ≡ NotRead d → (b : Begun) → b ≡ read_begun s d.number
+    pub explained_refused : (d : Refusal) → r ≡ Err d → (b : Begun) → b ≡ read_begun s d.number
         → end ≡ put out (refusal_text s d d.place b) → end ≡ put out (explained s tape links)
     unfolding explained read_text
     explained_refused d h b g f =
-        f ∙ ap (λ (x : Begun). put out (refusal_text s d d.place x)) g ∙ ap (λ (x : Told ℕ). put out (read_text s (read_tape s tape) links x)) (sym (ap told_read h) ∙ told_is)
+        f ∙ ap (λ (x : Begun). put out (refusal_text s d d.place x)) g ∙ ap (λ (x : Told ℕ). put out (read_text s (read_tape s tape) links x)) (sym (h) ∙ told_is)
 
-module _ (s tape links after : List ℕ) (a : Told ℕ) (r : ReadAnswer) (told_is : told_read r ≡ a) where
-  pub links_accepted : (n : ℕ) → r ≡ Accepted n → after ≡ links_after s tape n 128 links → after ≡ links_behind s tape links a
+module _ (s tape links after : List ℕ) (a : Told ℕ) (r : Told ℕ) (told_is : r ≡ a) where
+  pub links_accepted : (n : ℕ) → r ≡ Ok n → after ≡ links_after s tape n 128 links → after ≡ links_behind s tape links a
   unfolding links_behind
-  links_accepted n h f = f ∙ ap (links_behind s tape links) (sym (ap told_read h) ∙ told_is)
+  links_accepted n h f = f ∙ ap (links_behind s tape links) (sym (h) ∙ told_is)
 
-  pub links_refused : (d : Refusal) → r ≡ NotRead d → after ≡ links → after ≡ links_behind s tape links a
+  pub links_refused : (d : Refusal) → r ≡ Err d → after ≡ links → after ≡ links_behind s tape links a
   unfolding links_behind
-  links_refused d h f = f ∙ ap (links_behind s tape links) (sym (ap told_read h) ∙ told_is)
+  links_refused d h f = f ∙ ap (links_behind s tape links) (sym (h) ∙ told_is)

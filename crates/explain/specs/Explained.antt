@@ -1,4 +1,5 @@
 -- What is said of a text: how many entries it has and how deep they are nested, or why it is refused, and where.
+use Rattle.std.specs.Prelude.{Ok, Err}
 use Rattle.std.specs.Prelude.{ℕ, min, cond, List, [], ◌++◌, eqb, length}
 use Rattle.depth.specs.Depth.{deepest_of}
 use Rattle.grammar.specs.Kinds.{kinds_of}
@@ -14,7 +15,7 @@ use Rattle.places.specs.Lines.{between, line_of}
 use Rattle.read.specs.Read.{read_answer, read_tape}
 use Rattle.rows.specs.Rows.{entries_of}
 use Rattle.sarridok.specs.Walked.{walk_of, links_after}
-use Rattle.text.specs.Refusals.{Told, accepted, refused}
+use Rattle.text.specs.Refusals.{Told}
 use Rattle.text.specs.declared.refusal.Refusal.{Refusal}
 use Rattle.explain.specs.Sentences.{sentence_of, why_of}
 use Rattle.explain.specs.Excerpts.{characters_text, excerpt_text}
@@ -69,8 +70,8 @@ refusal_text s r at b = refused_text s r at ++ begun_text s b
 
 -- What is said of a text with so many entries on its tape, by the walk's answer.
 unfoldable pub walked_text : List ℕ → List ℕ → ℕ → Told Unit → List ℕ
-walked_text s tape count (accepted t) = accepted_text count (deepest_of (kinds_of (entries_of count tape)))
-walked_text s tape count (refused r) = refusal_text s r (walk_place tape count r) (walk_begun s tape count r)
+walked_text s tape count (Ok t) = accepted_text count (deepest_of (kinds_of (entries_of count tape)))
+walked_text s tape count (Err r) = refusal_text s r (walk_place tape count r) (walk_begun s tape count r)
 
 -- The same, walked with room for so many links; up to 128 brackets may be open.
 abbrev pub walk_text : List ℕ → List ℕ → ℕ → ℕ → List ℕ
@@ -78,13 +79,13 @@ walk_text s tape count links = walked_text s tape count (walk_of s tape count 12
 
 -- What is said of a text, by the read's answer.
 unfoldable pub read_text : List ℕ → List ℕ → ℕ → Told ℕ → List ℕ
-read_text s tape links (accepted n) = walk_text s tape n links
-read_text s tape links (refused r) = refusal_text s r r.place (read_begun s r.number)
+read_text s tape links (Ok n) = walk_text s tape n links
+read_text s tape links (Err r) = refusal_text s r r.place (read_begun s r.number)
 
 -- The links afterwards: a refused text leaves them.
 unfoldable pub links_behind : List ℕ → List ℕ → List ℕ → Told ℕ → List ℕ
-links_behind s tape links (accepted n) = links_after s tape n 128 links
-links_behind s tape links (refused r) = links
+links_behind s tape links (Ok n) = links_after s tape n 128 links
+links_behind s tape links (Err r) = links
 
 -- What is said of a text over such a tape and so many links.
 unfoldable pub explained : List ℕ → List ℕ → ℕ → List ℕ

@@ -19,7 +19,7 @@ use lines::{input, out};
 use opened::begun::read_begun;
 use opened::walks::walk_begun;
 use places::entry::walk_place;
-use sarridok::{ReadAnswer, WalkAnswer};
+use sarridok::ReadAnswer;
 
 // Brackets may be open up to this many.
 const LIMIT: usize = 128;
@@ -32,8 +32,8 @@ fn walked(o: &mut [u8], s: &[u8], tape: &[u32], count: usize, links: &mut [u32])
 {
     let r = sarridok::walk(s, tape, count, LIMIT, links);
     match r {
-        WalkAnswer::Walked => accepted(o, count, deepest(tape, count)),
-        WalkAnswer::Refused(f) => {
+        Ok(()) => accepted(o, count, deepest(tape, count)),
+        Err(f) => {
             let place = walk_place(tape, count, f);
             let begun = walk_begun(s, tape, count, f);
             refused(o, s, f, place, begun)

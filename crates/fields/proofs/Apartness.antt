@@ -1,4 +1,5 @@
 -- The first n entries of a document name no field again exactly where the walk over its entries finds none before entry n. Assumes nothing.
+use Rattle.std.proofs.Common.{Some}
 use Prim.Native.Nat.{ℕ, ◌+◌, ◌≤◌}
 use mathlib.Core.Path.{◌≡◌, sym, ap, ◌∙◌}
 use mathlib.Core.List.{List, [], ◌∷◌}
@@ -7,7 +8,6 @@ use Rattle.grammar.specs.Grammar.{Value, scalar, name, list, map, round, called,
 use Rattle.grammar.specs.Links.{behind}
 use Rattle.fields.specs.Apart.{Apart, ApartRound, ApartItems, ApartPairs, ApartFields, ApartIn}
 use Rattle.fields.specs.Fields.{again_of}
-use Rattle.fields.specs.declared.again.Again.TheVariants.{At}
 use Rattle.fields.proofs.Judged.{Judged, end, judged, judged_round, judged_items, judged_pairs, judged_fields, from_value, first, AllNew, new_first, first_new}
 use Rattle.fields.proofs.Trees.{again_written}
 
@@ -95,10 +95,10 @@ module _ (nm : ℕ → List ℕ) (n : ℕ) where
     finds : again_of nm ks ≡ first nm (judged d.tree d.attrs end)
     finds = ap (again_of nm) d.written ∙ again_written nm d.attrs d.tree
 
-    pub apart_behind : ApartIn nm n d → (j : ℕ) → again_of nm ks ≡ At j → n ≤ j
+    pub apart_behind : ApartIn nm n d → (j : ℕ) → again_of nm ks ≡ Some j → n ≤ j
     apart_behind a j e = new_first nm n (judged d.tree d.attrs end) j (apart_all d.tree d.attrs end a tt) (sym finds ∙ e)
 
-    pub behind_apart : ((j : ℕ) → again_of nm ks ≡ At j → n ≤ j) → ApartIn nm n d
+    pub behind_apart : ((j : ℕ) → again_of nm ks ≡ Some j → n ≤ j) → ApartIn nm n d
     behind_apart h =
         (all_apart d.tree d.attrs end
         (first_new nm n d.attrs (judged d.tree d.attrs end) (from_value d.tree d.attrs end tt) (λ j e. h j (finds ∙ e)))).0

@@ -1,4 +1,5 @@
 -- The same entries in whatever order: a permutation leaves them, and what of one list holds of the other. Assumes nothing.
+use Rattle.std.proofs.Common.{Option}
 use Prim.Native.Nat.{ℕ, ◌<◌}
 use mathlib.Core.Path.{◌∙◌, refl, sym}
 use mathlib.Core.List.{List}
@@ -7,7 +8,6 @@ use Rattle.std.proofs.lemmas.Grind.{get_or_default_zero}
 use Rattle.std.proofs.lemmas.List.Sorted.{Contains-permutation, IsPermutation-sym, length_permutation}
 use Rattle.std.specs.List.{Contains}
 use Rattle.std.specs.List.Sorted.{IsPermutation}
-use Rattle.fields.specs.declared.again.Again.{Again}
 use Rattle.fields.specs.inner.Again.{In, Repeats, FirstIn, nowhere, at}
 use Rattle.fields.specs.Names.{HasName}
 use Rattle.fields.specs.inner.Order.{AllNamed, SameEntries}
@@ -27,7 +27,7 @@ module _ (nm : ℕ → List ℕ) (es fs : List ℕ) (s : SameEntries es fs) wher
   repeats_left j r = record { is_one = s.none_lost j r.is_one; former = r.former; also = s.none_lost r.former r.also; before = r.before; alike = r.alike }
 
   -- the first that repeats is the same
-  pub first_before : {a : Again} → FirstIn nm fs a → FirstIn nm es a
+  pub first_before : {a : Option ℕ} → FirstIn nm fs a → FirstIn nm es a
   first_before (nowhere f) = nowhere (λ j r. f j (repeats_left j r))
   first_before (at j r l) = at j (repeats_before j r) (λ i q. l i (repeats_left i q))
 

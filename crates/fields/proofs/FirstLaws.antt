@@ -1,4 +1,5 @@
 -- The first field that repeats: there is one only, and it is found pair by pair, or among neighbours of a list in order. Assumes nothing.
+use Rattle.std.proofs.Common.{None}
 use Prim.Native.Nat.{ℕ, zero, suc, ◌+◌, ◌-◌, ◌<◌, ◌≤◌}
 use native.Mathlib.Omega.{arith}
 use mathlib.Core.Path.{◌∙◌, ◌≡◌, ap, ap₂, refl, subst, sym}
@@ -12,8 +13,6 @@ use borrow.Author.Tests.{ltb-true, ltb-false}
 use Rattle.text.proofs.Choices.{cond_cases, either, lt_or_le}
 use Rattle.fields.proofs.SameLaws.{same_is, same_not}
 use Rattle.fields.proofs.OrderLaws.{Less, before_less, less_trans, less_between, less_alike}
-use Rattle.fields.specs.declared.again.Again.{Again}
-use Rattle.fields.specs.declared.again.Again.TheVariants.{Nowhere, At}
 use Rattle.fields.specs.inner.Again.{earlier, In, Repeats, FirstIn, nowhere, at}
 use Rattle.fields.specs.Fields.{same}
 use Rattle.std.specs.declared.option.Option.{Option}
@@ -22,45 +21,45 @@ use Rattle.fields.specs.inner.Order.{comes_before, paired_of, Tells, told}
 
 -- ---- there is one first
 
-pub first_unique : (nm : ℕ → List ℕ) (es : List ℕ) (a b : Again) → FirstIn nm es a → FirstIn nm es b → a ≡ b
+pub first_unique : (nm : ℕ → List ℕ) (es : List ℕ) (a b : Option ℕ) → FirstIn nm es a → FirstIn nm es b → a ≡ b
 first_unique nm es a b (nowhere f) (nowhere g) = refl
 first_unique nm es a b (nowhere f) (at j r l) = absurd (f j r)
 first_unique nm es a b (at j r l) (nowhere f) = absurd (f j r)
-first_unique nm es a b (at j r l) (at i s m) = let z : j ≡ i = omega (arith, l i s, m j r) in ap At z
+first_unique nm es a b (at j r l) (at i s m) = let z : j ≡ i = omega (arith, l i s, m j r) in ap Some z
 
 -- what a look tells is it
-pub told_first : (nm : ℕ → List ℕ) (es : List ℕ) (r : Option Again) (a : Again) → r ≡ Some a → Tells nm es r → FirstIn nm es a
+pub told_first : (nm : ℕ → List ℕ) (es : List ℕ) (r : Option (Option ℕ)) (a : Option ℕ) → r ≡ Some a → Tells nm es r → FirstIn nm es a
 told_first nm es r a e t = out (subst (Tells nm es) e t)
   where
-    out : {b : Again} → Tells nm es (Some b) → FirstIn nm es b
+    out : {b : Option ℕ} → Tells nm es (Some b) → FirstIn nm es b
     out (told f) = f
 
 -- ---- the least of some numbers
 
-pub data Least (P : ℕ → Type 0) : Again → Type 0 where
-  none : ((j : ℕ) → P j → ⊥) → Least P Nowhere
-  some : (j : ℕ) → P j → ((i : ℕ) → P i → j ≤ i) → Least P (At j)
+pub data Least (P : ℕ → Type 0) : Option ℕ → Type 0 where
+  none : ((j : ℕ) → P j → ⊥) → Least P None
+  some : (j : ℕ) → P j → ((i : ℕ) → P i → j ≤ i) → Least P (Some j)
 
 module _ (nm : ℕ → List ℕ) (es : List ℕ) where
-  pub first_least : {a : Again} → FirstIn nm es a → Least (Repeats nm es) a
+  pub first_least : {a : Option ℕ} → FirstIn nm es a → Least (Repeats nm es) a
   first_least (nowhere f) = none f
   first_least (at j r l) = some j r l
 
-  pub least_first : {a : Again} → Least (Repeats nm es) a → FirstIn nm es a
+  pub least_first : {a : Option ℕ} → Least (Repeats nm es) a → FirstIn nm es a
   least_first (none f) = nowhere f
   least_first (some j r l) = at j r l
 
 module _ (P Q : ℕ → Type 0) where
   -- of the same numbers
-  pub least_same : {a : Again} → ((j : ℕ) → P j → Q j) → ((j : ℕ) → Q j → P j) → Least P a → Least Q a
+  pub least_same : {a : Option ℕ} → ((j : ℕ) → P j → Q j) → ((j : ℕ) → Q j → P j) → Least P a → Least Q a
   least_same f g (none n) = none (λ j q. n j (g j q))
   least_same f g (some j p l) = some j (f j p) (λ i q. l i (g i q))
 
   -- of one more number
-  pub least_with : {a : Again} (x : ℕ) → Least P a → Q x → ((j : ℕ) → P j → Q j) → ((j : ℕ) → Q j → P j ⊎ (j ≡ x)) → Least Q (earlier a (At x))
+  pub least_with : {a : Option ℕ} (x : ℕ) → Least P a → Q x → ((j : ℕ) → P j → Q j) → ((j : ℕ) → Q j → P j ⊎ (j ≡ x)) → Least Q (earlier a (Some x))
   least_with x (none n) q f g = some x q (λ i r. either (g i r) (λ p. absurd (n i p)) (λ e. omega arith))
   least_with x (some k p l) q f g =
-      cond_cases (Least Q) (ltb x k) (At x) (At k)
+      cond_cases (Least Q) (ltb x k) (Some x) (Some k)
       (λ t. some x q (λ i r. either (g i r) (λ o. omega (arith, l i o, ltb-true x k t)) (λ e. omega arith)))
       (λ t. some k (f k p) (λ i r. either (g i r) (λ o. l i o) (λ e. omega (arith, ltb-false x k t))))
 
@@ -100,7 +99,7 @@ module _ (nm : ℕ → List ℕ) (es : List ℕ) where
   abbrev pub Part : ℕ → ℕ → ℕ → Type 0
   Part p q j = Repeats nm (take p es) j ⊎ With p q j
 
-  pub part_start : (p : ℕ) (a : Again) → FirstIn nm (take p es) a → Least (Part p 0) a
+  pub part_start : (p : ℕ) (a : Option ℕ) → FirstIn nm (take p es) a → Least (Part p 0) a
   part_start p a f =
       least_same (Repeats nm (take p es)) (Part p 0) (λ j r. inl r) (λ j r. either r (λ s. s) (λ (w : With p 0 j). absurd (none_before w))) (first_least nm (take p es) f)
     where
@@ -120,16 +119,16 @@ module _ (nm : ℕ → List ℕ) (es : List ℕ) where
       (λ b. inl (inr (record { place = w.place; before = b; alike = w.alike; which = w.which })))
       (λ b. let z : w.place ≡ q = omega (arith, w.before) in inr (rw z at w.alike, rw z at w.which))
 
-  pub turn_other : (p q : ℕ) (a : Again) → same (nm (get_or es q 0)) (nm (get_or es p 0)) ≡ false → Least (Part p q) a → Least (Part p (q + 1)) a
+  pub turn_other : (p q : ℕ) (a : Option ℕ) → same (nm (get_or es q 0)) (nm (get_or es p 0)) ≡ false → Least (Part p q) a → Least (Part p (q + 1)) a
   turn_other p q a e f = least_same (Part p q) (Part p (q + 1)) (with_on p q) (λ j r. either (with_new p q j r) (λ s. s) (λ s. absurd (same_not _ _ e s.0))) f
 
-  pub turn_same : (p q : ℕ) (a : Again) → same (nm (get_or es q 0)) (nm (get_or es p 0)) ≡ true → Least (Part p q) a → Least (Part p (q + 1)) (paired_of a (get_or es q 0) (get_or es p 0))
+  pub turn_same : (p q : ℕ) (a : Option ℕ) → same (nm (get_or es q 0)) (nm (get_or es p 0)) ≡ true → Least (Part p q) a → Least (Part p (q + 1)) (paired_of a (get_or es q 0) (get_or es p 0))
   unfolding paired_of
   turn_same p q a e f =
-      cond_cases (Least (Part p (q + 1))) (ltb (l q) (l p)) (earlier a (At (l p))) _
+      cond_cases (Least (Part p (q + 1))) (ltb (l q) (l p)) (earlier a (Some (l p))) _
       (λ t. least_with (Part p q) (Part p (q + 1)) (l p) f (new (l p) (inl (ltb-true _ _ t, refl))) (with_on p q)
       (λ j r. either (with_new p q j r) inl (λ s. either s.1 (λ u. inr (sym u.1)) (λ u. absurd (off j (ltb-true _ _ t) u)))))
-      (λ t. cond_cases (Least (Part p (q + 1))) (ltb (l p) (l q)) (earlier a (At (l q))) a
+      (λ t. cond_cases (Least (Part p (q + 1))) (ltb (l p) (l q)) (earlier a (Some (l q))) a
       (λ u. least_with (Part p q) (Part p (q + 1)) (l q) f (new (l q) (inr (ltb-true _ _ u, refl))) (with_on p q)
       (λ j r. either (with_new p q j r) inl (λ s. either s.1 (λ v. absurd (off2 j (ltb-true _ _ u) v)) (λ v. inr (sym v.1)))))
       (λ u. least_same (Part p q) (Part p (q + 1)) (with_on p q)
@@ -223,11 +222,11 @@ module _ (nm : ℕ → List ℕ) (es : List ℕ) where
         both : l p ≡ j → l p ≡ r.former → ⊥
         both e f = omega (arith, r.before)
 
-    pub part_done : (a : Again) → Least (Part p p) a → FirstIn nm (take (p + 1) es) a
+    pub part_done : (a : Option ℕ) → Least (Part p p) a → FirstIn nm (take (p + 1) es) a
     part_done a f = least_first nm (take (p + 1) es) (least_same (Part p p) (Repeats nm (take (p + 1) es)) part_all all_part f)
 
   -- none of the first 0 places repeats
-  pub first_start : FirstIn nm (take 0 es) Nowhere
+  pub first_start : FirstIn nm (take 0 es) None
   first_start = nowhere (λ j r. none_in r.is_one)
     where
       none_in : {j : ℕ} → In j (take 0 es) → ⊥
@@ -237,7 +236,7 @@ module _ (nm : ℕ → List ℕ) (es : List ℕ) where
   abbrev pub Apart : ℕ → Type 0
   Apart p = (i k : ℕ) → i < k → k < p → nm (get_or es i 0) ≡ nm (get_or es k 0) → ⊥
 
-  pub apart_nowhere : (p : ℕ) → length es ≤ p → Apart p → FirstIn nm es Nowhere
+  pub apart_nowhere : (p : ℕ) → length es ≤ p → Apart p → FirstIn nm es None
   apart_nowhere p h f = nowhere (λ j r. never j r)
     where
       never : (j : ℕ) → Repeats nm es j → ⊥
@@ -273,7 +272,7 @@ module _ (nm : ℕ → List ℕ) (es : List ℕ) where
       not_yet : k + 1 < 1 → ⊥
       not_yet g = omega arith
 
-  pub near_start : Least (Near 1) Nowhere
+  pub near_start : Least (Near 1) None
   near_start = none (λ j n. never n)
     where
       never : {j : ℕ} → Near 1 j → ⊥
@@ -301,10 +300,10 @@ module _ (nm : ℕ → List ℕ) (es : List ℕ) where
         let z : n.place + 1 ≡ p = omega (arith, n.before) in
         inr (ap (λ (u : ℕ). nm (l u)) (sym y) ∙ n.alike ∙ ap (λ (u : ℕ). nm (l u)) z, sym n.there ∙ ap l z))
 
-    pub near_other : (a : Again) → same (nm (get_or es (p - 1) 0)) (nm (get_or es p 0)) ≡ false → Least (Near p) a → Least (Near (p + 1)) a
+    pub near_other : (a : Option ℕ) → same (nm (get_or es (p - 1) 0)) (nm (get_or es p 0)) ≡ false → Least (Near p) a → Least (Near (p + 1)) a
     near_other a e f = least_same (Near p) (Near (p + 1)) near_on (λ j n. either (near_new j n) (λ s. s) (λ s. absurd (same_not _ _ e s.0))) f
 
-    pub near_same : (a : Again) → same (nm (get_or es (p - 1) 0)) (nm (get_or es p 0)) ≡ true → Least (Near p) a → Least (Near (p + 1)) (earlier a (At (get_or es p 0)))
+    pub near_same : (a : Option ℕ) → same (nm (get_or es (p - 1) 0)) (nm (get_or es p 0)) ≡ true → Least (Near p) a → Least (Near (p + 1)) (earlier a (Some (get_or es p 0)))
     near_same a e f = least_with (Near p) (Near (p + 1)) (l p) f here near_on (λ j n. either (near_new j n) inl (λ s. inr s.1))
       where
         y : p - 1 + 1 ≡ p
@@ -374,5 +373,5 @@ module _ (nm : ℕ → List ℕ) (es : List ℕ) where
         less : (i k : ℕ) → l i ≡ r.former → l k ≡ j → l i < l k
         less i k x y = omega (arith, r.before)
 
-    pub near_done : (a : Again) → Least (Near p) a → FirstIn nm es a
+    pub near_done : (a : Option ℕ) → Least (Near p) a → FirstIn nm es a
     near_done a g = least_first nm es (least_same (Near p) (Repeats nm es) near_repeats repeats_near g)

@@ -1,4 +1,5 @@
 -- The fields of a tree in entry order: none of the first n is named again exactly where the first that is stands behind them. Assumes nothing.
+use Rattle.std.proofs.Common.{Some, None, Option}
 use Prim.Native.Nat.{ℕ, ◌+◌, ◌<◌, ◌≤◌}
 use native.Mathlib.Omega.{arith}
 use mathlib.Core.Path.{◌≡◌, refl}
@@ -9,8 +10,6 @@ use Rattle.grammar.specs.Links.{behind, behind_round, behind_items, behind_pairs
 use Rattle.fields.specs.Apart.{New}
 use Rattle.fields.specs.Fields.{is_named}
 use Rattle.text.proofs.Choices.{either, lt_or_le}
-use Rattle.fields.specs.declared.again.Again.{Again}
-use Rattle.fields.specs.declared.again.Again.TheVariants.{Nowhere, At}
 use Rattle.fields.proofs.AgainOn.{not_at, same_at}
 use Rattle.fields.proofs.NewNames.{not_named_new, new_not_named}
 
@@ -107,9 +106,9 @@ mutual
 
 module _ (nm : ℕ → List ℕ) where
   -- the first that is named again
-  abbrev pub first : Judged → Again
-  first end = Nowhere
-  first (field i es k) = cond (is_named nm i es) (At i) (first k)
+  abbrev pub first : Judged → Option ℕ
+  first end = None
+  first (field i es k) = cond (is_named nm i es) (Some i) (first k)
 
   module _ (n : ℕ) where
     -- none of the first n entries is
@@ -123,21 +122,21 @@ module _ (nm : ℕ → List ℕ) where
     beyond i (field j es k) le h = let q : i ≤ j = h.0 in ((λ lt. absurd (omega arith)), beyond j k (omega arith) h.1)
 
     -- one field in front of others: where it is the answer, it stands behind the first n
-    one_first : (t : Bool) (i j : ℕ) (x : Again) → (t ≡ true → i < n → ⊥) → (x ≡ At j → n ≤ j) → cond t (At i) x ≡ At j → n ≤ j
+    one_first : (t : Bool) (i j : ℕ) (x : Option ℕ) → (t ≡ true → i < n → ⊥) → (x ≡ Some j → n ≤ j) → ◌≡◌ {A = Option ℕ} (cond t (Some i) x) (Some j) → n ≤ j
     one_first true i j x shut rest e = let q : i ≡ j = same_at i j e in either (lt_or_le i n) (λ lt. absurd (shut refl lt)) (λ le. omega arith)
     one_first false i j x shut rest e = rest e
 
     -- where none of the first n is named again, the first that is stands behind them
-    pub new_first : (k : Judged) (j : ℕ) → AllNew k → first k ≡ At j → n ≤ j
+    pub new_first : (k : Judged) (j : ℕ) → AllNew k → first k ≡ Some j → n ≤ j
     new_first end j h e = not_at j e
     new_first (field i es k) j h e = one_first (is_named nm i es) i j (first k) (λ q lt. new_not_named nm i es (h.0 lt) q) (λ z. new_first k j h.1 z) e
 
-    one_new : (t : Bool) (i : ℕ) (es : List ℕ) (k : Judged) → is_named nm i es ≡ t → From i k → ((j : ℕ) → cond t (At i) (first k) ≡ At j → n ≤ j)
-        → (((j : ℕ) → first k ≡ At j → n ≤ j) → AllNew k) → AllNew (field i es k)
+    one_new : (t : Bool) (i : ℕ) (es : List ℕ) (k : Judged) → is_named nm i es ≡ t → From i k → ((j : ℕ) → ◌≡◌ {A = Option ℕ} (cond t (Some i) (first k)) (Some j) → n ≤ j)
+        → (((j : ℕ) → first k ≡ Some j → n ≤ j) → AllNew k) → AllNew (field i es k)
     one_new true i es k q f h rest = let le : n ≤ i = h i refl in ((λ lt. absurd (omega arith)), beyond i k le f)
     one_new false i es k q f h rest = ((λ lt. not_named_new nm i es q), rest h)
 
     -- and where it does, none of them is
-    pub first_new : (i : ℕ) (k : Judged) → From i k → ((j : ℕ) → first k ≡ At j → n ≤ j) → AllNew k
+    pub first_new : (i : ℕ) (k : Judged) → From i k → ((j : ℕ) → first k ≡ Some j → n ≤ j) → AllNew k
     first_new i end f h = tt
     first_new i (field m es k) f h = one_new (is_named nm m es) m es k refl f.1 h (λ z. first_new m k f.1 z)

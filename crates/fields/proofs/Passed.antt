@@ -1,4 +1,6 @@
 -- The grammar's walk passes an entry exactly where a document within the limit begins with the entries up to it. Assumes nothing.
+use Rattle.std.proofs.Common.{Err}
+use Rattle.text.specs.Refusals.{Told}
 use Prim.Native.Nat.{ℕ, suc, ◌+◌, ◌<◌}
 use native.Mathlib.Omega.{arith}
 use mathlib.Core.Path.{◌≡◌, sym, ap, ◌∙◌, subst}
@@ -9,8 +11,6 @@ use Rattle.grammar.specs.Grammar.{Document}
 use Rattle.grammar.specs.Refused.{Begins, Split, up_to}
 use Rattle.grammar.specs.Walk.{check, walk_of}
 use Rattle.grammar.specs.declared.kinds.Kind.{Kind}
-use Rattle.grammar.specs.declared.ends.Verdict.{Verdict}
-use Rattle.grammar.specs.declared.ends.Verdict.TheVariants.{Refused}
 use Rattle.grammar.specs.declared.states.Frame.TheVariants.{Top}
 use Rattle.grammar.specs.declared.states.Want.TheVariants.{Start}
 use Rattle.grammar.proofs.Accepts.{accepts, not_refused}
@@ -36,7 +36,7 @@ module _ (ks : List Kind) (limit j : ℕ) (at : Split ks j) where
   pub passed_begins : Passes j (walk_of ks limit) → Begins limit (up_to at)
   passed_begins h = go (walk_of ks limit) (answer limit ks) h
     where
-      go : (w : Verdict) → Outcome limit Start Top [] (λ k. k) ks 0 w → Passes j w → Begins limit (up_to at)
+      go : (w : Told Unit) → Outcome limit Start Top [] (λ k. k) ks 0 w → Passes j w → Begins limit (up_to at)
       go w (whole d q) h = (at.after, subst (λ (x : List Kind). Document limit x) (split_up at) d)
       go w (wrong p k b i x e v q) h = up_before p k b x (omega arith) v
       go w (deep p k b i x e v q L le y) h = up_before p k b x (omega arith) v
@@ -44,7 +44,7 @@ module _ (ks : List Kind) (limit j : ℕ) (at : Split ks j) where
 
   -- a walk that stops at a place whatever follows stops at none up to j, where a document begins with the entries up to j
   not_there : (p : List Kind) (k : Kind) (b : List Kind) (n i : ℕ) → ks ≡ p ++ k ∷ b → Begins limit (up_to at)
-      → ((r : List Kind) → check (p ++ k ∷ r) limit Start Top [] 0 ≡ Refused (refusal n i)) → j < length p
+      → ((r : List Kind) → check (p ++ k ∷ r) limit Start Top [] 0 ≡ Err (refusal n i)) → j < length p
   not_there p k b n i x v q = by (compared p k b at.before at.there at.after (sym x ∙ at.split))
     where
       stops : (r : List Kind) → Document limit (p ++ k ∷ r) → j < length p
@@ -62,7 +62,7 @@ module _ (ks : List Kind) (limit j : ℕ) (at : Split ks j) where
   pub begins_passed : Begins limit (up_to at) → Passes j (walk_of ks limit)
   begins_passed v = go (walk_of ks limit) (answer limit ks)
     where
-      go : (w : Verdict) → Outcome limit Start Top [] (λ k. k) ks 0 w → Passes j w
+      go : (w : Told Unit) → Outcome limit Start Top [] (λ k. k) ks 0 w → Passes j w
       go w (whole d q) = tt
       go w (wrong p k b i x e u q) = let z : j < length p = not_there p k b 25 i x v (λ r. q limit (omega arith) r) in omega arith
       go w (deep p k b i x e u q L le y) = let z : j < length p = not_there p k b 24 i x v q in omega arith

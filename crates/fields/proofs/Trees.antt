@@ -1,4 +1,5 @@
 -- The walk over the entries of a tree finds the first of its fields that is named again. Assumes nothing.
+use Rattle.std.proofs.Common.{Some, Option}
 use Prim.Native.Nat.{ℕ, zero, suc, ◌+◌}
 use native.Mathlib.Omega.{arith}
 use mathlib.Core.Path.{◌≡◌, refl, ap, ◌∙◌}
@@ -12,8 +13,6 @@ use Rattle.grammar.specs.declared.states.Frame.{Frame}
 use Rattle.grammar.specs.declared.states.Frame.TheVariants.{Top, Square, Tuple, Struct, Key, Pair}
 use Rattle.grammar.specs.declared.states.Want.TheVariants.{Start, Must, Item, First, FirstName, Named, Behind, Field}
 use Rattle.fields.specs.Fields.{is_named, again_from, again_of}
-use Rattle.fields.specs.declared.again.Again.{Again}
-use Rattle.fields.specs.declared.again.Again.TheVariants.{At}
 use Rattle.fields.proofs.Judged.{Judged, end, judged, judged_round, judged_items, judged_pairs, judged_fields, first}
 
 -- what may follow a value
@@ -90,8 +89,8 @@ module _ (nm : ℕ → List ℕ) where
   first_must (called r) k e f σ τ i = refl
 
   -- a field's name is judged, and then what follows it
-  noticed : (i : ℕ) (es : List ℕ) (x y : Again) → x ≡ y → cond (is_named nm i es) (At i) x ≡ cond (is_named nm i es) (At i) y
-  noticed i es x y e = ap (λ (z : Again). cond (is_named nm i es) (At i) z) e
+  noticed : (i : ℕ) (es : List ℕ) (x y : Option ℕ) → x ≡ y → cond (is_named nm i es) (Some i) x ≡ cond (is_named nm i es) (Some i) y
+  noticed i es x y e = ap (λ (z : Option ℕ). cond (is_named nm i es) (Some i) z) e
 
   mutual
     unfolding again_from is_named

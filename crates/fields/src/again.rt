@@ -1,31 +1,24 @@
 // The first of some fields whose name one before it has: of up to 16 each is compared with each, more are sorted, and then neighbours are compared.
+ghost use Rattle.std.specs.Prelude.{None};
 ghost use Rattle.std.specs.Prelude.{◌≡◌, true, ◌+◌, ◌*◌, ◌≤◌, ◌<◌, length, take};
 ghost use Rattle.fields.specs.Names.{name_at, HasName};
 ghost use Rattle.fields.specs.inner.Again.{FirstIn};
 ghost use Rattle.fields.specs.inner.Again.{earlier as earlierOf};
-ghost use Rattle.fields.specs.declared.again.Again.TheVariants.{Nowhere};
 ghost use Rattle.fields.specs.inner.Order.{comes_before, slot_of, paired_of, AllNamed, SameEntries, Tells};
 
 use crate::comparing::{compare, same_name};
 use crate::names::{name_from, name_if_any};
 use rows::row;
 
-// The entry that names a field again, or none.
-#[derive(Clone, Copy)]
-pub enum Again {
-    Nowhere,
-    At(usize),
-}
-
 // The earlier of two.
-pub fn earlier(a: Again, b: Again) -> Again
+pub fn earlier(a: Option<usize>, b: Option<usize>) -> Option<usize>
     ensures { result ≡ earlierOf a b }
 {
     match a {
-        Again::Nowhere => b,
-        Again::At(i) => match b {
-            Again::Nowhere => a,
-            Again::At(j) => {
+        None => b,
+        Some(i) => match b {
+            None => a,
+            Some(j) => {
                 if j < i {
                     return b;
                 }
@@ -36,14 +29,14 @@ pub fn earlier(a: Again, b: Again) -> Again
 }
 
 // Two fields of one name: the later repeats the other, unless they are one and the same.
-fn paired(found: Again, x: u16, y: u16) -> Again
+fn paired(found: Option<usize>, x: u16, y: u16) -> Option<usize>
     ensures { result ≡ paired_of found x y }
 {
     if x < y {
-        return earlier(found, Again::At(y as usize));
+        return earlier(found, Some(y as usize));
     }
     if y < x {
-        return earlier(found, Again::At(x as usize));
+        return earlier(found, Some(x as usize));
     }
     found
 }
@@ -65,7 +58,7 @@ fn slot(text: &[u8], tape: &[u32], x: u16) -> usize
 // Whether no two fields share a slot, so that no name comes again: most records are told at once.
 fn apart_at_once(text: &[u8], tape: &[u32], fields: &[u16]) -> bool
     requires { AllNamed text.now tape.now fields.now }
-    ensures { result ≡ true → FirstIn (name_at text.now tape.now) fields.now Nowhere }
+    ensures { result ≡ true → FirstIn (name_at text.now tape.now) fields.now None }
 {
     let mut taken = [false; 128];
     for p in 0..fields.len() {
@@ -79,7 +72,13 @@ fn apart_at_once(text: &[u8], tape: &[u32], fields: &[u16]) -> bool
 }
 
 // The field at place p against each before it.
-fn against(text: &[u8], tape: &[u32], fields: &[u16], p: usize, known: Again) -> Again
+fn against(
+    text: &[u8],
+    tape: &[u32],
+    fields: &[u16],
+    p: usize,
+    known: Option<usize>,
+) -> Option<usize>
     requires { (p < length fields.now) × AllNamed text.now tape.now fields.now
         × FirstIn (name_at text.now tape.now) (take p fields.now) known }
     ensures { FirstIn (name_at text.now tape.now) (take (p + 1) fields.now) result }
@@ -96,11 +95,11 @@ fn against(text: &[u8], tape: &[u32], fields: &[u16], p: usize, known: Again) ->
 }
 
 // Each against each, however many and in whatever order.
-fn each(text: &[u8], tape: &[u32], fields: &[u16]) -> Again
+fn each(text: &[u8], tape: &[u32], fields: &[u16]) -> Option<usize>
     requires { AllNamed text.now tape.now fields.now }
     ensures { FirstIn (name_at text.now tape.now) fields.now result }
 {
-    let mut found = Again::Nowhere;
+    let mut found = None;
     for p in 0..fields.len() {
         found = against(text, tape, fields, p, found);
     }
@@ -108,12 +107,12 @@ fn each(text: &[u8], tape: &[u32], fields: &[u16]) -> Again
 }
 
 // Up to 16 fields.
-fn few(text: &[u8], tape: &[u32], fields: &[u16]) -> Again
+fn few(text: &[u8], tape: &[u32], fields: &[u16]) -> Option<usize>
     requires { AllNamed text.now tape.now fields.now }
     ensures { FirstIn (name_at text.now tape.now) fields.now result }
 {
     if apart_at_once(text, tape, fields) {
-        return Again::Nowhere;
+        return None;
     }
     each(text, tape, fields)
 }
@@ -136,11 +135,11 @@ fn sort(text: &[u8], tape: &[u32], fields: &mut [u16])
 }
 
 // Of sorted fields those of one name are neighbours; none where the fields were not sorted.
-fn neighbours(text: &[u8], tape: &[u32], fields: &[u16]) -> Option<Again>
+fn neighbours(text: &[u8], tape: &[u32], fields: &[u16]) -> Option<Option<usize>>
     requires { AllNamed text.now tape.now fields.now }
     ensures { Tells (name_at text.now tape.now) fields.now result }
 {
-    let mut found = Again::Nowhere;
+    let mut found = None;
     for p in 1..fields.len() {
         let x = fields[p - 1];
         let y = fields[p];
@@ -148,14 +147,14 @@ fn neighbours(text: &[u8], tape: &[u32], fields: &[u16]) -> Option<Again>
             return None;
         }
         if same_name(text, tape, x, y) {
-            found = earlier(found, Again::At(y as usize));
+            found = earlier(found, Some(y as usize));
         }
     }
     Some(found)
 }
 
 // The first of the fields that repeats one; they are left in another order.
-pub fn first_again(text: &[u8], tape: &[u32], fields: &mut [u16]) -> Again
+pub fn first_again(text: &[u8], tape: &[u32], fields: &mut [u16]) -> Option<usize>
     requires { (length fields.old ≤ 32768) × AllNamed text.now tape.now fields.old }
     ensures first { FirstIn (name_at text.now tape.now) fields.old result }
     ensures left { SameEntries fields.old fields.new }

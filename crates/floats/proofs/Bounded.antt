@@ -1,4 +1,7 @@
 -- A float is not empty and ends within its part, and a refusal's place lies within the part. Assumes nothing.
+use Rattle.std.proofs.Common.{Ok, Err}
+use Rattle.text.specs.Refusals.{Told}
+use Rattle.floats.specs.declared.float.FloatSpan.{FloatSpan}
 use Prim.Native.Nat.{◌+◌, ◌<◌, ◌≤◌, suc, zero, ℕ}
 use native.Mathlib.Omega.{arith}
 use mathlib.Core.Bool.{Bool, ◌&&◌, false, true}
@@ -13,8 +16,6 @@ use Rattle.floats.specs.Classes.{float_run}
 use Rattle.floats.specs.Float.{behind_float, float_of, float_suffixes, float_to, run_at, signed_or, specials, with_float_suffix}
 use Rattle.floats.specs.Grammar.{accepts}
 use Rattle.floats.specs.Judged.{float_judged, may_follow, misplaced, stripped, well_to}
-use Rattle.floats.specs.declared.float.AnyFloat.{AnyFloat}
-use Rattle.floats.specs.declared.float.AnyFloat.TheVariants.{Read, Refused}
 use Rattle.floats.specs.declared.judge.Judged.{Judged}
 use Rattle.floats.specs.declared.judge.Judged.TheVariants.{Misplaced, Fine, Unfit}
 use Rattle.floats.specs.declared.state.State.TheVariants.{Start}
@@ -26,9 +27,9 @@ use Rattle.integers.specs.declared.ident.Found.{Found}
 use Rattle.text.proofs.Choices.{and_true, bool_cases, either}
 use Rattle.text.proofs.Lists.{front}
 
-abbrev pub FloatBounded : ℕ → AnyFloat → Type 0
-FloatBounded n (Read f) = (0 < f.len) × (f.len ≤ n) × (f.suffix ≤ 64)
-FloatBounded n (Refused r) = r.place ≤ n
+abbrev pub FloatBounded : ℕ → Told FloatSpan → Type 0
+FloatBounded n (Ok f) = (0 < f.len) × (f.len ≤ n) × (f.suffix ≤ 64)
+FloatBounded n (Err r) = r.place ≤ n
 
 well_le : (s : List ℕ) (may : Bool) → well_to s may ≤ length s
 unfolding well_to
@@ -82,7 +83,7 @@ run_bounded s =
     (omega (arith, first_le float_suffixes (drop n s), length-drop n s, length-take-le n s (float_run_le s), float_run_le s))
     (first_says 64 float_suffixes refl (drop n s))
 
-signed_bounded : (front : ℕ) (l : Found) (other : AnyFloat) (n : ℕ) → l.code ≤ 64 → front + l.end ≤ n → FloatBounded n other → FloatBounded n (signed_or front l other)
+signed_bounded : (front : ℕ) (l : Found) (other : Told FloatSpan) (n : ℕ) → l.code ≤ 64 → front + l.end ≤ n → FloatBounded n other → FloatBounded n (signed_or front l other)
 signed_bounded zero l other n w h o = o
 signed_bounded (suc front) l other n w h o =
     either (bool_cases (eqb (suc front) 0)) (λ a. rw a o) λ a.

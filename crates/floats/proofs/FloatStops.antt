@@ -1,4 +1,7 @@
 -- Nothing behind a byte outside of the raw name's class changes what a float reads as, refusals included. Assumes nothing.
+use Rattle.std.proofs.Common.{Err}
+use Rattle.text.specs.Refusals.{Told}
+use Rattle.floats.specs.declared.float.FloatSpan.{FloatSpan}
 use Prim.Native.Nat.{◌+◌, ◌≤◌, ℕ}
 use native.Mathlib.Omega.{arith}
 use mathlib.Core.Bool.{cond, false, true}
@@ -10,8 +13,6 @@ use borrow.Author.Tests.{ne_eqb}
 use Rattle.floats.specs.Classes.{float_goes, float_run}
 use Rattle.floats.specs.Float.{behind_float, float_of, float_suffixes, run_at, signed_or, specials}
 use Rattle.floats.specs.Judged.{float_judged}
-use Rattle.floats.specs.declared.float.AnyFloat.{AnyFloat}
-use Rattle.floats.specs.declared.float.AnyFloat.TheVariants.{Refused}
 use Rattle.integers.proofs.IntegerStops.{Outside, out_digit, out_next, out_letter, out_underscore, out_sign, sign_reach}
 use Rattle.integers.proofs.WordStops.{first_stopped}
 use Rattle.integers.specs.Front.{sign_of}
@@ -54,7 +55,7 @@ module _ (c : ℕ) (o : Outside c) where
   run_stopped : Stopped c run_at
   unfolding run_at
   run_stopped =
-      on₂ (λ (p : List ℕ) (f : Found). cond (eqb (length p) 0) (Refused (expected_float 0)) (behind_float f.code (length p + f.end) (float_judged p)))
+      on₂ (λ (p : List ℕ) (f : Found). cond (eqb (length p) 0) (Err (expected_float 0)) (behind_float f.code (length p + f.end) (float_judged p)))
       (part float_reach) (behind float_reach suffix_stopped)
 
   -- inf and NaN at the front
@@ -63,4 +64,4 @@ module _ (c : ℕ) (o : Outside c) where
 
   pub float_stopped : Stopped c float_of
   unfolding float_of
-  float_stopped = on₂ (λ (f : AnyFloat → AnyFloat) (r : AnyFloat). f r) special_both run_stopped
+  float_stopped = on₂ (λ (f : Told FloatSpan → Told FloatSpan) (r : Told FloatSpan). f r) special_both run_stopped

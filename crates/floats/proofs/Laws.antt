@@ -1,4 +1,5 @@
 -- Laws of floats at a place, as the loop asks for them, and of what the parts that the code has in hand make up. Assumes nothing.
+use Rattle.std.proofs.Common.{Err}
 use Prim.Native.Nat.{◌+◌, ◌<◌, ◌≤◌, ℕ}
 use native.Mathlib.Omega.{arith}
 use mathlib.Core.Bool.{Bool, false, true}
@@ -12,7 +13,6 @@ use Rattle.floats.specs.Classes.{float_goes, float_run}
 use Rattle.floats.specs.Float.{behind_float, float_of, float_suffixes, float_to, run_at, specials}
 use Rattle.floats.specs.Grammar.{accepts, final}
 use Rattle.floats.specs.Judged.{advance_of, float_judged, may_follow, misplaced, stripped, well_to}
-use Rattle.floats.specs.declared.float.AnyFloat.TheVariants.{Refused}
 use Rattle.floats.specs.declared.judge.Judged.{Judged}
 use Rattle.floats.specs.declared.judge.Judged.TheVariants.{Misplaced, Fine, Unfit}
 use Rattle.floats.specs.declared.state.State.{State}
@@ -66,7 +66,7 @@ judged_unfit s h e = rw (le-ltb (well_to s false) (length s) h, e)
 pub float_run_le : (s : List ℕ) → float_run s ≤ length s
 float_run_le s = run2_le float_goes s
 
-pub run_none : (s : List ℕ) (n : ℕ) → n ≡ float_run s → n ≡ 0 → Refused (expected_float 0) ≡ run_at s
+pub run_none : (s : List ℕ) (n : ℕ) → n ≡ float_run s → n ≡ 0 → Err (expected_float 0) ≡ run_at s
 unfolding run_at
 run_none s n e z = rw (sym e ∙ z)
 

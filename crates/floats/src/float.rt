@@ -16,13 +16,6 @@ pub struct FloatSpan {
     pub suffix: u8,
 }
 
-// What a float reads as.
-#[derive(Clone, Copy)]
-pub enum AnyFloat {
-    Read(FloatSpan),
-    Refused(Refusal),
-}
-
 // f32 or f64 at the front of the part.
 fn float_suffix(t: &[u8]) -> Found
     ensures { result ≡ first_of float_suffixes t.now }
@@ -62,26 +55,26 @@ pub fn special(t: &[u8]) -> Found
 }
 
 // A run with its suffix: 12 before 11.
-fn behind_judged(judged: Judged, code: u8, end: usize) -> AnyFloat
+fn behind_judged(judged: Judged, code: u8, end: usize) -> Result<FloatSpan, Refusal>
     ensures { result ≡ behind_float code end judged }
 {
     match judged {
-        Judged::Misplaced(at) => AnyFloat::Refused(Refusal::float_underscore(at)),
-        Judged::Fine => AnyFloat::Read(FloatSpan {
+        Judged::Misplaced(at) => Err(Refusal::float_underscore(at)),
+        Judged::Fine => Ok(FloatSpan {
             len: end,
             suffix: code,
         }),
-        Judged::Unfit => AnyFloat::Refused(Refusal::expected_float(0)),
+        Judged::Unfit => Err(Refusal::expected_float(0)),
     }
 }
 
 // A float without inf and NaN.
-fn run_at(s: &[u8]) -> AnyFloat
+fn run_at(s: &[u8]) -> Result<FloatSpan, Refusal>
     ensures { result ≡ run_at s.now }
 {
     let n = float_run(s);
     if n == 0 {
-        return AnyFloat::Refused(Refusal::expected_float(0));
+        return Err(Refusal::expected_float(0));
     }
     let judged = judge_run(&s[..n]);
     let found = float_suffix(&s[n..]);
@@ -90,7 +83,7 @@ fn run_at(s: &[u8]) -> AnyFloat
 }
 
 // The float that the part begins with; inf and NaN are floats behind a sign only.
-pub fn float(s: &[u8]) -> AnyFloat
+pub fn float(s: &[u8]) -> Result<FloatSpan, Refusal>
     ensures { result ≡ float_of s.now }
 {
     let sign = sign_of(s);
@@ -103,7 +96,7 @@ pub fn float(s: &[u8]) -> AnyFloat
         return run_at(s);
     }
     let end = front + found.end;
-    AnyFloat::Read(FloatSpan {
+    Ok(FloatSpan {
         len: end,
         suffix: found.code,
     })

@@ -1,4 +1,5 @@
 -- A gap that is not the distance from the former entry's end, or from the text's start, is 23 (document 02, CR 6); in a tape in order each is. Assumes nothing.
+use Rattle.std.proofs.Common.{Ok, Err}
 use Prim.Native.Nat.{ℕ, ◌+◌, ◌<◌, ◌≤◌}
 use native.Mathlib.Omega.{arith}
 use mathlib.Core.Bool.{Bool, ◌&&◌, false, true}
@@ -9,8 +10,7 @@ use lib.Dec.{leb}
 use lib.ListN.{length}
 use Rattle.text.proofs.Choices.{and_false, bool_cases, either}
 use Rattle.text.specs.Judged.{judged_of}
-use Rattle.text.specs.Refusals.{not_in_order, refused}
-use Rattle.text.specs.declared.judge.Judged.TheVariants.{Fit}
+use Rattle.text.specs.Refusals.{not_in_order}
 use Rattle.rows.proofs.OrderLaws.{in_order_distance}
 use Rattle.rows.proofs.RowLaws.{entries_at, length_entries}
 use Rattle.rows.specs.Order.{former_end, in_order}
@@ -35,8 +35,8 @@ module _ (tape : List ℕ) (count k : ℕ) (below : k < count) where
   torn : (limit : ℕ) → (Distance → ⊥) → in_order (entries_of count tape) limit ≡ false
   torn limit off = either (bool_cases (in_order (entries_of count tape) limit)) (λ h. absurd (off (ordered_gap limit h))) (λ h. h)
 
-  pub walk_gap : (text : List ℕ) (limit links : ℕ) → judged_of text ≡ Fit → limit ≤ 128 → (former_end 0 (entries_of count tape) k + (entry_at tape k).gap ≡ (entry_at tape k).start → ⊥)
-      → walk_of text tape count limit links ≡ refused not_in_order
+  pub walk_gap : (text : List ℕ) (limit links : ℕ) → judged_of text ≡ Ok tt → limit ≤ 128 → (former_end 0 (entries_of count tape) k + (entry_at tape k).gap ≡ (entry_at tape k).start → ⊥)
+      → walk_of text tape count limit links ≡ Err not_in_order
   walk_gap text limit links fit h off = (walk_23 text tape count limit links).1 (fit, h, inr (inl (torn (length text) off)))
 
   torn_tape : (o a b n : ℕ) → (Distance → ⊥) → repair_fits tape count o a b n ≡ false
@@ -45,7 +45,7 @@ module _ (tape : List ℕ) (count k : ℕ) (below : k < count) where
       ap (λ (x : Bool). cut_fits o a b n && (leb count (room_of (length tape)) && x)) (torn o off)
       ∙ ap (λ (x : Bool). cut_fits o a b n && x) (and_false (leb count (room_of (length tape)))) ∙ and_false (cut_fits o a b n)
 
-  pub repair_gap : (o a b : ℕ) (text : List ℕ) → judged_of text ≡ Fit → (former_end 0 (entries_of count tape) k + (entry_at tape k).gap ≡ (entry_at tape k).start → ⊥)
-      → repair_of tape count o a b text ≡ refused not_in_order
+  pub repair_gap : (o a b : ℕ) (text : List ℕ) → judged_of text ≡ Ok tt → (former_end 0 (entries_of count tape) k + (entry_at tape k).gap ≡ (entry_at tape k).start → ⊥)
+      → repair_of tape count o a b text ≡ Err not_in_order
   unfolding repair_of repair_answer_of
   repair_gap o a b text fit off = rw (fit, torn_tape o a b (length text) off) refl

@@ -1,4 +1,6 @@
 -- `decoded` gives 22 exactly where a string stands that decodes to more bytes than the buffer has. Assumes nothing.
+use Rattle.std.proofs.Common.{Ok, Err}
+use Rattle.strings.specs.declared.literal.Literal.{Literal}
 use Prim.Native.Nat.{ℕ, ◌<◌}
 use native.Mathlib.Omega.{arith}
 use mathlib.Core.Bool.{Bool, cond}
@@ -9,17 +11,10 @@ use lib.Dec.{ltb}
 use lib.ListN.{drop}
 use borrow.Author.Tests.{lt-ltb, ltb-true}
 use Rattle.text.specs.Judged.{behind_judged, judged_of}
-use Rattle.text.specs.Refusals.{Told, accepted, no_room, refused}
-use Rattle.text.specs.declared.judge.Judged.{Judged}
-use Rattle.text.specs.declared.judge.Judged.TheVariants.{Fit}
+use Rattle.text.specs.Refusals.{Told, no_room}
 use Rattle.text.proofs.Choices.{cond_cases}
-use Rattle.strings.specs.declared.literal.LiteralAnswer.{LiteralAnswer}
-use Rattle.strings.specs.declared.literal.LiteralAnswer.TheVariants.{Read, Refused}
 use Rattle.entries.specs.Contents.{by_named, decoded_in}
 use Rattle.entries.specs.Named.{literal_decoded, literal_of, named_of}
-use Rattle.entries.specs.declared.named.Named.{Named}
-use Rattle.entries.specs.declared.named.Named.TheVariants.{At}
-use Rattle.entries.specs.declared.named.Named.TheVariants as named
 use Rattle.sarridok.specs.Contents.{decoded_answer}
 use Rattle.quoted.specs.Decoding.{Decodes}
 use Rattle.quoted.proofs.Decoded.{literal_reads, literal_stands}
@@ -35,10 +30,10 @@ module _ (text tape : List ℕ) (count entry room : ℕ) where
   abbrev TooLong : Type 0
   TooLong = (n : ℕ) × (room < n) × Decodes text tape count entry n n
 
-  by_literal : (bytes : Bool) (place : ℕ) (a : LiteralAnswer) → judged_of text ≡ Fit → named_of text tape count entry ≡ At bytes place → literal_of bytes (drop place text) ≡ a → Inner-literal a
-      → decoded_in place room a ≡ refused no_room → TooLong
-  by_literal bytes place (Read l) j m e i =
-      cond_cases (λ (x : Told ℕ). x ≡ refused no_room → TooLong) (ltb room l.decoded) _ _
+  by_literal : (bytes : Bool) (place : ℕ) (a : Told Literal) → judged_of text ≡ Ok tt → named_of text tape count entry ≡ Ok (bytes, place) → literal_of bytes (drop place text) ≡ a → Inner-literal a
+      → decoded_in place room a ≡ Err no_room → TooLong
+  by_literal bytes place (Ok l) j m e i =
+      cond_cases (λ (x : Told ℕ). x ≡ Err no_room → TooLong) (ltb room l.decoded) _ _
       (λ h f. let r = literal_stands bytes (drop place text) l e in (
         l.decoded,
         ltb-true room l.decoded h,
@@ -55,28 +50,28 @@ module _ (text tape : List ℕ) (count entry room : ℕ) where
         },
       ))
       (λ h f. let z : ◌≡◌ {A = ℕ} 0 22 = ap number_in f in absurd (omega arith))
-  by_literal bytes place (Refused r) j m e i = λ f. let z : r.number ≡ 22 = ap number_in f in absurd (omega (arith, (number-in 4 21 r i).1))
+  by_literal bytes place (Err r) j m e i = λ f. let z : r.number ≡ 22 = ap number_in f in absurd (omega (arith, (number-in 4 21 r i).1))
 
-  by-named : (x : Named) → judged_of text ≡ Fit → named_of text tape count entry ≡ x → Own-named x
-      → by_named x (λ bytes place. decoded_in place room (literal_of bytes (drop place text))) ≡ refused no_room → TooLong
-  by-named (At bytes place) j m o f = by_literal bytes place (literal_of bytes (drop place text)) j m refl (literal_inner bytes (drop place text)) f
-  by-named (named.Refused r) j m o f = let z : r.number ≡ 22 = ap number_in f in absurd (omega (arith, (number-in 23 28 r o).0))
+  by-named : (x : Told (Bool × ℕ)) → judged_of text ≡ Ok tt → named_of text tape count entry ≡ x → Own-named x
+      → by_named x (λ bytes place. decoded_in place room (literal_of bytes (drop place text))) ≡ Err no_room → TooLong
+  by-named (Ok (bytes, place)) j m o f = by_literal bytes place (literal_of bytes (drop place text)) j m refl (literal_inner bytes (drop place text)) f
+  by-named (Err r) j m o f = let z : r.number ≡ 22 = ap number_in f in absurd (omega (arith, (number-in 23 28 r o).0))
 
-  gives : decoded_answer text tape count entry room ≡ refused no_room → TooLong
+  gives : decoded_answer text tape count entry room ≡ Err no_room → TooLong
   gives e =
       let front = decoded_front text tape count entry room in
       let sound = (front.refuses no_room e).0 (omega arith) in
       by-named (named_of text tape count entry) ((fit_exactly text).1 sound) refl (named_own text tape count entry) (sym (front.past sound) ∙ e)
 
-  given : TooLong → decoded_answer text tape count entry room ≡ refused no_room
+  given : TooLong → decoded_answer text tape count entry room ≡ Err no_room
   unfolding decoded_answer
   given w =
       let x = w.2 in
       let r = literal_reads x.bytes (drop x.place text) x.decoded x.behind x.stands in
-      ap (λ (j : Judged). behind_judged j (by_named (named_of text tape count entry) (λ bytes place. decoded_in place room (literal_of bytes (drop place text))))) x.fit
-      ∙ ap (λ (m : Named). by_named m (λ bytes place. decoded_in place room (literal_of bytes (drop place text)))) x.named
+      ap (λ (j : Told Unit). behind_judged j (by_named (named_of text tape count entry) (λ bytes place. decoded_in place room (literal_of bytes (drop place text))))) x.fit
+      ∙ ap (λ (m : Told (Bool × ℕ)). by_named m (λ bytes place. decoded_in place room (literal_of bytes (drop place text)))) x.named
       ∙ ap (decoded_in x.place room) r.1
-      ∙ ap (λ (t : Bool). cond t (refused no_room) (accepted r.0.decoded)) (lt-ltb room r.0.decoded (omega (arith, w.1, r.3, x.long)))
+      ∙ ap (λ (t : Bool). cond t (Err no_room) (Ok r.0.decoded)) (lt-ltb room r.0.decoded (omega (arith, w.1, r.3, x.long)))
 
-  pub decoded_22 : (decoded_answer text tape count entry room ≡ refused no_room) ↔ ((n : ℕ) × (room < n) × Decodes text tape count entry n n)
+  pub decoded_22 : (decoded_answer text tape count entry room ≡ Err no_room) ↔ ((n : ℕ) × (room < n) × Decodes text tape count entry n n)
   decoded_22 = (gives, given)

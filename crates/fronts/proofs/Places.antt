@@ -1,4 +1,5 @@
 -- The calls at a place of a sound text: 28 exactly where the place is no boundary, or the cursor does not fit. Assumes nothing.
+use Rattle.std.proofs.Common.{Err}
 use Prim.Native.Nat.{ℕ, ◌≤◌}
 use native.Mathlib.Omega.{arith}
 use mathlib.Core.Bool.{Bool, cond, false, true, ◌&&◌, ◌||◌}
@@ -10,7 +11,7 @@ use lib.ListN.{drop}
 use borrow.Author.Tests.{eq-eqb, eqb-true, le-leb, leb-true}
 use Rattle.text.proofs.Choices.{and_true, either, or_cases, or_true}
 use Rattle.text.specs.Judged.{place_fits}
-use Rattle.text.specs.Refusals.{Told, refused, unfit}
+use Rattle.text.specs.Refusals.{Told, unfit}
 use Rattle.text.specs.Utf8.{Encoded}
 use Rattle.cursor.specs.Cursor.{unclosed_line}
 use Rattle.cursor.specs.Skip.{cursor_fits, length_fits, skip_ws_of}
@@ -20,8 +21,8 @@ use Rattle.structs.specs.Kinds.{placed_kind}
 use Rattle.structs.specs.Structs.{struct_type_of}
 use Rattle.structs.specs.declared.kinds.NewtypeMode.{NewtypeMode}
 use Rattle.structs.specs.declared.kinds.TupleMode.{TupleMode}
-use Rattle.sarridok.specs.Skip.{skip_of, told_skip}
-use Rattle.sarridok.specs.StructKind.{struct_kind_of, told_struct}
+use Rattle.sarridok.specs.Skip.{skip_of}
+use Rattle.sarridok.specs.StructKind.{struct_kind_of}
 use Rattle.sarridok.specs.Typed.{integer_at, integer_of, placed_at, told_integer as toldTyped}
 use Rattle.given.proofs.Front.{FourTo-told, number-in, told_number}
 use Rattle.given.proofs.Owns.{skip_own, struct_own}
@@ -73,11 +74,11 @@ cursor_exactly text c x = (means, says)
 -- ---- one law for the three calls
 
 -- 28 is none of the call's own refusals
-not_28 : {X A : Type 0} (own : Told A) → FourTo-told 27 own → own ≡ refused unfit → X
+not_28 : {X A : Type 0} (own : Told A) → FourTo-told 27 own → own ≡ Err unfit → X
 not_28 own h e = absurd (omega (arith, number-in 4 27 unfit (told_number 27 own unfit h e)))
 
 -- a choice by a test that says whether it fits
-by_test : {A : Type 0} (t : Bool) (fits : Type 0) (own : Told A) → FourTo-told 27 own → (t ≡ true) ↔ fits → PlacedOf fits (cond t own (refused unfit)) own
+by_test : {A : Type 0} (t : Bool) (fits : Type 0) (own : Told A) → FourTo-told 27 own → (t ≡ true) ↔ fits → PlacedOf fits (cond t own (Err unfit)) own
 by_test true fits own h (f, g) = record { past = λ x. refl; off = (λ e. not_28 own h e, λ n. absurd (n (f refl))); on = λ n. f refl }
 by_test false fits own h (f, g) = record { past = λ x. no x; off = (λ e x. no x, λ n. refl); on = λ n. absurd (n refl) }
   where
@@ -85,13 +86,13 @@ by_test false fits own h (f, g) = record { past = λ x. no x; off = (λ e x. no 
     no x = let z : ◌≡◌ {A = ℕ} 0 1 = cc (g x) in absurd (omega arith)
 
 -- the same of a call that is equal to it
-placed : {A : Type 0} (t : Bool) (fits : Type 0) (call own : Told A) → call ≡ cond t own (refused unfit) → FourTo-told 27 own → (t ≡ true) ↔ fits → PlacedOf fits call own
+placed : {A : Type 0} (t : Bool) (fits : Type 0) (call own : Told A) → call ≡ cond t own (Err unfit) → FourTo-told 27 own → (t ≡ true) ↔ fits → PlacedOf fits call own
 placed t fits call own e h f = rw e (by_test t fits own h f)
 
 -- ---- the calls
 
 -- skip gives 28 exactly where its cursor does not fit
-pub skip_placed : (text : List ℕ) (c : ParserCursor) → Sound text → PlacedOf (CursorFits text c) (skip_of text c) (told_skip (skip_ws_of text c))
+pub skip_placed : (text : List ℕ) (c : ParserCursor) → Sound text → PlacedOf (CursorFits text c) (skip_of text c) ((skip_ws_of text c))
 skip_placed text c s = placed (cursor_fits text c) _ _ _ ((skip_front text c).past s) (skip_own text c) (cursor_exactly text c s.encoded)
 
 -- integer gives 28 exactly where its place is no boundary
@@ -102,6 +103,6 @@ integer_placed text place width s =
 
 -- and so does struct kind
 pub struct_kind_placed : (text : List ℕ) (place : ℕ) (newtype : NewtypeMode) (tuple : TupleMode) → Sound text
-    → PlacedOf (Boundary text place) (struct_kind_of text place newtype tuple) (told_struct (placed_kind place (struct_type_of (drop place text) newtype tuple)))
+    → PlacedOf (Boundary text place) (struct_kind_of text place newtype tuple) ((placed_kind place (struct_type_of (drop place text) newtype tuple)))
 struct_kind_placed text place newtype tuple s =
     placed (place_fits text place) _ _ _ ((struct_kind_front text place newtype tuple).past s) (struct_own place (drop place text) newtype tuple) (place_exactly text place s.encoded)

@@ -4,6 +4,8 @@
 --     bad-exactly      2 exactly at the first bad sequence of one that has not
 --     place-exactly    a place of a text fits exactly where it stands between two characters or at one of its ends
 -- Assumes nothing.
+use Rattle.std.proofs.Common.{Ok, Err, Some, None, Option}
+use Rattle.text.specs.Refusals.{Told}
 use Prim.Native.Nat.{ℕ, ◌≤◌, ◌<◌}
 use native.Mathlib.Omega.{arith}
 use mathlib.Core.Bool.{Bool, true, false, not, ◌&&◌}
@@ -19,30 +21,27 @@ use Rattle.text.proofs.Utf8Agree.{bad_means, encoded_good, encoded_text, good_en
 use Rattle.text.specs.Judged.{by_utf8, judged_of, place_fits}
 use Rattle.text.specs.Refusals.{not_utf8, too_long}
 use Rattle.text.specs.Utf8.{Encoded, tail_byte, utf8_of}
-use Rattle.text.specs.declared.judge.Judged.TheVariants.{Fit, Refused}
 use Rattle.text.specs.declared.refusal.Refusal.{Refusal}
-use Rattle.text.specs.declared.utf8.Utf8Answer.{Utf8Answer}
-use Rattle.text.specs.declared.utf8.Utf8Answer.TheVariants.{Good, BadAt}
 use Rattle.fronts.specs.Fronts.{Boundary, FirstBad, Sound}
 use Rattle.fronts.proofs.Shapes.{cut, first_byte}
 
 -- ---- the answer, by cases
 
 -- a refusal is not fit
-not_fit : {X : Type 0} (r : Refusal) → Refused r ≡ Fit → X
+not_fit : {X : Type 0} (r : Refusal) → ◌≡◌ {A = Told Unit} (Err r) (Ok tt) → X
 not_fit r e = let z : ◌≡◌ {A = ℕ} 0 1 = cc in absurd (omega arith)
 
 -- 2 is not 1
-not_both : {X : Type 0} (p : ℕ) → Refused (not_utf8 p) ≡ Refused too_long → X
+not_both : {X : Type 0} (p : ℕ) → ◌≡◌ {A = Told Unit} (Err (not_utf8 p)) (Err too_long) → X
 not_both p e = let q : not_utf8 p ≡ too_long = cc in absurd (omega (arith, ap (λ (r : Refusal). r.number) q))
 
 -- 2 stands at one place
-same_place : (p q : ℕ) → Refused (not_utf8 p) ≡ Refused (not_utf8 q) → p ≡ q
+same_place : (p q : ℕ) → ◌≡◌ {A = Told Unit} (Err (not_utf8 p)) (Err (not_utf8 q)) → p ≡ q
 same_place p q e = let s : not_utf8 p ≡ not_utf8 q = cc in ap (λ (r : Refusal). r.place) s
 
 module _ (text : List ℕ) where
   -- 1 for a text that is too long
-  long : 65536 < length text → judged_of text ≡ Refused too_long
+  long : 65536 < length text → judged_of text ≡ Err too_long
   unfolding judged_of
   long h = rw (lt-ltb 65536 (length text) h)
 
@@ -52,52 +51,52 @@ module _ (text : List ℕ) where
   short h = rw (le-ltb 65536 (length text) h)
 
 -- what the judgement says of the bytes, taken back
-by_good : (u : Utf8Answer) → by_utf8 u ≡ Fit → u ≡ Good
-by_good Good e = refl
-by_good (BadAt p) e = not_fit (not_utf8 p) e
+by_good : (u : Option ℕ) → by_utf8 u ≡ Ok tt → u ≡ None
+by_good None e = refl
+by_good (Some p) e = not_fit (not_utf8 p) e
 
-by_bad : (u : Utf8Answer) (p : ℕ) → by_utf8 u ≡ Refused (not_utf8 p) → u ≡ BadAt p
-by_bad Good p e = not_fit (not_utf8 p) (sym e)
-by_bad (BadAt q) p e = ap BadAt (same_place q p e)
+by_bad : (u : Option ℕ) (p : ℕ) → by_utf8 u ≡ Err (not_utf8 p) → u ≡ Some p
+by_bad None p e = not_fit (not_utf8 p) (sym e)
+by_bad (Some q) p e = ap Some (same_place q p e)
 
-by_long : {X : Type 0} (u : Utf8Answer) → by_utf8 u ≡ Refused too_long → X
-by_long Good e = not_fit too_long (sym e)
-by_long (BadAt p) e = not_both p e
+by_long : {X : Type 0} (u : Option ℕ) → by_utf8 u ≡ Err too_long → X
+by_long None e = not_fit too_long (sym e)
+by_long (Some p) e = not_both p e
 
 -- ---- texts
 
 -- a text is fit exactly where it is sound
-pub fit_exactly : (text : List ℕ) → (judged_of text ≡ Fit) ↔ Sound text
+pub fit_exactly : (text : List ℕ) → (judged_of text ≡ Ok tt) ↔ Sound text
 fit_exactly text = (means, says)
   where
-    means : judged_of text ≡ Fit → Sound text
+    means : judged_of text ≡ Ok tt → Sound text
     means e =
         either (lt_or_le 65536 (length text)) (λ h. not_fit too_long (sym (long text h) ∙ e))
         (λ h. record { short = omega arith; encoded = good_encoded text (by_good (utf8_of text) (sym (short text h) ∙ e)) })
 
-    says : Sound text → judged_of text ≡ Fit
+    says : Sound text → judged_of text ≡ Ok tt
     says s = short text s.short ∙ ap by_utf8 (encoded_good text s.encoded)
 
 -- 1 is given exactly for a text of more than 65,536 bytes
-pub long_exactly : (text : List ℕ) → (judged_of text ≡ Refused too_long) ↔ (65536 < length text)
+pub long_exactly : (text : List ℕ) → (judged_of text ≡ Err too_long) ↔ (65536 < length text)
 long_exactly text = (means, long text)
   where
-    means : judged_of text ≡ Refused too_long → 65536 < length text
+    means : judged_of text ≡ Err too_long → 65536 < length text
     means e = either (lt_or_le 65536 (length text)) (λ h. h) (λ h. by_long (utf8_of text) (sym (short text h) ∙ e))
 
 -- 2 is given exactly at the first bad sequence of a text that is not too long
-pub bad_exactly : (text : List ℕ) (p : ℕ) → (judged_of text ≡ Refused (not_utf8 p)) ↔ ((length text ≤ 65536) × FirstBad text p)
+pub bad_exactly : (text : List ℕ) (p : ℕ) → (judged_of text ≡ Err (not_utf8 p)) ↔ ((length text ≤ 65536) × FirstBad text p)
 bad_exactly text p = (means, says)
   where
-    first : utf8_of text ≡ BadAt p → FirstBad text p
+    first : utf8_of text ≡ Some p → FirstBad text p
     first e = let b = bad_means text p e in record { inside = omega (arith, b.0); before = b.1; bad = b.2 }
 
-    means : judged_of text ≡ Refused (not_utf8 p) → (length text ≤ 65536) × FirstBad text p
+    means : judged_of text ≡ Err (not_utf8 p) → (length text ≤ 65536) × FirstBad text p
     means e =
         either (lt_or_le 65536 (length text)) (λ h. not_both p (sym e ∙ long text h))
         (λ h. (h, first (by_bad (utf8_of text) p (sym (short text h) ∙ e))))
 
-    says : (length text ≤ 65536) × FirstBad text p → judged_of text ≡ Refused (not_utf8 p)
+    says : (length text ≤ 65536) × FirstBad text p → judged_of text ≡ Err (not_utf8 p)
     says (h, b) = short text h ∙ ap by_utf8 (means_bad text p b.inside b.before b.bad)
 
 -- ---- places

@@ -1,4 +1,5 @@
 -- Where a gap ends, in the five ways of specs/Gap.antt: each part has such an end, and `gap_of` answers at it at once. Assumes nothing.
+use Rattle.std.proofs.Common.{Some, None, Option}
 use Prim.Native.Nat.{ℕ, zero, suc, pred, ◌+◌, ◌<◌, ◌≤◌}
 use native.Mathlib.Nat.{zero-add}
 use native.Mathlib.Omega.{arith}
@@ -12,8 +13,6 @@ use Rattle.comments.proofs.GapLaws.{gap_step}
 use Rattle.comments.proofs.Nesting.{ends_body, unclosed}
 use Rattle.comments.specs.Blocks.{Body, block_end}
 use Rattle.comments.specs.Gaps.{by_item, gap_from, gap_of, item_of}
-use Rattle.comments.specs.declared.block.CommentEnd.{CommentEnd}
-use Rattle.comments.specs.declared.block.CommentEnd.TheVariants.{Closed, Unclosed}
 use Rattle.comments.specs.declared.gap.Gap.{Gap as Answer}
 use Rattle.comments.specs.declared.gap.Gap.TheVariants as answer
 use Rattle.comments.specs.declared.gap.Item.{Item}
@@ -42,9 +41,9 @@ unfolding gap_of
 at_once a s r e = gap_step a s 0 ∙ ap (λ (x : Item). by_item x (λ n. gap_from s (pred n) (0 + 1)) 0 (0 + length (a ∷ s))) e
 
 -- no comment has a body exactly where its end is not found
-no-end : (w : List ℕ) → ((t : List ℕ) → Body w t → ⊥) → (r : CommentEnd) → block_end w ≡ r → block_end w ≡ Unclosed
-no-end w n (Closed k) e = absurd (n (drop k w) (ends_body w k e))
-no-end w n Unclosed e = e
+no-end : (w : List ℕ) → ((t : List ℕ) → Body w t → ⊥) → (r : Option ℕ) → block_end w ≡ r → block_end w ≡ None
+no-end w n (Some k) e = absurd (n (drop k w) (ends_body w k e))
+no-end w n None e = e
 
 -- where no gap goes on, none is found
 clear_none : (t : List ℕ) → Clear t → gap_of t ≡ answer.Clear 0
@@ -90,11 +89,11 @@ module _ (fuel : ℕ) (shorter : (u : List ℕ) → length u ≤ fuel → Ends u
       let r = shorter (0x0a ∷ e.rest) (omega arith) in
       subst (λ (u : List ℕ). Ends (0x2f ∷ 0x2f ∷ u)) (sym e.split) (record { at = r.at; says = r.says; gap = line e.line r.gap; end = r.end })
 
-  on_block : (w : List ℕ) → length w < fuel → (c : CommentEnd) → block_end w ≡ c → Ends (0x2f ∷ 0x2a ∷ w)
-  on_block w h (Closed n) e =
+  on_block : (w : List ℕ) → length w < fuel → (c : Option ℕ) → block_end w ≡ c → Ends (0x2f ∷ 0x2a ∷ w)
+  on_block w h (Some n) e =
       let r = shorter (drop n w) (omega (arith, length-drop n w)) in
       record { at = r.at; says = r.says; gap = block (ends_body w n e) r.gap; end = r.end }
-  on_block w h Unclosed e = here (in_block (λ t x. unclosed e x))
+  on_block w h None e = here (in_block (λ t x. unclosed e x))
 
   on_slash : (s : List ℕ) → length s ≤ fuel → Ends (0x2f ∷ s)
   on_slash [] h = here last

@@ -1,4 +1,5 @@
 -- What stands in front, in the words of specs/Gap.antt, is the item that crate `comments` finds there. Assumes nothing.
+use Rattle.std.proofs.Common.{Some, None}
 use Prim.Native.Nat.{ℕ, ◌+◌}
 use native.Mathlib.Nat.{zero-add, le_refl}
 use native.Mathlib.Omega.{arith}
@@ -13,7 +14,6 @@ use Rattle.comments.proofs.GapLaws.{item_blank, item_comment, comment_other}
 use Rattle.comments.specs.Blocks.{block_end}
 use Rattle.comments.specs.Gaps.{behind_slash, block_item, comment_of, item_of, line_item}
 use Rattle.comments.specs.Lines.{line_end, line_from}
-use Rattle.comments.specs.declared.block.CommentEnd.TheVariants.{Closed, Unclosed}
 use Rattle.comments.specs.declared.gap.Item.TheVariants.{Blank, BlockOpen, Ended, LineOpen, Other, Unexpected}
 use Rattle.gapped.proofs.Blanks.{blank_wide, encode_pos}
 use Rattle.gapped.specs.Gap.{Line}
@@ -59,17 +59,17 @@ item_stray b w n m = slash (b ∷ w) ∙ rw (ne_eqb b 0x2f n, ne_eqb b 0x2a m)
 -- ---- line comments
 
 -- the LF that ends a line is found behind it
-line_ends : {w : List ℕ} → Line w → (s : List ℕ) (at : ℕ) → line_from (w ++ 0x0a ∷ s) at ≡ Closed (at + length w)
+line_ends : {w : List ℕ} → Line w → (s : List ℕ) (at : ℕ) → line_from (w ++ 0x0a ∷ s) at ≡ Some (at + length w)
 unfolding line_from
-line_ends none s at = ap Closed (omega arith)
-line_ends (more {b} {w} n l) s at = rw (ne_eqb b 0x0a n) (line_ends l s (at + 1) ∙ ap Closed (omega arith))
+line_ends none s at = ap Some (omega arith)
+line_ends (more {b} {w} n l) s at = rw (ne_eqb b 0x0a n) (line_ends l s (at + 1) ∙ ap Some (omega arith))
 
 pub item_line : (w s : List ℕ) → Line w → item_of (0x2f ∷ 0x2f ∷ (w ++ 0x0a ∷ s)) ≡ Blank (length w + 2)
 unfolding line_end
-item_line w s l = two_slashes (w ++ 0x0a ∷ s) ∙ ap line_item (line_ends l s 0 ∙ ap Closed (zero-add (length w)))
+item_line w s l = two_slashes (w ++ 0x0a ∷ s) ∙ ap line_item (line_ends l s 0 ∙ ap Some (zero-add (length w)))
 
 -- and in a line without one there is no end
-line_open : {w : List ℕ} → Line w → (at : ℕ) → line_from w at ≡ Unclosed
+line_open : {w : List ℕ} → Line w → (at : ℕ) → line_from w at ≡ None
 unfolding line_from
 line_open none at = refl
 line_open (more {b} {w} n l) at = rw (ne_eqb b 0x0a n) (line_open l (at + 1))
@@ -97,8 +97,8 @@ line_split (b ∷ s) =
 
 -- ---- block comments
 
-pub item_block : (s : List ℕ) (n : ℕ) → block_end s ≡ Closed n → item_of (0x2f ∷ 0x2a ∷ s) ≡ Blank (n + 2)
+pub item_block : (s : List ℕ) (n : ℕ) → block_end s ≡ Some n → item_of (0x2f ∷ 0x2a ∷ s) ≡ Blank (n + 2)
 item_block s n e = slash_star s ∙ ap block_item e
 
-pub item_block_open : (s : List ℕ) → block_end s ≡ Unclosed → item_of (0x2f ∷ 0x2a ∷ s) ≡ BlockOpen
+pub item_block_open : (s : List ℕ) → block_end s ≡ None → item_of (0x2f ∷ 0x2a ∷ s) ≡ BlockOpen
 item_block_open s e = slash_star s ∙ ap block_item e

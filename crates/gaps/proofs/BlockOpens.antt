@@ -1,5 +1,6 @@
 -- Block comments that are still open: `still` says that the bytes of one may be replaced by its last byte, if that is unpaired, at the level that they leave,
 -- and `marks_pass` that a mark `/*` only adds to the level. Assumes nothing.
+use Rattle.std.proofs.Common.{Some, None, Option}
 use Prim.Native.Nat.{◌*◌, ◌+◌, ◌-◌, ◌≤◌, pred, suc, zero, ℕ}
 use native.Mathlib.Nat.{add-zero}
 use native.Mathlib.Numerals.{add-one}
@@ -13,8 +14,6 @@ use borrow.Author.Tests.{eqb-false, eqb-true, ne_eqb}
 use Rattle.comments.proofs.BlockLaws.{Bounded, after, step, step_cases, wider}
 use Rattle.comments.proofs.RuleLaws.{not_last, passes_other}
 use Rattle.comments.specs.Blocks.{block_from, decision_of}
-use Rattle.comments.specs.declared.block.CommentEnd.{CommentEnd}
-use Rattle.comments.specs.declared.block.CommentEnd.TheVariants.{Closed, Unclosed}
 use Rattle.comments.specs.declared.block.Decision.{Decision}
 use Rattle.comments.specs.declared.block.Decision.TheVariants as decision
 use Rattle.gaps.specs.Opens.{block_open, last_byte, marks, unpaired}
@@ -24,18 +23,18 @@ use Rattle.gaps.specs.declared.state.Open.TheVariants.{Clear, Block}
 -- ---- ends
 
 -- the same end, d bytes further on
-abbrev pub later_end : ℕ → CommentEnd → CommentEnd
-later_end d (Closed e) = Closed (d + e)
-later_end d Unclosed = Unclosed
+abbrev pub later_end : ℕ → Option ℕ → Option ℕ
+later_end d (Some e) = Some (d + e)
+later_end d None = None
 
 -- an end that is there stands at m or behind it
-abbrev pub From : ℕ → CommentEnd → Type 0
-From m (Closed e) = m ≤ e
-From m Unclosed = Unit {0}
+abbrev pub From : ℕ → Option ℕ → Type 0
+From m (Some e) = m ≤ e
+From m None = Unit {0}
 
-pub from_less : (m n : ℕ) (r : CommentEnd) → m ≤ n → From n r → From m r
-from_less m n (Closed e) h f = omega arith
-from_less m n Unclosed h f = tt
+pub from_less : (m n : ℕ) (r : Option ℕ) → m ≤ n → From n r → From m r
+from_less m n (Some e) h f = omega arith
+from_less m n None h f = tt
 
 -- a mark is two bytes
 pub block-from : (s : List ℕ) (level at : ℕ) → From (at + 2) (block_from s level at)
@@ -50,7 +49,7 @@ block-from (a ∷ b ∷ s) level at =
 moved_by : (b : ℕ) (s : List ℕ) (level d at : ℕ) → ((l : ℕ) → block_from s l (d + (at + 2)) ≡ later_end d (block_from s l (at + 2)))
     → block_from (b ∷ s) level (d + (at + 1)) ≡ later_end d (block_from (b ∷ s) level (at + 1)) → (x : Decision) → after b s level (d + at) x ≡ later_end d (after b s level at x)
 moved_by b s level d at two one decision.Open = ap (block_from s (level + 1)) (omega arith) ∙ two (level + 1)
-moved_by b s level d at two one decision.CloseLast = ap Closed (omega arith)
+moved_by b s level d at two one decision.CloseLast = ap Some (omega arith)
 moved_by b s level d at two one decision.CloseInner = ap (block_from s (level - 1)) (omega arith) ∙ two (level - 1)
 moved_by b s level d at two one decision.PassOn = ap (block_from (b ∷ s) level) (omega arith) ∙ one
 
@@ -64,15 +63,15 @@ block_moved (a ∷ b ∷ s) level d at =
     ∙ moved_by b s level d at (λ l. block_moved s l d (at + 2)) (block_moved (b ∷ s) level d (at + 1)) (decision_of a b level)
     ∙ ap (later_end d) (sym (step a b s level at))
 
-more_by : (b : ℕ) (s v : List ℕ) (level at e : ℕ) → ((l : ℕ) → block_from s l (at + 2) ≡ Closed e → block_from (s ++ v) l (at + 2) ≡ Closed e)
-    → (block_from (b ∷ s) level (at + 1) ≡ Closed e → block_from (b ∷ s ++ v) level (at + 1) ≡ Closed e) → (x : Decision) → after b s level at x ≡ Closed e → after b (s ++ v) level at x ≡ Closed e
+more_by : (b : ℕ) (s v : List ℕ) (level at e : ℕ) → ((l : ℕ) → block_from s l (at + 2) ≡ Some e → block_from (s ++ v) l (at + 2) ≡ Some e)
+    → (block_from (b ∷ s) level (at + 1) ≡ Some e → block_from (b ∷ s ++ v) level (at + 1) ≡ Some e) → (x : Decision) → after b s level at x ≡ Some e → after b (s ++ v) level at x ≡ Some e
 more_by b s v level at e two one decision.Open = two (level + 1)
 more_by b s v level at e two one decision.CloseLast = λ q. q
 more_by b s v level at e two one decision.CloseInner = two (level - 1)
 more_by b s v level at e two one decision.PassOn = one
 
 -- an end that has come stays
-pub block_more : (s v : List ℕ) (level at e : ℕ) → block_from s level at ≡ Closed e → block_from (s ++ v) level at ≡ Closed e
+pub block_more : (s v : List ℕ) (level at e : ℕ) → block_from s level at ≡ Some e → block_from (s ++ v) level at ≡ Some e
 unfolding block_from
 block_more [] v level at e h = let z : ◌≡◌ {A = ℕ} 0 1 = cc in absurd (omega arith)
 block_more (a ∷ []) v level at e h = let z : ◌≡◌ {A = ℕ} 0 1 = cc in absurd (omega arith)
@@ -203,8 +202,8 @@ one a k false false e f = other a k (eqb-false a 0x2f f) (eqb-false a 0x2a e)
 
 -- by the decision over two bytes
 two : (a b : ℕ) (s : List ℕ) (k at : ℕ) (x : Decision) → decision_of a b (suc k) ≡ x
-    → ((l at : ℕ) → block_from s (suc l) at ≡ Unclosed → Still s l) → ((at : ℕ) → block_from (b ∷ s) (suc k) at ≡ Unclosed → Still (b ∷ s) k)
-    → after b s (suc k) at x ≡ Unclosed → Still (a ∷ b ∷ s) k
+    → ((l at : ℕ) → block_from s (suc l) at ≡ None → Still s l) → ((at : ℕ) → block_from (b ∷ s) (suc k) at ≡ None → Still (b ∷ s) k)
+    → after b s (suc k) at x ≡ None → Still (a ∷ b ∷ s) k
 two a b s k at decision.Open e rest next h =
     let j : suc k + 1 ≡ suc (suc k) = add-one (suc k) in
     let r = rest (suc k) (at + 2) (ap (λ (l : ℕ). block_from s l (at + 2)) (sym j) ∙ h) in
@@ -254,7 +253,7 @@ two a b s k at decision.PassOn e rest next h =
       opens = λ v. open_step a b (s ++ v) k ∙ ap (after_open b (s ++ v) k) e ∙ r.opens v;
     }
 
-pub still : (s : List ℕ) (k at : ℕ) → block_from s (suc k) at ≡ Unclosed → Still s k
+pub still : (s : List ℕ) (k at : ℕ) → block_from s (suc k) at ≡ None → Still s k
 still [] k at h = none k
 still (a ∷ []) k at h = one a k (eqb a 0x2a) (eqb a 0x2f) refl refl
 still (a ∷ b ∷ s) k at h = two a b s k at (decision_of a b (suc k)) refl (λ l p. still s l p) (λ p. still (b ∷ s) k p) (sym (step a b s (suc k) at) ∙ h)

@@ -5,6 +5,7 @@
 --     open_on       and the same is open
 --     canon_on      so `canon` of two pieces is `canon` of the first's and the second, unless the text is refused with 5
 -- Assumes nothing.
+use Rattle.std.proofs.Common.{Some, None, Option}
 use Prim.Native.Nat.{◌*◌, ◌+◌, ◌-◌, ◌≤◌, pred, suc, ℕ}
 use native.Mathlib.Nat.{le_refl}
 use native.Mathlib.Omega.{arith}
@@ -17,8 +18,6 @@ use Rattle.comments.proofs.GapLaws.{gap_step}
 use Rattle.comments.specs.Blocks.{block_end, block_from}
 use Rattle.comments.specs.Gaps.{block_item, by_item, gap_from, gap_of, item_of, line_item}
 use Rattle.comments.specs.Lines.{line_end, line_from}
-use Rattle.comments.specs.declared.block.CommentEnd.{CommentEnd}
-use Rattle.comments.specs.declared.block.CommentEnd.TheVariants.{Closed, Unclosed}
 use Rattle.comments.specs.declared.gap.Gap.{Gap}
 use Rattle.comments.specs.declared.gap.Gap.TheVariants as gap
 use Rattle.comments.specs.declared.gap.Item.{Item}
@@ -102,28 +101,28 @@ module _ (s : List ℕ) (p : Passing s 0) where
 
 -- ---- open comments
 
-pub line_closed : (c : CommentEnd) → line_item c ≡ closed_item LineOpen c
-line_closed (Closed n) = refl
-line_closed Unclosed = refl
+pub line_closed : (c : Option ℕ) → line_item c ≡ closed_item LineOpen c
+line_closed (Some n) = refl
+line_closed None = refl
 
-pub block_closed : (c : CommentEnd) → block_item c ≡ closed_item BlockOpen c
-block_closed (Closed n) = refl
-block_closed Unclosed = refl
+pub block_closed : (c : Option ℕ) → block_item c ≡ closed_item BlockOpen c
+block_closed (Some n) = refl
+block_closed None = refl
 
 -- a comment that halts is not closed
-line_halts : (c : CommentEnd) → Halts (line_item c) → c ≡ Unclosed
-line_halts (Closed n) h = absurd h
-line_halts Unclosed h = refl
+line_halts : (c : Option ℕ) → Halts (line_item c) → c ≡ None
+line_halts (Some n) h = absurd h
+line_halts None h = refl
 
-block_halts : (c : CommentEnd) → Halts (block_item c) → c ≡ Unclosed
-block_halts (Closed n) h = absurd h
-block_halts Unclosed h = refl
+block_halts : (c : Option ℕ) → Halts (block_item c) → c ≡ None
+block_halts (Some n) h = absurd h
+block_halts None h = refl
 
-pub any : (c : CommentEnd) → From 0 c
-any (Closed n) = omega arith
-any Unclosed = tt
+pub any : (c : Option ℕ) → From 0 c
+any (Some n) = omega arith
+any None = tt
 
-line_stands : (l : List ℕ) → line_end l ≡ Unclosed → Stands (0x2f ∷ 0x2f ∷ l) (0x2f ∷ 0x2f ∷ [])
+line_stands : (l : List ℕ) → line_end l ≡ None → Stands (0x2f ∷ 0x2f ∷ l) (0x2f ∷ 0x2f ∷ [])
 unfolding line_end
 line_stands l h =
     replaced Comment.line 0x2f 0x2f l [] (length l)
@@ -208,7 +207,7 @@ module _ (s : List ℕ) (p : Passing s 0) where
   keeps : (c : List ℕ) → canon s ≡ c → Stands s c → Stands s (canon s)
   keeps c e h = subst (Stands s) (sym e) h
 
-  told_line : (l : List ℕ) → at_halt ≡ 0x2f ∷ 0x2f ∷ l → line_end l ≡ Unclosed → Told s
+  told_line : (l : List ℕ) → at_halt ≡ 0x2f ∷ 0x2f ∷ l → line_end l ≡ None → Told s
   unfolding front
   told_line l e h =
       let i : item_of at_halt ≡ LineOpen = ap item_of e ∙ item_line l ∙ ap line_item h in
@@ -219,7 +218,7 @@ module _ (s : List ℕ) (p : Passing s 0) where
         stands = keeps (0x2f ∷ 0x2f ∷ []) (canon_is s Line (gap.InLine (length s)) o g) (both (behind_passing s p) (subst (λ (t : List ℕ). Stands t (0x2f ∷ 0x2f ∷ [])) (sym e) (line_stands l h)));
       }
 
-  told_block : (l : List ℕ) → at_halt ≡ 0x2f ∷ 0x2a ∷ l → block_end l ≡ Unclosed → Still l 0 → Told s
+  told_block : (l : List ℕ) → at_halt ≡ 0x2f ∷ 0x2a ∷ l → block_end l ≡ None → Still l 0 → Told s
   unfolding front marks
   told_block l e h r =
       let i : item_of at_halt ≡ BlockOpen = ap item_of e ∙ item_block l ∙ ap block_item h in

@@ -4,6 +4,7 @@
 --     begins_told       a place of a piece is a place of the text (`unexpected_told` says so of a refusal), and what begins there is left (`begins_leaves`)
 --     passed_cut        behind a piece that is passed to its end, the next says what both say in one
 -- Assumes nothing.
+use Rattle.std.proofs.Common.{Some, None, Option}
 use Prim.Native.Nat.{◌+◌, ◌-◌, ◌<◌, ◌≤◌, suc, ℕ}
 use native.Mathlib.Omega.{arith}
 use mathlib.Core.Bool.{Bool, cond, false, true}
@@ -16,8 +17,6 @@ use borrow.Author.Tests.{eqb-true, eqb-false, ltb-false, ltb-true}
 use Rattle.comments.specs.Blocks.{block_end}
 use Rattle.comments.specs.Gaps.{by_item, gap_from, gap_of, item_of}
 use Rattle.comments.specs.Lines.{line_end}
-use Rattle.comments.specs.declared.block.CommentEnd.{CommentEnd}
-use Rattle.comments.specs.declared.block.CommentEnd.TheVariants.{Closed, Unclosed}
 use Rattle.comments.specs.declared.gap.Gap.{Gap}
 use Rattle.comments.specs.declared.gap.Gap.TheVariants as gap
 use Rattle.comments.specs.declared.gap.Item.{Item}
@@ -61,11 +60,11 @@ open_from : {o : Item} → Comment o → (g : Gap) (at end m : ℕ) → m ≤ en
 open_from Comment.line g at end m h = h
 open_from Comment.block g at end m h = h
 
-comment_least : {o : Item} → Comment o → (x y : ℕ) (w : List ℕ) (m : ℕ) (c : CommentEnd) → item_of (x ∷ y ∷ w) ≡ closed_item o c → From m c → m ≤ length w → EndsFrom (m + 2) (gap_of (x ∷ y ∷ w))
+comment_least : {o : Item} → Comment o → (x y : ℕ) (w : List ℕ) (m : ℕ) (c : Option ℕ) → item_of (x ∷ y ∷ w) ≡ closed_item o c → From m c → m ≤ length w → EndsFrom (m + 2) (gap_of (x ∷ y ∷ w))
 unfolding gap_of
-comment_least k x y w m (Closed n) e f h =
+comment_least k x y w m (Some n) e f h =
     subst (EndsFrom (m + 2)) (sym (gap_closed x y w n 0 e)) (ends_less (m + 2) (0 + (n + 2)) (gap_from (drop n w) 0 (0 + (n + 2))) (omega arith) (ends_from (drop n w) (0 + (n + 2))))
-comment_least k x y w m Unclosed e f h = subst (EndsFrom (m + 2)) (sym (open_ends k x (y ∷ w) 0 e)) (open_from k (gap.Clear 0) 0 (0 + length (x ∷ y ∷ w)) (m + 2) (omega arith))
+comment_least k x y w m None e f h = subst (EndsFrom (m + 2)) (sym (open_ends k x (y ∷ w) 0 e)) (open_from k (gap.Clear 0) 0 (0 + length (x ∷ y ∷ w)) (m + 2) (omega arith))
 
 line_least : (v : List ℕ) → EndsFrom 2 (gap_of (0x2f ∷ 0x2f ∷ v))
 line_least v = comment_least Comment.line 0x2f 0x2f v 0 (line_end v) (item_line v ∙ line_closed (line_end v)) (any (line_end v)) (omega arith)

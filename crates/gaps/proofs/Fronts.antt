@@ -3,6 +3,7 @@
 --     open-fits     what a text leaves open can be so left
 --     front_short   is no longer than any text that leaves it open; `level_on` bounds the level that a piece comes to
 -- Assumes nothing.
+use Rattle.std.proofs.Common.{None}
 use Prim.Native.Nat.{◌*◌, ◌+◌, ◌≤◌, pred, suc, ℕ}
 use native.Mathlib.Omega.{arith}
 use mathlib.Core.Bool.{Bool, cond, false, true}
@@ -15,7 +16,6 @@ use borrow.Author.Tests.{eqb-true}
 use Rattle.comments.specs.Blocks.{block_end, block_from}
 use Rattle.comments.specs.Gaps.{block_item, gap_from, gap_of}
 use Rattle.comments.specs.Lines.{line_end, line_from}
-use Rattle.comments.specs.declared.block.CommentEnd.TheVariants.{Unclosed}
 use Rattle.comments.specs.declared.gap.Gap.{Gap}
 use Rattle.comments.specs.declared.gap.Gap.TheVariants as gap
 use Rattle.comments.specs.declared.gap.Item.{Item}
@@ -31,11 +31,11 @@ use Rattle.gaps.specs.declared.state.Open.TheVariants.{Clear, Slash, Line, Block
 -- ---- what it leaves open
 
 -- the last byte closes nothing, and it is left
-pub last_unclosed : (last level at : ℕ) → block_from (last_byte last ++ []) level at ≡ Unclosed
+pub last_unclosed : (last level at : ℕ) → block_from (last_byte last ++ []) level at ≡ None
 unfolding last_byte block_from
 last_unclosed last level at = go (eqb last 0)
   where
-    go : (t : Bool) → block_from (cond t [] (last ∷ []) ++ []) level at ≡ Unclosed
+    go : (t : Bool) → block_from (cond t [] (last ∷ []) ++ []) level at ≡ None
     go true = refl
     go false = refl
 
@@ -51,7 +51,7 @@ block_left : (level last : ℕ) → open_of (0x2f ∷ 0x2a ∷ rest level last) 
 unfolding open_of block_end
 block_left level last =
     let f = rest level last in
-    let e : block_end f ≡ Unclosed = ap (λ (t : List ℕ). block_from t 1 0) (sym (append-nil f)) ∙ rest_pass level last [] ∙ last_unclosed last (suc level) (2 * level) in
+    let e : block_end f ≡ None = ap (λ (t : List ℕ). block_from t 1 0) (sym (append-nil f)) ∙ rest_pass level last [] ∙ last_unclosed last (suc level) (2 * level) in
     open_gap 0x2f (0x2a ∷ f)
     ∙ ap (λ (r : Item). by_open r (λ n. open_from (0x2a ∷ f) (pred n)) (0x2a ∷ f)) (item_block f ∙ ap block_item e)
     ∙ ap (λ (t : List ℕ). block_open t 0) (sym (append-nil f))

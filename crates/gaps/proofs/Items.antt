@@ -1,4 +1,5 @@
 -- What a part begins with, by its bytes, and what of it has come for good: a blank or a closed comment stays, whatever follows. Assumes nothing.
+use Rattle.std.proofs.Common.{Some, None, Option}
 use Prim.Native.Nat.{◌+◌, ◌≤◌, suc, zero, ℕ}
 use native.Mathlib.Nat.{add-zero}
 use native.Mathlib.Omega.{arith}
@@ -13,8 +14,6 @@ use Rattle.comments.proofs.GapWindow.{blank_window}
 use Rattle.comments.specs.Blocks.{block_end}
 use Rattle.comments.specs.Gaps.{behind_slash, block_item, comment_of, item_of, line_item}
 use Rattle.comments.specs.Lines.{line_end, line_from}
-use Rattle.comments.specs.declared.block.CommentEnd.{CommentEnd}
-use Rattle.comments.specs.declared.block.CommentEnd.TheVariants.{Closed, Unclosed}
 use Rattle.comments.specs.declared.gap.Item.TheVariants.{Blank, Ended, Other, Unexpected}
 use Rattle.text.proofs.BlankLaws.{width_at}
 use Rattle.text.proofs.ClassLaws.{blank_le}
@@ -30,29 +29,29 @@ line_moved [] d at = refl
 line_moved (a ∷ s) d at = by_test (eqb a 0x0a) (ap (line_from s) (omega arith) ∙ line_moved s d (at + 1))
   where
     by_test : (t : Bool) → line_from s (d + at + 1) ≡ later_end d (line_from s (at + 1))
-        → cond t (Closed (d + at)) (line_from s (d + at + 1)) ≡ later_end d (cond t (Closed at) (line_from s (at + 1)))
+        → cond t (Some (d + at)) (line_from s (d + at + 1)) ≡ later_end d (cond t (Some at) (line_from s (at + 1)))
     by_test true e = refl
     by_test false e = e
 
 -- an LF that has come stays
-line_more : (s v : List ℕ) (at e : ℕ) → line_from s at ≡ Closed e → line_from (s ++ v) at ≡ Closed e
+line_more : (s v : List ℕ) (at e : ℕ) → line_from s at ≡ Some e → line_from (s ++ v) at ≡ Some e
 unfolding line_from
 line_more [] v at e h = let z : ◌≡◌ {A = ℕ} 0 1 = cc in absurd (omega arith)
 line_more (a ∷ s) v at e h = by_test (eqb a 0x0a) (line_more s v (at + 1) e) h
   where
-    by_test : (t : Bool) → (line_from s (at + 1) ≡ Closed e → line_from (s ++ v) (at + 1) ≡ Closed e)
-        → cond t (Closed at) (line_from s (at + 1)) ≡ Closed e → cond t (Closed at) (line_from (s ++ v) (at + 1)) ≡ Closed e
+    by_test : (t : Bool) → (line_from s (at + 1) ≡ Some e → line_from (s ++ v) (at + 1) ≡ Some e)
+        → ◌≡◌ {A = Option ℕ} (cond t (Some at) (line_from s (at + 1))) (Some e) → ◌≡◌ {A = Option ℕ} (cond t (Some at) (line_from (s ++ v) (at + 1))) (Some e)
     by_test true f h = h
     by_test false f h = f h
 
 -- where none has come, the line goes on
-pub line_still : (s v : List ℕ) (at : ℕ) → line_from s at ≡ Unclosed → line_from (s ++ v) at ≡ line_from v (at + length s)
+pub line_still : (s v : List ℕ) (at : ℕ) → line_from s at ≡ None → line_from (s ++ v) at ≡ line_from v (at + length s)
 unfolding line_from
 line_still [] v at h = ap (line_from v) (sym (add-zero at))
 line_still (a ∷ s) v at h = by_test (eqb a 0x0a) (line_still s v (at + 1)) h
   where
-    by_test : (t : Bool) → (line_from s (at + 1) ≡ Unclosed → line_from (s ++ v) (at + 1) ≡ line_from v (at + 1 + length s))
-        → cond t (Closed at) (line_from s (at + 1)) ≡ Unclosed → cond t (Closed at) (line_from (s ++ v) (at + 1)) ≡ line_from v (at + suc (length s))
+    by_test : (t : Bool) → (line_from s (at + 1) ≡ None → line_from (s ++ v) (at + 1) ≡ line_from v (at + 1 + length s))
+        → ◌≡◌ {A = Option ℕ} (cond t (Some at) (line_from s (at + 1))) (None) → cond t (Some at) (line_from (s ++ v) (at + 1)) ≡ line_from v (at + suc (length s))
     by_test true f h = let z : ◌≡◌ {A = ℕ} 0 1 = cc in absurd (omega arith)
     by_test false f h = f h ∙ ap (line_from v) (omega arith)
 
@@ -122,13 +121,13 @@ blank_more s v w e =
     let l : width_at s ≤ length s = blank_le s in
     blank_window s [] v (suc w) f (omega arith) (omega arith)
 
-line-item : (r q : CommentEnd) (n : ℕ) → ((e : ℕ) → r ≡ Closed e → q ≡ Closed e) → line_item r ≡ Blank n → line_item q ≡ Blank n
-line-item (Closed e) q n f h = ap line_item (f e refl) ∙ h
-line-item Unclosed q n f h = let z : ◌≡◌ {A = ℕ} 0 1 = cc in absurd (omega arith)
+line-item : (r q : Option ℕ) (n : ℕ) → ((e : ℕ) → r ≡ Some e → q ≡ Some e) → line_item r ≡ Blank n → line_item q ≡ Blank n
+line-item (Some e) q n f h = ap line_item (f e refl) ∙ h
+line-item None q n f h = let z : ◌≡◌ {A = ℕ} 0 1 = cc in absurd (omega arith)
 
-block-item : (r q : CommentEnd) (n : ℕ) → ((e : ℕ) → r ≡ Closed e → q ≡ Closed e) → block_item r ≡ Blank n → block_item q ≡ Blank n
-block-item (Closed e) q n f h = ap block_item (f e refl) ∙ h
-block-item Unclosed q n f h = let z : ◌≡◌ {A = ℕ} 0 1 = cc in absurd (omega arith)
+block-item : (r q : Option ℕ) (n : ℕ) → ((e : ℕ) → r ≡ Some e → q ≡ Some e) → block_item r ≡ Blank n → block_item q ≡ Blank n
+block-item (Some e) q n f h = ap block_item (f e refl) ∙ h
+block-item None q n f h = let z : ◌≡◌ {A = ℕ} 0 1 = cc in absurd (omega arith)
 
 -- by how it begins
 more_by : (s v : List ℕ) (n : ℕ) → Front s → item_of s ≡ Blank n → item_of (s ++ v) ≡ Blank n

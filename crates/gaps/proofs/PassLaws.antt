@@ -1,4 +1,5 @@
 -- The whitespace and comments that a piece goes on with, at an index of the piece, as the code asks for them. Assumes nothing.
+use Rattle.std.proofs.Common.{Some, None, Option}
 use Prim.Native.Nat.{◌*◌, ◌+◌, ◌-◌, ◌<◌, ◌≤◌, pred, suc, zero, ℕ}
 use native.Mathlib.Nat.{add-zero, zero-add}
 use native.Mathlib.Numerals.{add-one}
@@ -17,8 +18,6 @@ use Rattle.comments.proofs.RuleLaws.{not_last, passes_other}
 use Rattle.comments.specs.Blocks.{block_end, block_from, decision_of}
 use Rattle.comments.specs.Gaps.{by_item, gap_from, gap_of, item_of}
 use Rattle.comments.specs.Lines.{line_end, line_from}
-use Rattle.comments.specs.declared.block.CommentEnd.{CommentEnd}
-use Rattle.comments.specs.declared.block.CommentEnd.TheVariants.{Closed, Unclosed}
 use Rattle.comments.specs.declared.block.Decision.{Decision}
 use Rattle.comments.specs.declared.block.Decision.TheVariants as decision
 use Rattle.comments.specs.declared.gap.Gap.{Gap}
@@ -120,21 +119,21 @@ passed_later k end (gap.Refused r) o =
 
 -- ---- behind a comment
 
-end_none : (c : CommentEnd) → later_end 0 c ≡ c
-end_none (Closed n) = ap Closed (zero-add n)
-end_none Unclosed = refl
+end_none : (c : Option ℕ) → later_end 0 c ≡ c
+end_none (Some n) = ap Some (zero-add n)
+end_none None = refl
 
 open_within : {o : Item} → Comment o → (g : Gap) (at end k m : ℕ) (left : Open) → passed_by (by_item o (λ n. g) at end) left k m ≡ passed.Within left
 open_within Comment.line g at end k m left = refl
 open_within Comment.block g at end k m left = refl
 
 -- s is a piece of a text that begins with a comment: `before` bytes of it stand in front. The comment ends in s or not at all, and a place m of the one is a place of the other.
-comment_passed : {o : Item} → Comment o → (x y : ℕ) (w s : List ℕ) (a b before : ℕ) (c : CommentEnd) (left : Open)
+comment_passed : {o : Item} → Comment o → (x y : ℕ) (w s : List ℕ) (a b before : ℕ) (c : Option ℕ) (left : Open)
     → item_of (x ∷ y ∷ w) ≡ closed_item o (later_end a c) → length (x ∷ y ∷ w) ≡ before + length s → a + 2 ≡ before + b
     → ((n : ℕ) → drop (a + n) w ≡ drop (b + n) s) → by_open o (λ n. Clear) (y ∷ w) ≡ left
     → passed_by (gap_of (x ∷ y ∷ w)) (open_of (x ∷ y ∷ w)) before (length (x ∷ y ∷ w)) ≡ behind_end s left (later_end b c)
 unfolding gap_of open_of clear_at
-comment_passed k x y w s a b before (Closed n) left e size same rest opened =
+comment_passed k x y w s a b before (Some n) left e size same rest opened =
     let t = drop (b + n) s in
     let j : 0 + (a + n + 2) ≡ before + (b + n) = omega arith in
     ap₂ (λ (g : Gap) (o : Open). passed_by g o before (length (x ∷ y ∷ w)))
@@ -142,7 +141,7 @@ comment_passed k x y w s a b before (Closed n) left e size same rest opened =
     (open_closed x y w (a + n) e ∙ ap (λ (u : List ℕ). open_from u 0) (rest n))
     ∙ ap (passed_by (later_by before (gap_from t 0 (b + n))) (open_from t 0) before) size
     ∙ passed_later before (length s) (gap_from t 0 (b + n)) (open_from t 0)
-comment_passed k x y w s a b before Unclosed left e size same rest opened =
+comment_passed k x y w s a b before None left e size same rest opened =
     ap₂ (λ (g : Gap) (o : Open). passed_by g o before (length (x ∷ y ∷ w))) (open_ends k x (y ∷ w) 0 e) (open_left k x (y ∷ w) e ∙ opened)
     ∙ open_within k (gap.Clear 0) 0 (0 + length (x ∷ y ∷ w)) before (length (x ∷ y ∷ w)) left
 
@@ -201,7 +200,7 @@ slash_told_odd (b ∷ s) h m n = slash_odd b s m n
 -- ---- a block comment
 
 -- behind the marks and the last byte
-block_passed : (k last : ℕ) (s : List ℕ) (a b : ℕ) (c : CommentEnd) (left : Open) → block_from (last_byte last ++ s) (suc k) (2 * k) ≡ later_end a c → a ≡ length (rest k last) + b
+block_passed : (k last : ℕ) (s : List ℕ) (a b : ℕ) (c : Option ℕ) (left : Open) → block_from (last_byte last ++ s) (suc k) (2 * k) ≡ later_end a c → a ≡ length (rest k last) + b
     → block_open (last_byte last ++ s) k ≡ left → passed_of (Block k last) s ≡ behind_end s left (later_end b c)
 unfolding passed_of front marks block_end
 block_passed k last s a b c left e f o =
@@ -215,7 +214,7 @@ block_passed k last s a b c left e f o =
 pub last_none : (k last : ℕ) (s : List ℕ) → length s ≡ 0 → passed_of (Block k last) s ≡ passed.Within (Block k (unpaired last))
 last_none k last (b ∷ s) h = absurd (omega arith)
 last_none k last [] h =
-    block_passed k last [] (length (rest k last) + 0) 0 Unclosed (Block k (unpaired last)) (last_unclosed last (suc k) (2 * k)) refl (last_open last k)
+    block_passed k last [] (length (rest k last) + 0) 0 None (Block k (unpaired last)) (last_unclosed last (suc k) (2 * k)) refl (last_open last k)
 
 -- what follows the decision over the last byte and the first of the piece
 abbrev pub after_last : List ℕ → ℕ → Decision → Passed
@@ -261,7 +260,7 @@ unfolding block_at
 mark_decided k last b s q decision.Open e =
     mark_passed k last b s q (suc k) (mark_from k last b s q decision.Open e ∙ ap (λ (l : ℕ). block_from s l (2 * k + 2)) (add-one (suc k))) (mark_open k last b s q decision.Open e)
 mark_decided k last b s q decision.CloseLast e =
-    block_passed k last (b ∷ s) (2 * k + 2) 1 (Closed 0) Clear (mark_from k last b s q decision.CloseLast e ∙ ap Closed (sym (add-zero (2 * k + 2)))) (omega (arith, mark_length k last b s q)) (mark_open k last b s q decision.CloseLast e)
+    block_passed k last (b ∷ s) (2 * k + 2) 1 (Some 0) Clear (mark_from k last b s q decision.CloseLast e ∙ ap Some (sym (add-zero (2 * k + 2)))) (omega (arith, mark_length k last b s q)) (mark_open k last b s q decision.CloseLast e)
 mark_decided zero last b s q decision.CloseInner e = absurd (not_last last b 1 e refl)
 mark_decided (suc k) last b s q decision.CloseInner e =
     let j : suc (suc k) - 1 ≡ suc k = omega arith in
@@ -292,7 +291,7 @@ clear_passed s = refl
 
 pub line_found_at : (s : List ℕ) (i j : ℕ) → j ≡ i + run (other 0x0a) (drop i s) → j < length s → line_at s i ≡ clear_at s j
 unfolding line_at
-line_found_at s i j e h = ap (behind_end s Line) (line_found (drop i s) i (omega (arith, length-drop i s)) ∙ ap Closed (sym e))
+line_found_at s i j e h = ap (behind_end s Line) (line_found (drop i s) i (omega (arith, length-drop i s)) ∙ ap Some (sym e))
 
 pub line_none_at : (s : List ℕ) (i j : ℕ) → j ≡ i + run (other 0x0a) (drop i s) → length s ≤ j → line_at s i ≡ passed.Within Line
 unfolding line_at
@@ -307,9 +306,9 @@ pub block_rest_at : (s : List ℕ) (i k : ℕ) → block_at s i k ≡ passed_res
 unfolding block_at rest_of
 block_rest_at s i k = go (block_from (drop i s) (suc k) i)
   where
-    go : (c : CommentEnd) → behind_end s (block_open (drop i s) k) c ≡ passed_rest s (rest_by (block_open (drop i s) k) c)
-    go (Closed n) = refl
-    go Unclosed = refl
+    go : (c : Option ℕ) → behind_end s (block_open (drop i s) k) c ≡ passed_rest s (rest_by (block_open (drop i s) k) c)
+    go (Some n) = refl
+    go None = refl
 
 -- it ends within the piece
 abbrev pub RestSized : List ℕ → Result ℕ Open → Type 0
@@ -320,6 +319,6 @@ pub rest_sized : (s : List ℕ) (i k : ℕ) → i ≤ length s → RestSized s (
 unfolding rest_of
 rest_sized s i k h = go (block_from (drop i s) (suc k) i) (block_le (drop i s) (suc k) i)
   where
-    go : (c : CommentEnd) → Bounded i (i + length (drop i s)) c → RestSized s (rest_by (block_open (drop i s) k) c)
-    go (Closed n) b = omega (arith, length-drop i s)
-    go Unclosed b = tt
+    go : (c : Option ℕ) → Bounded i (i + length (drop i s)) c → RestSized s (rest_by (block_open (drop i s) k) c)
+    go (Some n) b = omega (arith, length-drop i s)
+    go None b = tt

@@ -2,6 +2,7 @@
 --     passing    what is behind the whitespace and closed comments of a text stands for it
 --     replaced   so does a comment that is not closed, for a longer one that leaves the same open
 -- Assumes nothing.
+use Rattle.std.proofs.Common.{Some, None, Option}
 use Prim.Native.Nat.{◌+◌, ◌-◌, ◌<◌, ◌≤◌, pred, suc, zero, ℕ}
 use native.Mathlib.Nat.{add-zero, le_of_suc-le-suc, not-suc-le-zero, zero-add}
 use native.Mathlib.Numerals.{add-two}
@@ -12,8 +13,6 @@ use lib.ListN.{drop, length, length-append, length-drop}
 use lib.Seq.{drop-append-add, drop-append-le, drop-drop}
 use Rattle.comments.proofs.GapLaws.{Sized, gap_behind, gap_moved, gap_step, item_sized, on_blank}
 use Rattle.comments.specs.Gaps.{by_item, comment_of, gap_from, gap_of, item_of}
-use Rattle.comments.specs.declared.block.CommentEnd.{CommentEnd}
-use Rattle.comments.specs.declared.block.CommentEnd.TheVariants.{Closed, Unclosed}
 use Rattle.comments.specs.declared.gap.Gap.{Gap}
 use Rattle.comments.specs.declared.gap.Gap.TheVariants as gap
 use Rattle.comments.specs.declared.gap.Item.{Item}
@@ -182,13 +181,13 @@ behind_passing s p =
 -- ---- a comment that is not closed
 
 -- the item of a comment by its end: `o` where there is none
-abbrev pub closed_item : Item → CommentEnd → Item
-closed_item o (Closed n) = Blank (n + 2)
-closed_item o Unclosed = o
+abbrev pub closed_item : Item → Option ℕ → Item
+closed_item o (Some n) = Blank (n + 2)
+closed_item o None = o
 
 -- a comment of which only the rest v decides: l is replaced by f, which has d bytes fewer
 pub record Replaced (x y : ℕ) (o : Item) (l f v : List ℕ) (d : ℕ) : Type 0 where
-  pub end : CommentEnd
+  pub end : Option ℕ
   pub long : item_of (x ∷ y ∷ l ++ v) ≡ closed_item o (later_end d end)
   pub short : item_of (x ∷ y ∷ f ++ v) ≡ closed_item o end
   pub far : From (length f) end
@@ -236,33 +235,33 @@ module _ (x y : ℕ) where
         let j : n ≡ length f + (n - length f) = omega arith in
         ap (λ (m : ℕ). drop m (l ++ v)) i ∙ drop-append-add l v (n - length f) ∙ sym (drop-append-add f v (n - length f)) ∙ sym (ap (λ (m : ℕ). drop m (f ++ v)) j)
 
-    gap_replaced : {o : Item} → Comment o → (c : CommentEnd) → item_of (x ∷ y ∷ l ++ v) ≡ closed_item o (later_end d c) → item_of (x ∷ y ∷ f ++ v) ≡ closed_item o c → From (length f) c
+    gap_replaced : {o : Item} → Comment o → (c : Option ℕ) → item_of (x ∷ y ∷ l ++ v) ≡ closed_item o (later_end d c) → item_of (x ∷ y ∷ f ++ v) ≡ closed_item o c → From (length f) c
         → gap_of (x ∷ y ∷ l ++ v) ≡ later_by d (gap_of (x ∷ y ∷ f ++ v))
     unfolding gap_of
-    gap_replaced k (Closed n) e g h =
+    gap_replaced k (Some n) e g h =
         let j : 0 + (d + n + 2) ≡ d + (0 + (n + 2)) = omega arith in
         gap_closed (l ++ v) (d + n) 0 e
         ∙ ap (λ (t : List ℕ). gap_from t 0 (0 + (d + n + 2))) (same_rest n h)
         ∙ ap (gap_from (drop n (f ++ v)) 0) j
         ∙ gap_later (drop n (f ++ v)) d (0 + (n + 2))
         ∙ ap (later_by d) (sym (gap_closed (f ++ v) n 0 g))
-    gap_replaced k Unclosed e g h =
+    gap_replaced k None e g h =
         let j : 0 + length (x ∷ y ∷ l ++ v) ≡ d + (0 + length (x ∷ y ∷ f ++ v)) = omega (arith, length-append l v, length-append f v) in
         open_ends k x (y ∷ l ++ v) 0 e
         ∙ open_later k (gap.Clear 0) (gap.Clear 0) d 0 (0 + length (x ∷ y ∷ l ++ v)) (0 + length (x ∷ y ∷ f ++ v)) j
         ∙ ap (later_by d) (sym (open_ends k x (y ∷ f ++ v) 0 g))
 
-    open_replaced : {o : Item} → Comment o → (c : CommentEnd) → item_of (x ∷ y ∷ l ++ v) ≡ closed_item o (later_end d c) → item_of (x ∷ y ∷ f ++ v) ≡ closed_item o c → From (length f) c
+    open_replaced : {o : Item} → Comment o → (c : Option ℕ) → item_of (x ∷ y ∷ l ++ v) ≡ closed_item o (later_end d c) → item_of (x ∷ y ∷ f ++ v) ≡ closed_item o c → From (length f) c
         → by_open o (λ n. Clear) (y ∷ l ++ v) ≡ by_open o (λ n. Clear) (y ∷ f ++ v) → open_of (x ∷ y ∷ l ++ v) ≡ open_of (x ∷ y ∷ f ++ v)
     unfolding open_of
-    open_replaced k (Closed n) e g h w =
+    open_replaced k (Some n) e g h w =
         open_closed (l ++ v) (d + n) e ∙ ap (λ (t : List ℕ). open_from t 0) (same_rest n h) ∙ sym (open_closed (f ++ v) n g)
-    open_replaced k Unclosed e g h w = open_left k x (y ∷ l ++ v) e ∙ w ∙ sym (open_left k x (y ∷ f ++ v) g)
+    open_replaced k None e g h w = open_left k x (y ∷ l ++ v) e ∙ w ∙ sym (open_left k x (y ∷ f ++ v) g)
 
-    clear_replaced : {o : Item} → Comment o → (c : CommentEnd) → item_of (x ∷ y ∷ f ++ v) ≡ closed_item o c → From (length f) c → (n : ℕ) → gap_of (x ∷ y ∷ f ++ v) ≡ gap.Clear n → length f + 2 ≤ n
+    clear_replaced : {o : Item} → Comment o → (c : Option ℕ) → item_of (x ∷ y ∷ f ++ v) ≡ closed_item o c → From (length f) c → (n : ℕ) → gap_of (x ∷ y ∷ f ++ v) ≡ gap.Clear n → length f + 2 ≤ n
     unfolding gap_of
-    clear_replaced k (Closed m) g h n q = let b = clear_least (drop m (f ++ v)) (0 + (m + 2)) n (sym (gap_closed (f ++ v) m 0 g) ∙ q) in omega arith
-    clear_replaced k Unclosed g h n q = absurd (open_unclear k (gap.Clear 0) 0 (0 + length (x ∷ y ∷ f ++ v)) n (sym (open_ends k x (y ∷ f ++ v) 0 g) ∙ q))
+    clear_replaced k (Some m) g h n q = let b = clear_least (drop m (f ++ v)) (0 + (m + 2)) n (sym (gap_closed (f ++ v) m 0 g) ∙ q) in omega arith
+    clear_replaced k None g h n q = absurd (open_unclear k (gap.Clear 0) 0 (0 + length (x ∷ y ∷ f ++ v)) n (sym (open_ends k x (y ∷ f ++ v) 0 g) ∙ q))
 
 -- the shorter comment stands for the longer one
 pub replaced : {o : Item} → Comment o → (x y : ℕ) (l f : List ℕ) (d : ℕ) → ((v : List ℕ) → Replaced x y o l f v d) → length l ≡ d + length f → Stands (x ∷ y ∷ l) (x ∷ y ∷ f)

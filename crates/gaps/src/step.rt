@@ -5,7 +5,7 @@ ghost use Rattle.gaps.specs.inner.Steps.{step_by};
 
 use crate::block::block_rest;
 use crate::state::Open;
-use comments::{CommentEnd, line_comment};
+use comments::line_comment;
 use text::bytes::peek;
 use text::classes::blank_width;
 use text::utf8::char_len;
@@ -41,11 +41,11 @@ fn comment_step(s: &[u8]) -> Step
     if b == b'/' {
         let end = line_comment(&s[2..]);
         return match end {
-            CommentEnd::Closed(n) => {
+            Some(n) => {
                 let taken = n + 2;
                 Step::On(taken)
             }
-            CommentEnd::Unclosed => Step::Still(Open::Line),
+            None => Step::Still(Open::Line),
         };
     }
     if b == b'*' {

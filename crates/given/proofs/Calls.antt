@@ -1,5 +1,6 @@
 -- Each call refuses with one of the numbers 1, 2 and 4 to 29, and so never with 3 (document 01, "Refusal numbers"; CR 5); with a reason of 1 to 8 where the
 -- number is 13, and 0 elsewhere (CR 1). Assumes nothing.
+use Rattle.std.proofs.Common.{Err}
 use Prim.Native.Nat.{ℕ}
 use mathlib.Core.Bool.{Bool, cond, true, true≢false}
 use mathlib.Core.List.{List}
@@ -10,7 +11,6 @@ use borrow.Author.Tests.{eq-eqb, eqb-true, ne_eqb}
 use Rattle.text.proofs.Choices.{and_true}
 use Rattle.text.proofs.ClassLaws.{within_true}
 use Rattle.text.specs.Judged.{behind_front, place_fits}
-use Rattle.text.specs.Refusals.{refused}
 use Rattle.text.specs.Utf8.{In}
 use Rattle.text.specs.declared.refusal.Refusal.{Refusal}
 use Rattle.cursor.specs.Skip.{cursor_fits}
@@ -34,37 +34,37 @@ use Rattle.given.proofs.Typed.{integer_own}
 
 -- ---- calls over a text
 
-pub skip_given : (text : List ℕ) (c : ParserCursor) (r : Refusal) → skip_of text c ≡ refused r → Given r
+pub skip_given : (text : List ℕ) (c : ParserCursor) (r : Refusal) → skip_of text c ≡ Err r → Given r
 unfolding skip_of behind_front
 skip_given text c r = answered _ r (behind-judged text _ (or_unfit (cursor_fits text c) _ (skip_own text c)))
 
-pub integer_given : (text : List ℕ) (place : ℕ) (width : Width) (r : Refusal) → integer_of text place width ≡ refused r → Given r
+pub integer_given : (text : List ℕ) (place : ℕ) (width : Width) (r : Refusal) → integer_of text place width ≡ Err r → Given r
 unfolding integer_of behind_front
 integer_given text place width r = answered _ r (behind-judged text _ (or_unfit (place_fits text place) _ (integer_own place width (drop place text))))
 
-pub struct_given : (text : List ℕ) (place : ℕ) (newtype : NewtypeMode) (tuple : TupleMode) (r : Refusal) → struct_kind_of text place newtype tuple ≡ refused r → Given r
+pub struct_given : (text : List ℕ) (place : ℕ) (newtype : NewtypeMode) (tuple : TupleMode) (r : Refusal) → struct_kind_of text place newtype tuple ≡ Err r → Given r
 unfolding struct_kind_of behind_front
 struct_given text place newtype tuple r = answered _ r (behind-judged text _ (or_unfit (place_fits text place) _ (struct_own place (drop place text) newtype tuple)))
 
-pub read_given : (text : List ℕ) (room : ℕ) (r : Refusal) → read_answer text room ≡ refused r → Given r
+pub read_given : (text : List ℕ) (room : ℕ) (r : Refusal) → read_answer text room ≡ Err r → Given r
 unfolding read_answer
 read_given text room r = answered _ r (behind-judged text _ (fitted_own (room_of room) text))
 
 -- ---- calls over a tape
 
-pub contents_given : (text tape : List ℕ) (count entry : ℕ) (r : Refusal) → contents_of text tape count entry ≡ refused r → Given r
+pub contents_given : (text tape : List ℕ) (count entry : ℕ) (r : Refusal) → contents_of text tape count entry ≡ Err r → Given r
 unfolding contents_of
 contents_given text tape count entry r = answered _ r (behind-judged text _ (contents_own text tape count entry))
 
-pub decoded_given : (text tape : List ℕ) (count entry room : ℕ) (r : Refusal) → decoded_answer text tape count entry room ≡ refused r → Given r
+pub decoded_given : (text tape : List ℕ) (count entry room : ℕ) (r : Refusal) → decoded_answer text tape count entry room ≡ Err r → Given r
 unfolding decoded_answer
 decoded_given text tape count entry room r = answered _ r (behind-judged text _ (decoded_own text tape count entry room))
 
-pub walk_given : (text tape : List ℕ) (count limit links : ℕ) (r : Refusal) → walk_of text tape count limit links ≡ refused r → Given r
+pub walk_given : (text tape : List ℕ) (count limit links : ℕ) (r : Refusal) → walk_of text tape count limit links ≡ Err r → Given r
 unfolding walk_of behind_walk_front
 walk_given text tape count limit links r = answered _ r (behind_given text _ (walk_own text tape count limit links))
 
-pub repair_given : (tape : List ℕ) (count o a b : ℕ) (text : List ℕ) (r : Refusal) → repair_of tape count o a b text ≡ refused r → Given r
+pub repair_given : (tape : List ℕ) (count o a b : ℕ) (text : List ℕ) (r : Refusal) → repair_of tape count o a b text ≡ Err r → Given r
 unfolding repair_of
 repair_given tape count o a b text r = answered _ r (behind-judged text _ (repaired_own tape count o a b text))
 

@@ -1,4 +1,6 @@
 -- The refusals of the cursor's steps are inner: whitespace, characters and escapes. Assumes nothing.
+use Rattle.std.proofs.Common.{Ok, Err}
+use Rattle.text.specs.Refusals.{Told}
 use Prim.Native.Nat.{ℕ}
 use mathlib.Core.List.{List, [], ◌∷◌}
 use mathlib.Core.Path.{refl}
@@ -15,12 +17,8 @@ use Rattle.cursor.specs.inner.Chars.{next_in, next_of, begins_with, expected_of}
 use Rattle.cursor.specs.inner.Escape.{behind_escape, escaped_of}
 use Rattle.cursor.specs.Skip.{pre_of, cursor_behind, behind_part, skip_ws_of}
 use Rattle.cursor.specs.declared.ParserCursor.{ParserCursor}
-use Rattle.cursor.specs.declared.chars.Next.{Next}
-use Rattle.cursor.specs.declared.chars.Next.TheVariants as next
 use Rattle.cursor.specs.declared.escape.Escaped.{Escaped}
 use Rattle.cursor.specs.declared.escape.Escaped.TheVariants as escaped
-use Rattle.cursor.specs.declared.skip.Step.{Step}
-use Rattle.cursor.specs.declared.skip.Step.TheVariants.{Moved, Refused}
 use Rattle.given.specs.Given.{Inner, within}
 use Rattle.given.proofs.Both.{both}
 use Rattle.given.proofs.Gaps.{Inner-gap, gap_inner}
@@ -28,9 +26,9 @@ use Rattle.given.proofs.Escapes.{Inner-escape, escape_inner}
 
 -- ---- whitespace
 
-abbrev pub Inner-step : Step → Type 0
-Inner-step (Moved c) = Unit
-Inner-step (Refused r) = Inner r
+abbrev pub Inner-step : Told ParserCursor → Type 0
+Inner-step (Ok c) = Unit
+Inner-step (Err r) = Inner r
 
 behind-gap : (at pre : ℕ) (g : Gap) → Inner-gap g → Inner-step (cursor_behind at pre g)
 behind-gap at pre (Clear n) h = tt
@@ -48,9 +46,9 @@ skip_ws_inner text c = behind-part c (drop c.cursor text)
 
 -- ---- characters
 
-abbrev pub Inner-next : Next → Type 0
-Inner-next (next.Char code c) = Unit
-Inner-next (next.Refused r) = Inner r
+abbrev pub Inner-next : Told (ℕ × ParserCursor) → Type 0
+Inner-next (Ok (code, c)) = Unit
+Inner-next (Err r) = Inner r
 
 next-in : (c : ParserCursor) (s : List ℕ) → Inner-next (next_in c s)
 unfolding next_in within

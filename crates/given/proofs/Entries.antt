@@ -1,4 +1,6 @@
 -- An entry that names no string is refused with one of 23 to 28; the refusals of its contents are 4 to 29. Assumes nothing.
+use Rattle.std.proofs.Common.{Ok, Err}
+use Rattle.strings.specs.declared.literal.Literal.{Literal}
 use Prim.Native.Nat.{ℕ}
 use mathlib.Core.Bool.{Bool, false, true}
 use mathlib.Core.List.{List}
@@ -10,21 +12,16 @@ use Rattle.text.specs.Judged.{place_fits}
 use Rattle.text.specs.Refusals.{Told}
 use Rattle.rows.specs.Rows.{room_of, entry_at}
 use Rattle.rows.specs.declared.Entry.{Entry}
-use Rattle.strings.specs.declared.literal.LiteralAnswer.{LiteralAnswer}
-use Rattle.strings.specs.declared.literal.LiteralAnswer.TheVariants.{Read, Refused}
 use Rattle.entries.specs.Contents.{by_named, contents_in, decoded_in}
 use Rattle.entries.specs.Named.{by_kind, inside_of, named_of, literal_of}
-use Rattle.entries.specs.declared.named.Named.{Named}
-use Rattle.entries.specs.declared.named.Named.TheVariants.{At}
-use Rattle.entries.specs.declared.named.Named.TheVariants as named
 use Rattle.given.specs.Given.{Between, within}
 use Rattle.given.proofs.Both.{both}
 use Rattle.given.proofs.Front.{Own-told, inner_own, wider}
 use Rattle.given.proofs.Strings.{Inner-literal, string_inner, byte_string_inner}
 
-abbrev pub Own-named : Named → Type 0
-Own-named (At bytes place) = Unit
-Own-named (named.Refused r) = Between 23 28 r
+abbrev pub Own-named : Told (Bool × ℕ) → Type 0
+Own-named (Ok (bytes, place)) = Unit
+Own-named (Err r) = Between 23 28 r
 
 by-kind : (kind place : ℕ) → Own-named (by_kind kind place)
 unfolding by_kind within
@@ -40,20 +37,20 @@ named_own text tape count entry =
     let room = room_of (length tape) in
     both Own-named (leb count entry) refl (both Own-named (ltb entry room) (inside text room count (entry_at tape entry)) refl)
 
-pub by-named : {A : Type 0} (n : Named) (own : Bool → ℕ → Told A) → Own-named n → ((bytes : Bool) (place : ℕ) → Own-told (own bytes place)) → Own-told (by_named n own)
-by-named (At bytes place) own h k = k bytes place
-by-named (named.Refused r) own h k = wider 23 28 4 29 r (omega arith) (omega arith) h
+pub by-named : {A : Type 0} (n : Told (Bool × ℕ)) (own : Bool → ℕ → Told A) → Own-named n → ((bytes : Bool) (place : ℕ) → Own-told (own bytes place)) → Own-told (by_named n own)
+by-named (Ok (bytes, place)) own h k = k bytes place
+by-named (Err r) own h k = wider 23 28 4 29 r (omega arith) (omega arith) h
 
 pub literal_inner : (bytes : Bool) (s : List ℕ) → Inner-literal (literal_of bytes s)
 literal_inner false s = string_inner s
 literal_inner true s = byte_string_inner s
 
-pub contents-in : (place : ℕ) (a : LiteralAnswer) → Inner-literal a → Own-told (contents_in place a)
+pub contents-in : (place : ℕ) (a : Told Literal) → Inner-literal a → Own-told (contents_in place a)
 unfolding within
-contents-in place (Read l) h = both Own-told l.escaped refl tt
-contents-in place (Refused r) h = inner_own r h
+contents-in place (Ok l) h = both Own-told l.escaped refl tt
+contents-in place (Err r) h = inner_own r h
 
-pub decoded-in : (place room : ℕ) (a : LiteralAnswer) → Inner-literal a → Own-told (decoded_in place room a)
+pub decoded-in : (place room : ℕ) (a : Told Literal) → Inner-literal a → Own-told (decoded_in place room a)
 unfolding within
-decoded-in place room (Read l) h = both Own-told (ltb room l.decoded) refl tt
-decoded-in place room (Refused r) h = inner_own r h
+decoded-in place room (Ok l) h = both Own-told (ltb room l.decoded) refl tt
+decoded-in place room (Err r) h = inner_own r h

@@ -1,31 +1,25 @@
 -- What each call answers of its own: behind its judgement of the text it refuses with 4 to 29, the walk also with 31, and where the place fits with 4 to 27.
 -- Assumes nothing.
+use Rattle.std.proofs.Common.{Ok, Err}
+use Rattle.structs.specs.declared.kinds.StructType.{StructType}
 use Prim.Native.Nat.{ℕ}
 use mathlib.Core.Bool.{Bool, ◌&&◌, cond}
 use mathlib.Core.List.{List}
 use mathlib.Core.Path.{refl}
 use lib.Dec.{lit≤, ltb}
 use lib.ListN.{drop, length}
-use Rattle.text.specs.Refusals.{Told, no_room, not_in_order, refused, unfit}
+use Rattle.text.specs.Refusals.{Told, no_room, not_in_order, unfit}
 use Rattle.cursor.specs.Skip.{skip_ws_of}
 use Rattle.cursor.specs.declared.ParserCursor.{ParserCursor}
-use Rattle.cursor.specs.declared.skip.Step.{Step}
-use Rattle.cursor.specs.declared.skip.Step.TheVariants as step
 use Rattle.entries.specs.Contents.{by_named, contents_in, decoded_in}
 use Rattle.entries.specs.Named.{literal_of, named_of}
 use Rattle.grammar.specs.Kinds.{kinds_of}
-use Rattle.grammar.specs.declared.ends.Verdict.{Verdict}
-use Rattle.grammar.specs.declared.ends.Verdict.TheVariants as verdict
 use Rattle.rows.specs.Order.{in_order}
 use Rattle.rows.specs.Rows.{room_of, entries_of}
 use Rattle.structs.specs.Kinds.{placed_kind}
 use Rattle.structs.specs.Structs.{struct_type_of}
 use Rattle.structs.specs.declared.kinds.NewtypeMode.{NewtypeMode}
 use Rattle.structs.specs.declared.kinds.TupleMode.{TupleMode}
-use Rattle.structs.specs.declared.kinds.StructAnswer.{StructAnswer}
-use Rattle.structs.specs.declared.kinds.StructAnswer.TheVariants as struct
-use Rattle.sarridok.specs.Skip.{told_skip}
-use Rattle.sarridok.specs.StructKind.{told_struct}
 use Rattle.fields.specs.Fields.{named_walk}
 use Rattle.fields.specs.Names.{name_at, raws_fit}
 use Rattle.sarridok.specs.Walked.{judged}
@@ -41,22 +35,22 @@ use Rattle.given.proofs.Walks.{Of-named, named_given, verdict_of_named}
 -- ---- calls at a place
 
 -- 28 stands in front of the call's own answer
-pub or_unfit : {A : Type 0} (fits : Bool) (own : Told A) → FourTo-told 27 own → Own-told (cond fits own (refused unfit))
+pub or_unfit : {A : Type 0} (fits : Bool) (own : Told A) → FourTo-told 27 own → Own-told (cond fits own (Err unfit))
 unfolding within
 or_unfit fits own h = both Own-told fits (higher_told 27 29 own (lit≤ tt) h) refl
 
-told_step : (a : Step) → Inner-step a → FourTo-told 27 (told_skip a)
-told_step (step.Moved c) h = tt
-told_step (step.Refused r) h = higher 21 27 r (lit≤ tt) h
+told_step : (a : Told ParserCursor) → Inner-step a → FourTo-told 27 (a)
+told_step (Ok c) h = tt
+told_step (Err r) h = higher 21 27 r (lit≤ tt) h
 
-pub skip_own : (text : List ℕ) (c : ParserCursor) → FourTo-told 27 (told_skip (skip_ws_of text c))
+pub skip_own : (text : List ℕ) (c : ParserCursor) → FourTo-told 27 ((skip_ws_of text c))
 skip_own text c = told_step (skip_ws_of text c) (skip_ws_inner text c)
 
-told-struct : (place : ℕ) (a : StructAnswer) → Inner-struct a → FourTo-told 27 (told_struct (placed_kind place a))
-told-struct place (struct.Kind k) h = tt
-told-struct place (struct.Refused r) h = higher 21 27 r (lit≤ tt) h
+told-struct : (place : ℕ) (a : Told StructType) → Inner-struct a → FourTo-told 27 ((placed_kind place a))
+told-struct place (Ok k) h = tt
+told-struct place (Err r) h = higher 21 27 r (lit≤ tt) h
 
-pub struct_own : (place : ℕ) (s : List ℕ) (newtype : NewtypeMode) (tuple : TupleMode) → FourTo-told 27 (told_struct (placed_kind place (struct_type_of s newtype tuple)))
+pub struct_own : (place : ℕ) (s : List ℕ) (newtype : NewtypeMode) (tuple : TupleMode) → FourTo-told 27 ((placed_kind place (struct_type_of s newtype tuple)))
 struct_own place s newtype tuple = told-struct place (struct_type_of s newtype tuple) (struct_type_inner s newtype tuple)
 
 -- ---- calls for an entry
@@ -73,14 +67,14 @@ decoded_own text tape count entry room =
 
 -- ---- the walk
 
-told_verdict : (v : Verdict) → Of-named v → Given-told (judged v)
-told_verdict verdict.Accepted h = tt
-told_verdict (verdict.Refused r) h = named_given r h
+told_verdict : (v : Told Unit) → Of-named v → Given-told (judged v)
+told_verdict (Ok tt) h = tt
+told_verdict (Err r) h = named_given r h
 
 pub walk_own : (text tape : List ℕ) (count limit links : ℕ)
-    → Given-told (cond (ltb 128 limit) (refused unfit) (cond (ltb (room_of (length tape)) count) (refused not_in_order)
+    → Given-told (cond (ltb 128 limit) (Err unfit) (cond (ltb (room_of (length tape)) count) (Err not_in_order)
     (cond (in_order (entries_of count tape) (length text) && raws_fit text (entries_of count tape))
-    (cond (ltb links count) (refused no_room) (judged (named_walk (name_at text tape) (kinds_of (entries_of count tape)) limit))) (refused not_in_order))))
+    (cond (ltb links count) (Err no_room) (judged (named_walk (name_at text tape) (kinds_of (entries_of count tape)) limit))) (Err not_in_order))))
 unfolding given within
 walk_own text tape count limit links =
     let v = named_walk (name_at text tape) (kinds_of (entries_of count tape)) limit in

@@ -1,18 +1,17 @@
 -- The own refusals of read and repair are 4 to 29. Assumes nothing.
+use Rattle.std.proofs.Common.{Ok, Err}
 use Prim.Native.Nat.{ℕ, ◌+◌, ◌-◌}
 use mathlib.Core.List.{List}
 use mathlib.Core.Path.{refl}
 use lib.Dec.{lit≤, ltb}
 use lib.ListN.{drop, length}
-use Rattle.text.specs.Refusals.{Told, accepted, refused}
+use Rattle.text.specs.Refusals.{Told}
 use Rattle.rows.specs.Rows.{room_of, entries_of}
 use Rattle.rows.specs.declared.Entry.{Entry}
 use Rattle.reading.specs.Readings.{Reading, complete, broken, entry, read_from, counted}
 use Rattle.tokens.specs.Ron.{ron_token}
 use Rattle.read.specs.Read.{reading_of, room_for, fitted}
 use Rattle.repair.specs.Repair.{repair_fits, new_end, kept_of, seek_of, joins, scan_of, resume_at, found_of, answer_by, repair_answer_of}
-use Rattle.repair.specs.declared.join.Scan.{Scan}
-use Rattle.repair.specs.declared.join.Scan.TheVariants.{Found, Refused}
 use Rattle.given.specs.Given.{Inner, within}
 use Rattle.given.proofs.Both.{both}
 use Rattle.given.proofs.Front.{Own-told, higher_told, inner_own}
@@ -27,8 +26,8 @@ read-from text at = reading_inner ron_token ron_inner at (drop at text)
 
 room-for : (room : ℕ) (a : Told ℕ) → Own-told a → Own-told (room_for room a)
 unfolding within
-room-for room (accepted n) h = both Own-told (ltb room n) refl tt
-room-for room (refused r) h = h
+room-for room (Ok n) h = both Own-told (ltb room n) refl tt
+room-for room (Err r) h = h
 
 pub fitted_own : (room : ℕ) (text : List ℕ) → Own-told (fitted room (reading_of text))
 fitted_own room text =
@@ -37,9 +36,9 @@ fitted_own room text =
 
 -- ---- repair
 
-abbrev Inner-scan : Scan → Type 0
-Inner-scan (Found m i) = Unit
-Inner-scan (Refused r) = Inner r
+abbrev Inner-scan : Told (ℕ × ℕ) → Type 0
+Inner-scan (Ok (m, i)) = Unit
+Inner-scan (Err r) = Inner r
 
 scan : (old : List Entry) (b e n : ℕ) (r : Reading) → Inner-reading r → Inner-scan (scan_of old b e n r)
 unfolding scan_of
@@ -47,10 +46,10 @@ scan old b e n complete h = tt
 scan old b e n (broken r) h = h
 scan old b e n (entry x r) h = both Inner-scan (joins old b e x.gap x.start (seek_of old b e x.start)) tt (scan old b e (n + 1) r h)
 
-answer-by : (room count j : ℕ) (a : Scan) → Inner-scan a → Own-told (answer_by room count j a)
+answer-by : (room count j : ℕ) (a : Told (ℕ × ℕ)) → Inner-scan a → Own-told (answer_by room count j a)
 unfolding within
-answer-by room count j (Refused r) h = inner_own r h
-answer-by room count j (Found m i) h = both Own-told (ltb room (j + m + (count - i))) refl tt
+answer-by room count j (Err r) h = inner_own r h
+answer-by room count j (Ok (m, i)) h = both Own-told (ltb room (j + m + (count - i))) refl tt
 
 pub repaired_own : (tape : List ℕ) (count o a b : ℕ) (text : List ℕ) → Own-told (repair_answer_of tape count o a b text)
 unfolding repair_answer_of within

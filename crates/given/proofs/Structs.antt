@@ -1,4 +1,7 @@
 -- The refusals of struct kinds are inner. Assumes nothing.
+use Rattle.std.proofs.Common.{Ok, Err}
+use Rattle.text.specs.Refusals.{Told}
+use Rattle.structs.specs.declared.kinds.StructType.{StructType}
 use Prim.Native.Nat.{ℕ, ◌+◌}
 use mathlib.Core.List.{List}
 use lib.Dec.{eqb}
@@ -13,15 +16,12 @@ use Rattle.structs.specs.declared.kinds.NewtypeMode.{NewtypeMode}
 use Rattle.structs.specs.declared.kinds.NewtypeMode.TheVariants.{NoParensMeanUnit, InsideNewtype}
 use Rattle.structs.specs.declared.kinds.TupleMode.{TupleMode}
 use Rattle.structs.specs.declared.kinds.TupleMode.TheVariants.{ImpreciseTupleOrNewtype, DifferentiateNewtype}
-use Rattle.structs.specs.declared.kinds.StructAnswer.{StructAnswer}
-use Rattle.structs.specs.declared.passes.Passed.{Passed}
-use Rattle.structs.specs.declared.passes.Passed.TheVariants.{To, Refused}
 use Rattle.given.proofs.Both.{both}
 use Rattle.given.proofs.Scans.{Inner-passed, past-gap, Inner-struct, after-comma, placed, scan_inner}
 
-reach : (p : Passed) (go : ℕ → StructAnswer) → Inner-passed p → ((i : ℕ) → Inner-struct (go i)) → Inner-struct (reached p go)
-reach (To i) go h k = k i
-reach (Refused r) go h k = h
+reach : (p : Told ℕ) (go : ℕ → Told StructType) → Inner-passed p → ((i : ℕ) → Inner-struct (go i)) → Inner-struct (reached p go)
+reach (Ok i) go h k = k i
+reach (Err r) go h k = h
 
 undecided : (tuple : TupleMode) (s : List ℕ) (at : ℕ) → Inner-struct (undecided_of tuple s at)
 unfolding scan_of
@@ -37,7 +37,7 @@ decide tuple s i =
 
 after-name : (tuple : TupleMode) (s : List ℕ) (at : ℕ) → Inner-struct (after_name tuple s at)
 unfolding after_name
-after-name tuple s at = reach (past_gap s (To at)) (decided tuple s) (past-gap s (To at) tt) (decide tuple s)
+after-name tuple s at = reach (past_gap s (Ok at)) (decided tuple s) (past-gap s (Ok at) tt) (decide tuple s)
 
 by-name : (x : Identifier) (tuple : TupleMode) (s : List ℕ) (at : ℕ) → Inner-struct (by_name x tuple s at)
 by-name name.Missing tuple s at = undecided tuple s at
@@ -55,5 +55,5 @@ unless-empty tuple s i = both Inner-struct (eqb (get_or s i 0) 0x29) tt (content
 pub struct_type_inner : (s : List ℕ) (newtype : NewtypeMode) (tuple : TupleMode) → Inner-struct (struct_type_of s newtype tuple)
 unfolding struct_type_of parenthesized inside_newtype
 struct_type_inner s NoParensMeanUnit tuple =
-    both Inner-struct (eqb (get_or s 0 0) 0x28) (reach (past_gap s (To 1)) (unless_empty tuple s) (past-gap s (To 1) tt) (unless-empty tuple s)) tt
-struct_type_inner s InsideNewtype tuple = reach (past_gap s (To 0)) (inside_brackets tuple s) (past-gap s (To 0) tt) (contents tuple s)
+    both Inner-struct (eqb (get_or s 0 0) 0x28) (reach (past_gap s (Ok 1)) (unless_empty tuple s) (past-gap s (Ok 1) tt) (unless-empty tuple s)) tt
+struct_type_inner s InsideNewtype tuple = reach (past_gap s (Ok 0)) (inside_brackets tuple s) (past-gap s (Ok 0) tt) (contents tuple s)

@@ -1,4 +1,6 @@
 -- The refusals of a typed read at a place are 4 to 27. Assumes nothing.
+use Rattle.std.proofs.Common.{Ok, Err}
+use Rattle.text.specs.Refusals.{Told}
 use Prim.Native.Nat.{ℕ}
 use mathlib.Core.Bool.{not}
 use mathlib.Core.List.{List, [], ◌∷◌}
@@ -10,8 +12,6 @@ use Rattle.integers.specs.declared.integer.Integer.{Integer}
 use Rattle.integers.specs.declared.integer.Integer.TheVariants as integer
 use Rattle.integers.specs.declared.width.Width.{Width}
 use Rattle.strings.specs.Chars.{byte_of}
-use Rattle.strings.specs.declared.chars.ByteAnswer.{ByteAnswer}
-use Rattle.strings.specs.declared.chars.ByteAnswer.TheVariants as byte
 use Rattle.sarridok.specs.Typed.{byte_as, integer_at, placed_at, told_integer}
 use Rattle.given.specs.Given.{within}
 use Rattle.given.proofs.Both.{both}
@@ -19,9 +19,9 @@ use Rattle.given.proofs.Chars.{Inner-byte, byte_inner}
 use Rattle.given.proofs.Front.{FourTo-told, higher}
 use Rattle.given.proofs.Integers.{Inner-integer, typed_inner}
 
-byte-as : (width : Width) (a : ByteAnswer) → Inner-byte a → Inner-integer (byte_as width a)
-byte-as width (byte.Read n b) h = both Inner-integer (not (eqb (code_of width) 5)) tt tt
-byte-as width (byte.Refused r) h = h
+byte-as : (width : Width) (a : Told (ℕ × ℕ)) → Inner-byte a → Inner-integer (byte_as width a)
+byte-as width (Ok (n, b)) h = both Inner-integer (not (eqb (code_of width) 5)) tt tt
+byte-as width (Err r) h = h
 
 at_inner : (width : Width) (s : List ℕ) → Inner-integer (integer_at width s)
 unfolding integer_at

@@ -1,4 +1,6 @@
 -- The refusals of the grammar's walk are 24 to 26, and with the names of fields also 31. Assumes nothing.
+use Rattle.std.proofs.Common.{Ok, Err, Some, None, Option}
+use Rattle.text.specs.Refusals.{Told}
 use Prim.Native.Nat.{ℕ, ◌+◌, ◌<◌}
 use native.Mathlib.Omega.{arith}
 use mathlib.Core.List.{List, [], ◌∷◌}
@@ -15,21 +17,17 @@ use Rattle.grammar.specs.declared.states.Want.{Want}
 use Rattle.grammar.specs.declared.states.Want.TheVariants.{Start, Must, Item, First, FirstName, Named, Behind, Field, FieldName}
 use Rattle.grammar.specs.declared.states.Move.{Move}
 use Rattle.grammar.specs.declared.states.Move.TheVariants.{Stay, Push, Pop, Bad}
-use Rattle.grammar.specs.declared.ends.Verdict.{Verdict}
-use Rattle.grammar.specs.declared.ends.Verdict.TheVariants.{Accepted, Refused}
 use Rattle.text.proofs.Choices.{either}
 use Rattle.text.specs.Refusals.{repeated_field}
 use Rattle.text.specs.declared.refusal.Refusal.{Refusal}
 use Rattle.fields.specs.Fields.{again_of, by_again, named_walk}
-use Rattle.fields.specs.declared.again.Again.{Again}
-use Rattle.fields.specs.declared.again.Again.TheVariants.{Nowhere, At}
 use Rattle.given.specs.Given.{Between, Given, given, within}
 use Rattle.given.proofs.Both.{both}
 use Rattle.given.proofs.Front.{four_given, number-in, wider}
 
-abbrev pub Of-walk : Verdict → Type 0
-Of-walk Accepted = Unit
-Of-walk (Refused r) = Between 24 26 r
+abbrev pub Of-walk : Told Unit → Type 0
+Of-walk (Ok tt) = Unit
+Of-walk (Err r) = Between 24 26 r
 
 end : (f : Frame) (i : ℕ) → Of-walk (ended f i)
 unfolding within
@@ -52,12 +50,12 @@ finished Behind f i = end f i
 finished Field f i = refl
 finished FieldName f i = refl
 
-pop : (σ : List Frame) (on : Frame → List Frame → Verdict) (i : ℕ) → ((g : Frame) (τ : List Frame) → Of-walk (on g τ)) → Of-walk (popped σ on i)
+pop : (σ : List Frame) (on : Frame → List Frame → Told Unit) (i : ℕ) → ((g : Frame) (τ : List Frame) → Of-walk (on g τ)) → Of-walk (popped σ on i)
 unfolding within
 pop [] on i h = refl
 pop (g ∷ σ) on i h = h g σ
 
-by-move : (m : Move) (limit : ℕ) (f : Frame) (σ : List Frame) (i : ℕ) (on : Want → Frame → List Frame → Verdict)
+by-move : (m : Move) (limit : ℕ) (f : Frame) (σ : List Frame) (i : ℕ) (on : Want → Frame → List Frame → Told Unit)
     → ((w : Want) (g : Frame) (τ : List Frame) → Of-walk (on w g τ)) → Of-walk (by_move m limit f σ i on)
 unfolding within
 by-move (Stay w g) limit f σ i on h = h w g σ
@@ -79,15 +77,15 @@ verdict_of_walk ks limit = checked ks limit Start Top [] 0
 abbrev pub Named-refusal : Refusal → Type 0
 Named-refusal r = Between 24 26 r ⊎ (r ≡ repeated_field r.place)
 
-abbrev pub Of-named : Verdict → Type 0
-Of-named Accepted = Unit
-Of-named (Refused r) = Named-refusal r
+abbrev pub Of-named : Told Unit → Type 0
+Of-named (Ok tt) = Unit
+Of-named (Err r) = Named-refusal r
 
-by-again : (a : Again) (v : Verdict) → Of-walk v → Of-named (by_again a v)
-by-again Nowhere Accepted h = tt
-by-again Nowhere (Refused r) h = inl h
-by-again (At j) Accepted h = inr refl
-by-again (At j) (Refused r) h = both Of-named (ltb j r.place) (inr refl) (inl h)
+by-again : (a : Option ℕ) (v : Told Unit) → Of-walk v → Of-named (by_again a v)
+by-again None (Ok tt) h = tt
+by-again None (Err r) h = inl h
+by-again (Some j) (Ok tt) h = inr refl
+by-again (Some j) (Err r) h = both Of-named (ltb j r.place) (inr refl) (inl h)
 
 pub verdict_of_named : (nm : ℕ → List ℕ) (ks : List Kind) (limit : ℕ) → Of-named (named_walk nm ks limit)
 verdict_of_named nm ks limit = by-again (again_of nm ks) (walk_of ks limit) (verdict_of_walk ks limit)

@@ -1,4 +1,6 @@
 -- The walk accepts exactly the entries that are a document within the limit. Assumes nothing.
+use Rattle.std.proofs.Common.{Ok, Err}
+use Rattle.text.specs.Refusals.{Told}
 use Prim.Native.Nat.{ℕ, suc, ◌≤◌}
 use native.Mathlib.Omega.{arith}
 use mathlib.Core.Path.{◌≡◌, ap}
@@ -12,8 +14,6 @@ use Rattle.grammar.proofs.Complete.{complete}
 use Rattle.grammar.specs.declared.kinds.Kind.{Kind}
 use Rattle.grammar.specs.declared.states.Frame.TheVariants.{Top}
 use Rattle.grammar.specs.declared.states.Want.TheVariants.{Start}
-use Rattle.grammar.specs.declared.ends.Verdict.{Verdict}
-use Rattle.grammar.specs.declared.ends.Verdict.TheVariants.{Accepted, Refused}
 
 -- a tree that fits a limit fits a higher one
 mutual
@@ -48,22 +48,22 @@ pub document_more : (ks : List Kind) (l m : ℕ) → l ≤ m → Document l ks �
 document_more ks l m le d = record { attrs = d.attrs; tree = d.tree; fits = fits_more d.tree l m 0 le d.fits; written = d.written }
 
 -- the two answers differ
-pub not_refused : {X : Type 0} (n j : ℕ) → Refused (refusal n j) ≡ Accepted → X
+pub not_refused : {X : Type 0} (n j : ℕ) → ◌≡◌ {A = Told Unit} (Err (refusal n j)) (Ok tt) → X
 not_refused n j e = let z : ◌≡◌ {A = ℕ} 0 1 = cc in absurd (omega arith)
 
 -- what is a document within the limit is accepted, and what is accepted is one
-pub accepts : (ks : List Kind) (limit : ℕ) → Document limit ks → walk_of ks limit ≡ Accepted
+pub accepts : (ks : List Kind) (limit : ℕ) → Document limit ks → walk_of ks limit ≡ Ok tt
 accepts ks limit d = complete limit ks d
 
-pub accepted_is : (ks : List Kind) (limit : ℕ) → walk_of ks limit ≡ Accepted → Document limit ks
+pub accepted_is : (ks : List Kind) (limit : ℕ) → walk_of ks limit ≡ Ok tt → Document limit ks
 accepted_is ks limit e = go (walk_of ks limit) (answer limit ks) e
   where
-    go : (a : Verdict) → Outcome limit Start Top [] (λ k. k) ks 0 a → a ≡ Accepted → Document limit ks
+    go : (a : Told Unit) → Outcome limit Start Top [] (λ k. k) ks 0 a → a ≡ Ok tt → Document limit ks
     go a (whole d q) e = d
     go a (wrong p k b j x h v q) e = not_refused 25 j e
     go a (deep p k b j x h v q L le y) e = not_refused 24 j e
     go a (early j h v q) e = not_refused 26 j e
 
 -- two refusals that are equal have the same number and place
-pub refusals : (n m j i : ℕ) → Refused (refusal n j) ≡ Refused (refusal m i) → (n ≡ m) × (j ≡ i)
+pub refusals : (n m j i : ℕ) → ◌≡◌ {A = Told Unit} (Err (refusal n j)) (Err (refusal m i)) → (n ≡ m) × (j ≡ i)
 refusals n m j i e = let r : refusal n j ≡ refusal m i = cc in (ap (λ (x : Refusal). x.number) r, ap (λ (x : Refusal). x.place) r)

@@ -1,4 +1,6 @@
 -- Every document within the limit is accepted. Assumes nothing.
+use Rattle.std.proofs.Common.{Ok, Err}
+use Rattle.text.specs.Refusals.{Told}
 use Prim.Native.Nat.{ℕ, zero, suc, ◌+◌, ◌<◌}
 use mathlib.Core.Path.{◌≡◌, refl, ap, ◌∙◌}
 use mathlib.Core.Bool.{cond}
@@ -15,8 +17,6 @@ use Rattle.grammar.specs.declared.kinds.Kind.TheVariants.{CloseRound, CloseSquar
 use Rattle.grammar.specs.declared.states.Frame.{Frame}
 use Rattle.grammar.specs.declared.states.Frame.TheVariants.{Top, Square, Tuple, Struct, Key, Pair}
 use Rattle.grammar.specs.declared.states.Want.TheVariants.{Start, Must, Item, First, FirstName, Named, Behind, Field}
-use Rattle.grammar.specs.declared.ends.Verdict.{Verdict}
-use Rattle.grammar.specs.declared.ends.Verdict.TheVariants.{Accepted, Refused}
 
 -- what may follow a value
 data Follows : List Kind → Type 0 where
@@ -77,7 +77,7 @@ module _ (lim : ℕ) where
   first_must (called r) k e f σ i = refl
 
   -- an opening bracket within the limit
-  opens : (σ : List Frame) (i : ℕ) (a b : Verdict) → length σ < lim → a ≡ b → cond (ltb (length σ) lim) a (Refused (depth_limit_passed i)) ≡ b
+  opens : (σ : List Frame) (i : ℕ) (a b : Told Unit) → length σ < lim → a ≡ b → cond (ltb (length σ) lim) a (Err (depth_limit_passed i)) ≡ b
   opens σ i a b h e = rw (lt-ltb (length σ) lim h) e
 
   mutual
@@ -149,14 +149,14 @@ module _ (lim : ℕ) where
         ∙ must b (Comma ∷ pairs ps (CloseCurly ∷ k)) Pair (f ∷ σ) (behind a i + 1) h.1 f_comma
         ∙ curly ps k f σ (behind b (behind a i + 1) + 1) h.2
 
-  attrs_in : (n : ℕ) (k : List Kind) (i : ℕ) → ((j : ℕ) → check k lim Start Top [] j ≡ Accepted) → check (attributes n k) lim Start Top [] i ≡ Accepted
+  attrs_in : (n : ℕ) (k : List Kind) (i : ℕ) → ((j : ℕ) → check k lim Start Top [] j ≡ Ok tt) → check (attributes n k) lim Start Top [] i ≡ Ok tt
   unfolding check
   attrs_in zero k i h = h i
   attrs_in (suc n) k i h = attrs_in n k (i + 1) h
 
-  tree_in : (v : Value) (j : ℕ) → Fits lim v 0 → check (value v []) lim Start Top [] j ≡ Accepted
+  tree_in : (v : Value) (j : ℕ) → Fits lim v 0 → check (value v []) lim Start Top [] j ≡ Ok tt
   unfolding check
   tree_in v j h = start_must v [] Top [] j ∙ must v [] Top [] j h f_end
 
-  pub complete : (ks : List Kind) → Document lim ks → check ks lim Start Top [] 0 ≡ Accepted
+  pub complete : (ks : List Kind) → Document lim ks → check ks lim Start Top [] 0 ≡ Ok tt
   complete ks d = ap (λ (l : List Kind). check l lim Start Top [] 0) d.written ∙ attrs_in d.attrs (value d.tree []) 0 (λ j. tree_in d.tree j d.fits)

@@ -1,4 +1,5 @@
 -- Behind an opening bracket something must come: a tape that ends there ends early. Assumes nothing.
+use Rattle.std.proofs.Common.{Err}
 use Prim.Native.Nat.{ℕ}
 use mathlib.Core.Path.{◌≡◌, refl, subst}
 use mathlib.Core.List.{List, []}
@@ -13,12 +14,11 @@ use Rattle.grammar.specs.declared.states.Want.{Want}
 use Rattle.grammar.specs.declared.states.Want.TheVariants.{Start, Must, Item, First, FirstName, Named, Behind, Field, FieldName}
 use Rattle.grammar.specs.declared.states.Move.{Move}
 use Rattle.grammar.specs.declared.states.Move.TheVariants.{Stay, Push, Pop, Bad}
-use Rattle.grammar.specs.declared.ends.Verdict.TheVariants.{Refused}
 
 -- behind an opening bracket something must come
 abbrev Early : Move → Type 0
 Early (Stay w g) = Unit {0}
-Early (Push w g) = (j : ℕ) → finish w g j ≡ Refused (tape_ends_early j)
+Early (Push w g) = (j : ℕ) → finish w g j ≡ Err (tape_ends_early j)
 Early Pop = Unit {0}
 Early Bad = Unit {0}
 
@@ -198,6 +198,6 @@ early_step Behind k f = e_behind_of k f
 early_step Field k f = e_field_of k f
 early_step FieldName k f = e_field_name_of k f
 
-pub opened : (w : Want) (k : Kind) (f : Frame) (w' : Want) (g : Frame) → step_of w k f ≡ Push w' g → (L : ℕ) (τ : List Frame) (j : ℕ) → check [] L w' g τ j ≡ Refused (tape_ends_early j)
+pub opened : (w : Want) (k : Kind) (f : Frame) (w' : Want) (g : Frame) → step_of w k f ≡ Push w' g → (L : ℕ) (τ : List Frame) (j : ℕ) → check [] L w' g τ j ≡ Err (tape_ends_early j)
 unfolding check
 opened w k f w' g e L τ j = subst (λ (m : Move). Early m) e (early_step w k f) j

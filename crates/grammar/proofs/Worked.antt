@@ -1,4 +1,6 @@
 -- The corners of module 10, computed from the definition. Assumes nothing.
+use Rattle.std.proofs.Common.{Ok, Err}
+use Rattle.text.specs.Refusals.{Told}
 use Prim.Native.Nat.{ℕ, zero, suc}
 use mathlib.Core.Path.{◌≡◌, refl}
 use mathlib.Core.List.{List, [], ◌∷◌}
@@ -6,18 +8,16 @@ use Rattle.text.specs.Refusals.{depth_limit_passed, not_allowed_here, tape_ends_
 use Rattle.grammar.specs.Walk.{check, link, walk_of, linked_of}
 use Rattle.grammar.specs.declared.kinds.Kind.{Kind}
 use Rattle.grammar.specs.declared.kinds.Kind.TheVariants.{OpenRound, CloseRound, OpenSquare, CloseSquare, OpenCurly, CloseCurly, Comma, Colon, Name, Scalar, Attribute}
-use Rattle.grammar.specs.declared.ends.Verdict.{Verdict}
-use Rattle.grammar.specs.declared.ends.Verdict.TheVariants.{Accepted, Refused}
 
 -- the answers, short
-abbrev at25 : ℕ → Verdict
-at25 i = Refused (not_allowed_here i)
+abbrev at25 : ℕ → Told Unit
+at25 i = Err (not_allowed_here i)
 
-abbrev at24 : ℕ → Verdict
-at24 i = Refused (depth_limit_passed i)
+abbrev at24 : ℕ → Told Unit
+at24 i = Err (depth_limit_passed i)
 
-abbrev at26 : ℕ → Verdict
-at26 i = Refused (tape_ends_early i)
+abbrev at26 : ℕ → Told Unit
+at26 i = Err (tape_ends_early i)
 
 -- nothing, attributes only; an attribute anywhere but in front
 -- no entry
@@ -32,7 +32,7 @@ nothing_there :
     ∷ walk_of (Scalar ∷ Attribute ∷ []) 128
     ∷ walk_of (OpenSquare ∷ Attribute ∷ Scalar ∷ CloseSquare ∷ []) 128
     ∷ []
-    ≡ at26 0 ∷ at26 1 ∷ Accepted ∷ at25 1 ∷ at25 1 ∷ []
+    ≡ at26 0 ∷ at26 1 ∷ Ok tt ∷ at25 1 ∷ at25 1 ∷ []
 unfolding check
 nothing_there = refl
 
@@ -66,7 +66,7 @@ behind_a_name :
     ∷ walk_of (Scalar ∷ OpenRound ∷ CloseRound ∷ []) 128
     ∷ walk_of (Name ∷ OpenRound ∷ CloseRound ∷ []) 128
     ∷ []
-    ≡ at25 1 ∷ at25 1 ∷ at25 1 ∷ Accepted ∷ []
+    ≡ at25 1 ∷ at25 1 ∷ at25 1 ∷ Ok tt ∷ []
 unfolding check
 behind_a_name = refl
 
@@ -95,7 +95,7 @@ commas :
     ∷ walk_of (OpenSquare ∷ Scalar ∷ Comma ∷ Comma ∷ CloseSquare ∷ []) 128
     ∷ walk_of (OpenSquare ∷ Scalar ∷ Scalar ∷ CloseSquare ∷ []) 128
     ∷ []
-    ≡ Accepted ∷ Accepted ∷ Accepted ∷ Accepted ∷ Accepted ∷ Accepted ∷ Accepted ∷ at25 1 ∷ at25 2 ∷ at25 3 ∷ at25 2 ∷ []
+    ≡ Ok tt ∷ Ok tt ∷ Ok tt ∷ Ok tt ∷ Ok tt ∷ Ok tt ∷ Ok tt ∷ at25 1 ∷ at25 2 ∷ at25 3 ∷ at25 2 ∷ []
 unfolding check
 commas = refl
 
@@ -130,7 +130,7 @@ rounds_hold :
     ∷ walk_of (OpenRound ∷ Scalar ∷ Colon ∷ Scalar ∷ CloseRound ∷ []) 128
     ∷ walk_of (OpenRound ∷ Name ∷ Colon ∷ Scalar ∷ CloseRound ∷ []) 128
     ∷ []
-    ≡ Accepted ∷ Accepted ∷ Accepted ∷ Accepted ∷ at25 6 ∷ at25 5 ∷ at25 6 ∷ at25 4 ∷ at25 2 ∷ at25 5 ∷ at25 3 ∷ at25 1 ∷ at25 2 ∷ Accepted ∷ []
+    ≡ Ok tt ∷ Ok tt ∷ Ok tt ∷ Ok tt ∷ at25 6 ∷ at25 5 ∷ at25 6 ∷ at25 4 ∷ at25 2 ∷ at25 5 ∷ at25 3 ∷ at25 1 ∷ at25 2 ∷ Ok tt ∷ []
 unfolding check
 rounds_hold = refl
 
@@ -155,7 +155,7 @@ curlies_hold :
     ∷ walk_of (OpenRound ∷ Scalar ∷ CloseCurly ∷ []) 128
     ∷ walk_of (OpenCurly ∷ Scalar ∷ Colon ∷ Scalar ∷ CloseSquare ∷ []) 128
     ∷ []
-    ≡ Accepted ∷ Accepted ∷ at25 2 ∷ at25 3 ∷ at25 6 ∷ at25 2 ∷ at25 2 ∷ at25 2 ∷ at25 4 ∷ []
+    ≡ Ok tt ∷ Ok tt ∷ at25 2 ∷ at25 3 ∷ at25 6 ∷ at25 2 ∷ at25 2 ∷ at25 2 ∷ at25 4 ∷ []
 unfolding check
 curlies_hold = refl
 
@@ -174,7 +174,7 @@ limits :
     ∷ walk_of (OpenSquare ∷ OpenSquare ∷ Scalar ∷ CloseSquare ∷ CloseSquare ∷ []) 1
     ∷ walk_of (OpenSquare ∷ Scalar ∷ OpenSquare ∷ CloseSquare ∷ CloseSquare ∷ []) 1
     ∷ []
-    ≡ at24 0 ∷ at24 1 ∷ at25 1 ∷ Accepted ∷ at24 1 ∷ at25 2 ∷ []
+    ≡ at24 0 ∷ at24 1 ∷ at25 1 ∷ Ok tt ∷ at24 1 ∷ at25 2 ∷ []
 unfolding check
 limits = refl
 
@@ -185,7 +185,7 @@ many (suc n) k ks = k ∷ many n k ks
 
 -- 128 deep is accepted, 129 is not
 deepest : walk_of (many 128 OpenSquare (many 128 CloseSquare [])) 128 ∷ walk_of (many 129 OpenSquare (many 129 CloseSquare [])) 128 ∷ walk_of (many 128 OpenSquare []) 128 ∷ []
-    ≡ Accepted ∷ at24 128 ∷ at26 128 ∷ []
+    ≡ Ok tt ∷ at24 128 ∷ at26 128 ∷ []
 unfolding check many
 deepest = refl
 

@@ -1,31 +1,24 @@
 // What the end of the tape says.
+ghost use Rattle.std.specs.Prelude.{Err};
 ghost use Rattle.std.specs.Prelude.{◌≡◌};
 ghost use Rattle.text.specs.Refusals.{tape_ends_early};
-ghost use Rattle.grammar.specs.declared.ends.Verdict.TheVariants.{Refused};
 ghost use Rattle.grammar.specs.Walk.{ended, finish};
 
 use crate::states::{Frame, Want};
 use text::Refusal;
 
-// The entries are a document, or the refusal.
-#[derive(Clone, Copy)]
-pub enum Verdict {
-    Accepted,
-    Refused(Refusal),
-}
-
-fn early(i: usize) -> Verdict
-    ensures { result ≡ Refused (tape_ends_early i) }
+fn early(i: usize) -> Result<(), Refusal>
+    ensures { result ≡ Err (tape_ends_early i) }
 {
-    Verdict::Refused(Refusal::tape_ends_early(i))
+    Err(Refusal::tape_ends_early(i))
 }
 
 // Behind the last value nothing may be open.
-fn at_end(inside: Frame, i: usize) -> Verdict
+fn at_end(inside: Frame, i: usize) -> Result<(), Refusal>
     ensures { result ≡ ended inside i }
 {
     match inside {
-        Frame::Top => Verdict::Accepted,
+        Frame::Top => Ok(()),
         Frame::Square => early(i),
         Frame::Tuple => early(i),
         Frame::Struct => early(i),
@@ -35,7 +28,7 @@ fn at_end(inside: Frame, i: usize) -> Verdict
 }
 
 // Where something is still wanted, the tape ends early.
-pub fn finished(want: Want, inside: Frame, i: usize) -> Verdict
+pub fn finished(want: Want, inside: Frame, i: usize) -> Result<(), Refusal>
     ensures { result ≡ finish want inside i }
 {
     match want {

@@ -1,4 +1,5 @@
 -- Laws of hex digits. Assumes nothing.
+use Rattle.std.proofs.Common.{Some, None, Option}
 use Prim.Native.Nat.{ℕ, ◌+◌, ◌-◌, ◌*◌, ◌/◌, ◌%◌, ◌≤◌, ◌<◌}
 use native.Mathlib.Omega.{arith}
 use mathlib.Core.Bool.{Bool, true, false}
@@ -8,7 +9,6 @@ use borrow.Author.Tests.{lt-ltb, ltb-false, ltb-true}
 use Rattle.hexes.proofs.Bits.{bits, fits}
 use Rattle.hexes.specs.inner.Bits.{among}
 use Rattle.hexes.specs.Hex.{hex_answer, hex_of}
-use Rattle.hexes.specs.declared.HexAnswer.TheVariants.{Digit, NoDigit}
 use Rattle.text.proofs.Choices.{bool_cases, cond_cases, either, lt_or_le}
 use Rattle.text.proofs.ClassLaws.{above, below, inside, within_true}
 use Rattle.text.specs.Classes.{digit, hex_digit, within}
@@ -62,17 +62,17 @@ hex_ascii c n = either (lt_or_le c 0x80) (λ h. h) (λ h. absurd (n (hex_none c 
 -- ---- what an answer says of the byte
 
 module _ (c : ℕ) where
-  pub digit_value : (k : ℕ) → hex_answer c ≡ Digit k → k ≡ hex_of c
-  digit_value k e = either (bool_cases (hex_digit c)) (λ t. let z : Digit (hex_of c) ≡ Digit k = rw t at e in cc) (λ n. let z : NoDigit ≡ Digit k = rw n at e in cc)
+  pub digit_value : (k : ℕ) → hex_answer c ≡ Some k → k ≡ hex_of c
+  digit_value k e = either (bool_cases (hex_digit c)) (λ t. let z : ◌≡◌ {A = Option ℕ} (Some (hex_of c)) (Some k) = rw t at e in cc) (λ n. let z : ◌≡◌ {A = Option ℕ} (None) (Some k) = rw n at e in cc)
 
-  pub digit_lt : (k : ℕ) → hex_answer c ≡ Digit k → k < 16
-  digit_lt k e = either (bool_cases (hex_digit c)) (λ t. omega (arith, digit_value k e, ltb-true (hex_of c) 16 (sym (hex_class c) ∙ t))) (λ n. let z : NoDigit ≡ Digit k = rw n at e in let q : ◌≡◌ {A = ℕ} 0 1 = cc in absurd (omega arith))
+  pub digit_lt : (k : ℕ) → hex_answer c ≡ Some k → k < 16
+  digit_lt k e = either (bool_cases (hex_digit c)) (λ t. omega (arith, digit_value k e, ltb-true (hex_of c) 16 (sym (hex_class c) ∙ t))) (λ n. let z : ◌≡◌ {A = Option ℕ} (None) (Some k) = rw n at e in let q : ◌≡◌ {A = ℕ} 0 1 = cc in absurd (omega arith))
 
-  pub digit_some : (k : ℕ) → hex_answer c ≡ Digit k → hex_of c ≡ 16 → ⊥
+  pub digit_some : (k : ℕ) → hex_answer c ≡ Some k → hex_of c ≡ 16 → ⊥
   digit_some k e z = omega (arith, z, digit_value k e, digit_lt k e)
 
-  pub no_digit : hex_answer c ≡ NoDigit → hex_of c ≡ 16
-  no_digit e = either (bool_cases (hex_digit c)) (λ t. let z : Digit (hex_of c) ≡ NoDigit = rw t at e in cc) (hex_none c)
+  pub no_digit : hex_answer c ≡ None → hex_of c ≡ 16
+  no_digit e = either (bool_cases (hex_digit c)) (λ t. let z : ◌≡◌ {A = Option ℕ} (Some (hex_of c)) (None) = rw t at e in cc) (hex_none c)
 
 -- ---- the classes by their bits
 

@@ -1,8 +1,7 @@
 -- Hex digits (document 01): "Integer characters: hex digits, `_`", "`\u{}` takes 1 to 6 hex digits".
+use Rattle.std.specs.Prelude.{Some, None, Option}
 use Rattle.std.specs.Prelude.{ℕ, ◌-◌, cond}
 use Rattle.text.specs.Classes.{hex_digit, within}
-use Rattle.hexes.specs.declared.HexAnswer.{HexAnswer}
-use Rattle.hexes.specs.declared.HexAnswer.TheVariants.{Digit, NoDigit}
 
 -- The value of a hex digit, 0 to 9, A to F, a to f; 16 for any other byte.
 unfoldable pub hex_of : ℕ → ℕ
@@ -13,5 +12,5 @@ hex_of c =
     16))
 
 -- A hex digit with its value, or none.
-abbrev pub hex_answer : ℕ → HexAnswer
-hex_answer c = cond (hex_digit c) (Digit (hex_of c)) NoDigit
+abbrev pub hex_answer : ℕ → Option ℕ
+hex_answer c = cond (hex_digit c) (Some (hex_of c)) None

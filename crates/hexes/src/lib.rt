@@ -7,13 +7,6 @@ ghost use Rattle.text.specs.Classes.{hex_digit, int_char};
 ghost use Rattle.hexes.specs.Hex.{hex_answer};
 ghost use Rattle.hexes.specs.inner.Bits.{among};
 
-// What a byte is as a hex digit: its value, from 0 to 15.
-#[derive(Clone, Copy)]
-pub enum HexAnswer {
-    Digit(u8),
-    NoDigit,
-}
-
 // A bit for each byte from `0` to `f`, set for the class: one test, which the processor guesses right whichever digit it is.
 const HEX_DIGITS: u64 = 0x7e0000007e03ff;
 
@@ -41,12 +34,12 @@ pub fn is_int_char(c: u8) -> bool
 }
 
 // The value of a hex digit; letters stand 9 behind what their last four bits say.
-pub fn decode_hex(c: u8) -> HexAnswer
+pub fn decode_hex(c: u8) -> Option<u8>
     ensures { result ≡ hex_answer c }
 {
     if !is_hex_digit(c) {
-        return HexAnswer::NoDigit;
+        return None;
     }
     let value = c % 16 + c / 64 * 9;
-    HexAnswer::Digit(value)
+    Some(value)
 }

@@ -1,4 +1,7 @@
 -- The refusals of attributes are inner. Assumes nothing.
+use Rattle.std.proofs.Common.{Ok, Err}
+use Rattle.text.specs.Refusals.{Told}
+use Rattle.strings.specs.declared.literal.Literal.{Literal}
 use Prim.Native.Nat.{ℕ, ◌+◌}
 use mathlib.Core.Bool.{Bool, true}
 use mathlib.Core.List.{List}
@@ -10,35 +13,22 @@ use Rattle.attributes.specs.Close.{answer_at, no_end, list_end, by_bracket, clos
 use Rattle.attributes.specs.List.{list_of}
 use Rattle.attributes.specs.Steps.{skip_from, consume_from, consume_of, sign_from}
 use Rattle.attributes.specs.Words.{keyword_at}
-use Rattle.attributes.specs.declared.AttributeAnswer.{AttributeAnswer}
-use Rattle.attributes.specs.declared.AttributeAnswer.TheVariants.{Read, Refused}
-use Rattle.attributes.specs.declared.list.Listed.{Listed}
-use Rattle.attributes.specs.declared.list.Listed.TheVariants.{Ended}
-use Rattle.attributes.specs.declared.list.Listed.TheVariants as listing
-use Rattle.attributes.specs.declared.steps.All.{All}
-use Rattle.attributes.specs.declared.steps.All.TheVariants.{At}
-use Rattle.attributes.specs.declared.steps.All.TheVariants as consumed
-use Rattle.attributes.specs.declared.steps.Step.{Step}
-use Rattle.attributes.specs.declared.steps.Step.TheVariants.{On}
-use Rattle.attributes.specs.declared.steps.Step.TheVariants as step
 use Rattle.attributes.specs.declared.words.Keyword.{Keyword}
 use Rattle.attributes.specs.declared.words.Keyword.TheVariants.{Enable, Text, NoKeyword}
 use Rattle.strings.specs.Strings.{string_of}
-use Rattle.strings.specs.declared.literal.LiteralAnswer.{LiteralAnswer}
-use Rattle.strings.specs.declared.literal.LiteralAnswer.TheVariants.{Read as ReadString, Refused as NoString}
 use Rattle.inner.specs.Inner.{Inner, within}
 use Rattle.inner.proofs.Both.{both}
 use Rattle.inner.proofs.Steps.{Inner-step, Inner-all, skip_inner, consume-from, consume, sign_inner}
 use Rattle.inner.proofs.Lists.{Inner-listed, list_inner}
 use Rattle.inner.proofs.Strings.{Inner-literal, string_inner}
 
-abbrev pub Inner-attribute : AttributeAnswer → Type 0
-Inner-attribute (Read n extensions) = Unit
-Inner-attribute (Refused r) = Inner r
+abbrev pub Inner-attribute : Told (ℕ × ℕ) → Type 0
+Inner-attribute (Ok (n, extensions)) = Unit
+Inner-attribute (Err r) = Inner r
 
-answer-at : (a : Step) (go : ℕ → AttributeAnswer) → Inner-step a → ((p : ℕ) → Inner-attribute (go p)) → Inner-attribute (answer_at a go)
-answer-at (On p) go h k = k p
-answer-at (step.Refused r) go h k = h
+answer-at : (a : Told ℕ) (go : ℕ → Told (ℕ × ℕ)) → Inner-step a → ((p : ℕ) → Inner-attribute (go p)) → Inner-attribute (answer_at a go)
+answer-at (Ok p) go h k = k p
+answer-at (Err r) go h k = h
 
 -- ---- its end
 
@@ -50,9 +40,9 @@ list-end : (s : List ℕ) (all : Bool) (at sum : ℕ) → Inner-attribute (list_
 unfolding list_end within
 list-end s all at sum = both Inner-attribute (eqb (get_or s at 0) 0x5d) (both Inner-attribute all tt (no-end s (at + 1))) refl
 
-by-bracket : (s : List ℕ) (sum : ℕ) (a : All) → Inner-all a → Inner-attribute (by_bracket s sum a)
-by-bracket s sum (At all at) h = list-end s all at sum
-by-bracket s sum (consumed.Refused r) h = h
+by-bracket : (s : List ℕ) (sum : ℕ) (a : Told (Bool × ℕ)) → Inner-all a → Inner-attribute (by_bracket s sum a)
+by-bracket s sum (Ok (all, at)) h = list-end s all at sum
+by-bracket s sum (Err r) h = h
 
 close-list : (s : List ℕ) (at sum : ℕ) → Inner-attribute (close_list s at sum)
 unfolding close_list
@@ -62,9 +52,9 @@ string-end : (s : List ℕ) (at : ℕ) → Inner-attribute (string_end s at)
 unfolding string_end
 string-end s at = answer-at (skip_from s at) _ (skip_inner s at) (λ p. list-end s true p 0)
 
-by-string : (s : List ℕ) (at : ℕ) (a : LiteralAnswer) → Inner-literal a → Inner-attribute (by_string s at a)
-by-string s at (ReadString l) h = string-end s (at + l.len)
-by-string s at (NoString r) h = h
+by-string : (s : List ℕ) (at : ℕ) (a : Told Literal) → Inner-literal a → Inner-attribute (by_string s at a)
+by-string s at (Ok l) h = string-end s (at + l.len)
+by-string s at (Err r) h = h
 
 string-from : (s : List ℕ) (at : ℕ) → Inner-attribute (string_from s at)
 unfolding string_from
@@ -72,9 +62,9 @@ string-from s at = by-string s at (string_of (drop at s)) (string_inner (drop at
 
 -- ---- the whole
 
-by-listed : (s : List ℕ) (a : Listed) → Inner-listed a → Inner-attribute (by_listed s a)
-by-listed s (Ended at sum) h = close-list s at sum
-by-listed s (listing.Refused r) h = h
+by-listed : (s : List ℕ) (a : Told (ℕ × ℕ)) → Inner-listed a → Inner-attribute (by_listed s a)
+by-listed s (Ok (at, sum)) h = close-list s at sum
+by-listed s (Err r) h = h
 
 by-keyword : (s : List ℕ) (k : Keyword) → Inner-attribute (by_keyword s k)
 unfolding enable_from string_value_from within
@@ -82,17 +72,17 @@ by-keyword s (Enable at) = answer-at (sign_from 0x28 s at) _ (sign_inner 0x28 s 
 by-keyword s (Text at) = answer-at (sign_from 0x3d s at) (string_from s) (sign_inner 0x3d s at) (string-from s)
 by-keyword s NoKeyword = refl
 
-by-opened : (s : List ℕ) (a : All) → Inner-all a → Inner-attribute (by_opened s a)
+by-opened : (s : List ℕ) (a : Told (Bool × ℕ)) → Inner-all a → Inner-attribute (by_opened s a)
 unfolding keyword_from within
-by-opened s (At all at) h = both Inner-attribute all (by-keyword s (keyword_at s at)) refl
-by-opened s (consumed.Refused r) h = h
+by-opened s (Ok (all, at)) h = both Inner-attribute all (by-keyword s (keyword_at s at)) refl
+by-opened s (Err r) h = h
 
 opened : (s : List ℕ) → Inner-all (opened_of s)
 unfolding opened_of
 opened s =
-    let a = consume_of 0x23 s (At true 0) in
+    let a = consume_of 0x23 s (Ok (true, 0)) in
     let b = consume_of 0x21 s a in
-    consume 0x5b s b (consume 0x21 s a (consume 0x23 s (At true 0) tt))
+    consume 0x5b s b (consume 0x21 s a (consume 0x23 s (Ok (true, 0)) tt))
 
 pub attribute_inner : (s : List ℕ) → Inner-attribute (attribute_of s)
 unfolding attribute_of

@@ -1,4 +1,6 @@
 -- The refusals of chars and byte literals are inner. Assumes nothing.
+use Rattle.std.proofs.Common.{Ok, Err}
+use Rattle.text.specs.Refusals.{Told}
 use Prim.Native.Nat.{ℕ, ◌+◌}
 use mathlib.Core.Bool.{◌&&◌}
 use mathlib.Core.List.{List}
@@ -11,19 +13,15 @@ use Rattle.escapes.specs.declared.answers.Mode.TheVariants.{Char, Bytes}
 use Rattle.escapes.specs.declared.answers.EscapeAnswer.{EscapeAnswer}
 use Rattle.escapes.specs.declared.answers.EscapeAnswer.TheVariants.{Ascii, Utf8, Refused}
 use Rattle.strings.specs.Chars.{char_ends, by_char_escape, char_of, byte_ends, by_byte_escape, byte_of}
-use Rattle.strings.specs.declared.chars.CharAnswer.{CharAnswer}
-use Rattle.strings.specs.declared.chars.CharAnswer.TheVariants.{Read as ReadChar, Refused as NoChar}
-use Rattle.strings.specs.declared.chars.ByteAnswer.{ByteAnswer}
-use Rattle.strings.specs.declared.chars.ByteAnswer.TheVariants.{Read as ReadByte, Refused as NoByte}
 use Rattle.inner.specs.Inner.{Inner, within}
 use Rattle.inner.proofs.Both.{both}
 use Rattle.inner.proofs.Escapes.{Inner-escape, escape_inner}
 
 -- ---- chars
 
-abbrev pub Inner-char : CharAnswer → Type 0
-Inner-char (ReadChar n code) = Unit
-Inner-char (NoChar r) = Inner r
+abbrev pub Inner-char : Told (ℕ × ℕ) → Type 0
+Inner-char (Ok (n, code)) = Unit
+Inner-char (Err r) = Inner r
 
 char-ends : (s : List ℕ) (at code : ℕ) → Inner-char (char_ends s at code)
 unfolding char_ends within
@@ -44,9 +42,9 @@ char_inner s =
 
 -- ---- byte literals
 
-abbrev pub Inner-byte : ByteAnswer → Type 0
-Inner-byte (ReadByte n value) = Unit
-Inner-byte (NoByte r) = Inner r
+abbrev pub Inner-byte : Told (ℕ × ℕ) → Type 0
+Inner-byte (Ok (n, value)) = Unit
+Inner-byte (Err r) = Inner r
 
 byte-ends : (s : List ℕ) (at byte : ℕ) → Inner-byte (byte_ends s at byte)
 unfolding byte_ends within

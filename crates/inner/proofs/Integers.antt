@@ -1,4 +1,6 @@
 -- The refusals of integers are inner. Assumes nothing.
+use Rattle.std.proofs.Common.{Ok, Err}
+use Rattle.text.specs.Refusals.{Told}
 use Prim.Native.Nat.{ℕ, ◌+◌}
 use mathlib.Core.Bool.{Bool}
 use mathlib.Core.List.{List}
@@ -15,27 +17,23 @@ use Rattle.integers.specs.Integer.{chosen_of, behind_run, numeral_of, other_suff
 use Rattle.integers.specs.Width.{code_of, limit_at, suffix_of, widest}
 use Rattle.integers.specs.declared.ident.Found.{Found}
 use Rattle.integers.specs.declared.width.Width.{Width}
-use Rattle.integers.specs.declared.integer.Numeral.{Numeral}
-use Rattle.integers.specs.declared.integer.Numeral.TheVariants as numeral
 use Rattle.integers.specs.declared.integer.Integer.{Integer}
 use Rattle.integers.specs.declared.integer.Integer.TheVariants as integer
-use Rattle.integers.specs.declared.integer.AnyInteger.{AnyInteger}
-use Rattle.integers.specs.declared.integer.AnyInteger.TheVariants as any
 use Rattle.inner.specs.Inner.{Inner, within}
 use Rattle.inner.proofs.Both.{both}
 
-abbrev pub Inner-numeral : Numeral → Type 0
-Inner-numeral (numeral.Read v found end) = Unit
-Inner-numeral (numeral.Refused r) = Inner r
+abbrev pub Inner-numeral : Told (ℕ × ℕ × ℕ) → Type 0
+Inner-numeral (Ok (v, found, end)) = Unit
+Inner-numeral (Err r) = Inner r
 
 abbrev pub Inner-integer : Integer → Type 0
 Inner-integer (integer.Read v end) = Unit
 Inner-integer integer.OtherSuffix = Unit
 Inner-integer (integer.Refused r) = Inner r
 
-abbrev pub Inner-any : AnyInteger → Type 0
-Inner-any (any.Read w end) = Unit
-Inner-any (any.Refused r) = Inner r
+abbrev pub Inner-any : Told (Width × ℕ) → Type 0
+Inner-any (Ok (w, end)) = Unit
+Inner-any (Err r) = Inner r
 
 behind-run : (found end : ℕ) (r : Run) → Inner-numeral (behind_run found end r)
 unfolding within
@@ -52,13 +50,13 @@ numeral_inner asked minus base t =
     let f : Found = suffix_of (drop n t) in
     behind-run f.code (length (take n t) + f.end) (run_of (limit_at (chosen_of f.code asked) minus) base (take n t))
 
-typed-as : (asked : ℕ) (minus : Bool) (at : ℕ) (n : Numeral) → Inner-numeral n → Inner-integer (typed_as asked minus at n)
-typed-as asked minus at (numeral.Read v found end) h = both Inner-integer (other_suffix found asked) tt tt
-typed-as asked minus at (numeral.Refused r) h = h
+typed-as : (asked : ℕ) (minus : Bool) (at : ℕ) (n : Told (ℕ × ℕ × ℕ)) → Inner-numeral n → Inner-integer (typed_as asked minus at n)
+typed-as asked minus at (Ok (v, found, end)) h = both Inner-integer (other_suffix found asked) tt tt
+typed-as asked minus at (Err r) h = h
 
-any-as : (minus : Bool) (at : ℕ) (n : Numeral) → Inner-numeral n → Inner-any (any_as minus at n)
-any-as minus at (numeral.Read v found end) h = tt
-any-as minus at (numeral.Refused r) h = h
+any-as : (minus : Bool) (at : ℕ) (n : Told (ℕ × ℕ × ℕ)) → Inner-numeral n → Inner-any (any_as minus at n)
+any-as minus at (Ok (v, found, end)) h = tt
+any-as minus at (Err r) h = h
 
 pub typed_inner : (width : Width) (s : List ℕ) → Inner-integer (typed_of width s)
 unfolding typed_of within

@@ -1,4 +1,8 @@
 -- The refusals of floats and numbers are inner. Assumes nothing.
+use Rattle.std.proofs.Common.{Ok, Err}
+use Rattle.text.specs.Refusals.{Told}
+use Rattle.floats.specs.declared.float.FloatSpan.{FloatSpan}
+use Rattle.integers.specs.declared.width.Width.{Width}
 use Prim.Native.Nat.{ℕ, ◌+◌}
 use mathlib.Core.List.{List}
 use mathlib.Core.Path.{refl}
@@ -9,15 +13,11 @@ use Rattle.integers.specs.Front.{sign_of}
 use Rattle.integers.specs.Words.{first_of}
 use Rattle.integers.specs.Integer.{any_of}
 use Rattle.integers.specs.declared.ident.Found.{Found}
-use Rattle.integers.specs.declared.integer.AnyInteger.{AnyInteger}
-use Rattle.integers.specs.declared.integer.AnyInteger.TheVariants as integer
 use Rattle.floats.specs.Classes.{float_run}
 use Rattle.floats.specs.Judged.{float_judged}
 use Rattle.floats.specs.Float.{float_suffixes, specials, behind_float, with_float_suffix, run_at, float_of}
 use Rattle.floats.specs.declared.judge.Judged.{Judged}
 use Rattle.floats.specs.declared.judge.Judged.TheVariants.{Misplaced, Fine, Unfit}
-use Rattle.floats.specs.declared.float.AnyFloat.{AnyFloat}
-use Rattle.floats.specs.declared.float.AnyFloat.TheVariants as float
 use Rattle.numbers.specs.Numbers.{float_ahead, of_float, or_float, or_else, number_of}
 use Rattle.numbers.specs.declared.Number.{Number}
 use Rattle.numbers.specs.declared.Number.TheVariants.{Int, Float, Refused}
@@ -27,9 +27,9 @@ use Rattle.inner.proofs.Integers.{Inner-any, any_inner}
 
 -- ---- floats
 
-abbrev pub Inner-float : AnyFloat → Type 0
-Inner-float (float.Read f) = Unit
-Inner-float (float.Refused r) = Inner r
+abbrev pub Inner-float : Told FloatSpan → Type 0
+Inner-float (Ok f) = Unit
+Inner-float (Err r) = Inner r
 
 behind-judged : (code end : ℕ) (j : Judged) → Inner-float (behind_float code end j)
 unfolding within
@@ -59,17 +59,17 @@ Inner-number (Int w n) = Unit
 Inner-number (Float f) = Unit
 Inner-number (Refused r) = Inner r
 
-of-float : (a : AnyFloat) → Inner-float a → Inner-number (of_float a)
-of-float (float.Read f) h = tt
-of-float (float.Refused r) h = h
+of-float : (a : Told FloatSpan) → Inner-float a → Inner-number (of_float a)
+of-float (Ok f) h = tt
+of-float (Err r) h = h
 
-or-float : (r : Refusal) (a : AnyFloat) → Inner r → Inner-number (or_float r a)
-or-float r (float.Read f) h = both Inner-number (leb r.place f.len) tt h
-or-float r (float.Refused q) h = h
+or-float : (r : Refusal) (a : Told FloatSpan) → Inner r → Inner-number (or_float r a)
+or-float r (Ok f) h = both Inner-number (leb r.place f.len) tt h
+or-float r (Err q) h = h
 
-or-else : (a : AnyInteger) (f : AnyFloat) → Inner-any a → Inner-number (or_else a f)
-or-else (integer.Read w n) f h = tt
-or-else (integer.Refused r) f h = or-float r f h
+or-else : (a : Told (Width × ℕ)) (f : Told FloatSpan) → Inner-any a → Inner-number (or_else a f)
+or-else (Ok (w, n)) f h = tt
+or-else (Err r) f h = or-float r f h
 
 pub number_inner : (s : List ℕ) → Inner-number (number_of s)
 unfolding number_of

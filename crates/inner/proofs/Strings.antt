@@ -1,4 +1,7 @@
 -- The refusals of strings and byte strings are inner. Assumes nothing.
+use Rattle.std.proofs.Common.{Ok, Err}
+use Rattle.text.specs.Refusals.{Told}
+use Rattle.strings.specs.declared.literal.Literal.{Literal}
 use Prim.Native.Nat.{ℕ, ◌+◌, ◌-◌, zero, suc}
 use mathlib.Core.Bool.{Bool, false, cond, ◌||◌}
 use mathlib.Core.List.{List, [], ◌∷◌}
@@ -19,15 +22,13 @@ use Rattle.strings.specs.Strings.{string_of, byte_string_of}
 use Rattle.strings.specs.declared.pieces.Piece.{Piece}
 use Rattle.strings.specs.declared.pieces.Piece.TheVariants.{Quote, Plain, Backslash}
 use Rattle.strings.specs.declared.pieces.Piece.TheVariants as pieces
-use Rattle.strings.specs.declared.literal.LiteralAnswer.{LiteralAnswer}
-use Rattle.strings.specs.declared.literal.LiteralAnswer.TheVariants.{Read, Refused}
 use Rattle.inner.specs.Inner.{Inner, within}
 use Rattle.inner.proofs.Both.{both}
 use Rattle.inner.proofs.Escapes.{Inner-escape, escape_inner}
 
-abbrev pub Inner-literal : LiteralAnswer → Type 0
-Inner-literal (Read l) = Unit
-Inner-literal (Refused r) = Inner r
+abbrev pub Inner-literal : Told Literal → Type 0
+Inner-literal (Ok l) = Unit
+Inner-literal (Err r) = Inner r
 
 -- ---- the pieces of a quoted one
 

@@ -1,4 +1,8 @@
 -- The refusals of tokens, and of the token reader of RON, are inner. Assumes nothing.
+use Rattle.std.proofs.Common.{Ok, Err}
+use Rattle.text.specs.Refusals.{Told}
+use Rattle.strings.specs.declared.literal.Literal.{Literal}
+use Rattle.tokens.specs.declared.lexeme.Lexeme.{Lexeme}
 use Prim.Native.Nat.{ℕ, ◌<◌}
 use native.Mathlib.Omega.{arith}
 use mathlib.Core.List.{List}
@@ -9,8 +13,6 @@ use Rattle.text.proofs.Choices.{and_true}
 use Rattle.text.proofs.ClassLaws.{within_true}
 use Rattle.text.specs.declared.refusal.Refusal.{Refusal}
 use Rattle.attributes.specs.Attributes.{attribute_of}
-use Rattle.attributes.specs.declared.AttributeAnswer.{AttributeAnswer}
-use Rattle.attributes.specs.declared.AttributeAnswer.TheVariants as attribute
 use Rattle.comments.specs.Gaps.{gap_of}
 use Rattle.comments.specs.declared.gap.Gap.{Gap}
 use Rattle.comments.specs.declared.gap.Gap.TheVariants as gap
@@ -23,18 +25,10 @@ use Rattle.numbers.specs.declared.Number.TheVariants as number
 use Rattle.reading.specs.Tokens.{Answer, refuse, stop, token}
 use Rattle.strings.specs.Chars.{char_of, byte_of}
 use Rattle.strings.specs.Strings.{string_of, byte_string_of}
-use Rattle.strings.specs.declared.chars.CharAnswer.{CharAnswer}
-use Rattle.strings.specs.declared.chars.CharAnswer.TheVariants as char
-use Rattle.strings.specs.declared.chars.ByteAnswer.{ByteAnswer}
-use Rattle.strings.specs.declared.chars.ByteAnswer.TheVariants as byte
-use Rattle.strings.specs.declared.literal.LiteralAnswer.{LiteralAnswer}
-use Rattle.strings.specs.declared.literal.LiteralAnswer.TheVariants as literal
 use Rattle.tokens.specs.Lexemes.{number_lexeme, lexeme_of}
 use Rattle.tokens.specs.Ron.{lexeme_behind, by_gap, ron_token}
 use Rattle.tokens.specs.Shapes.{shape_of}
 use Rattle.tokens.specs.Token.{of_word, of_char, of_byte, of_string, of_byte_string, of_attribute, by_shape, token_of}
-use Rattle.tokens.specs.declared.lexeme.LexemeAnswer.{LexemeAnswer}
-use Rattle.tokens.specs.declared.lexeme.LexemeAnswer.TheVariants.{Read, Refused}
 use Rattle.tokens.specs.declared.shape.Shape.{Shape}
 use Rattle.tokens.specs.declared.shape.Shape.TheVariants as shape
 use Rattle.inner.specs.Inner.{Inner, reasoned, within}
@@ -52,9 +46,9 @@ Inner-answer (token t) = Unit
 Inner-answer stop = Unit
 Inner-answer (refuse r) = Inner r
 
-abbrev pub Inner-lexeme : LexemeAnswer → Type 0
-Inner-lexeme (Read l) = Unit
-Inner-lexeme (Refused r) = Inner r
+abbrev pub Inner-lexeme : Told Lexeme → Type 0
+Inner-lexeme (Ok l) = Unit
+Inner-lexeme (Err r) = Inner r
 
 -- ---- by its shape
 
@@ -69,25 +63,25 @@ of-word (word.Raw n) h = tt
 of-word (word.Float n suffix) h = tt
 of-word (word.Refused r) h = h
 
-of-char : (a : CharAnswer) → Inner-char a → Inner-lexeme (lexeme_of (of_char a))
-of-char (char.Read n code) h = tt
-of-char (char.Refused r) h = h
+of-char : (a : Told (ℕ × ℕ)) → Inner-char a → Inner-lexeme (lexeme_of (of_char a))
+of-char (Ok (n, code)) h = tt
+of-char (Err r) h = h
 
-of-byte : (a : ByteAnswer) → Inner-byte a → Inner-lexeme (lexeme_of (of_byte a))
-of-byte (byte.Read n value) h = tt
-of-byte (byte.Refused r) h = h
+of-byte : (a : Told (ℕ × ℕ)) → Inner-byte a → Inner-lexeme (lexeme_of (of_byte a))
+of-byte (Ok (n, value)) h = tt
+of-byte (Err r) h = h
 
-of-string : (a : LiteralAnswer) → Inner-literal a → Inner-lexeme (lexeme_of (of_string a))
-of-string (literal.Read l) h = tt
-of-string (literal.Refused r) h = h
+of-string : (a : Told Literal) → Inner-literal a → Inner-lexeme (lexeme_of (of_string a))
+of-string (Ok l) h = tt
+of-string (Err r) h = h
 
-of-byte-string : (a : LiteralAnswer) → Inner-literal a → Inner-lexeme (lexeme_of (of_byte_string a))
-of-byte-string (literal.Read l) h = tt
-of-byte-string (literal.Refused r) h = h
+of-byte-string : (a : Told Literal) → Inner-literal a → Inner-lexeme (lexeme_of (of_byte_string a))
+of-byte-string (Ok l) h = tt
+of-byte-string (Err r) h = h
 
-of-attribute : (a : AttributeAnswer) → Inner-attribute a → Inner-lexeme (lexeme_of (of_attribute a))
-of-attribute (attribute.Read n e) h = tt
-of-attribute (attribute.Refused r) h = h
+of-attribute : (a : Told (ℕ × ℕ)) → Inner-attribute a → Inner-lexeme (lexeme_of (of_attribute a))
+of-attribute (Ok (n, e)) h = tt
+of-attribute (Err r) h = h
 
 by-shape : (k : Shape) (s : List ℕ) → Inner-lexeme (lexeme_of (by_shape k s))
 by-shape (shape.Mark kind) s = tt
@@ -105,9 +99,9 @@ token_inner s = by-shape (shape_of (get_or s 0 0) (get_or s 1 0) (get_or s 2 0))
 
 -- ---- behind its gap
 
-behind-gap : (g : ℕ) (a : LexemeAnswer) → Inner-lexeme a → Inner-answer (lexeme_behind g a)
-behind-gap g (Read l) h = tt
-behind-gap g (Refused r) h = h
+behind-gap : (g : ℕ) (a : Told Lexeme) → Inner-lexeme a → Inner-answer (lexeme_behind g a)
+behind-gap g (Ok l) h = tt
+behind-gap g (Err r) h = h
 
 by-gap : (s : List ℕ) (g : Gap) → Inner-gap g → Inner-answer (by_gap s g)
 by-gap s (gap.Clear g) h = both Inner-answer (ltb g (length s)) (behind-gap g (lexeme_of (token_of (drop g s))) (token_inner (drop g s))) tt

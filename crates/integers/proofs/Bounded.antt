@@ -1,4 +1,6 @@
 -- An integer is not empty and ends within its part, and a refusal's place lies within the part. Assumes nothing.
+use Rattle.std.proofs.Common.{Ok, Err}
+use Rattle.text.specs.Refusals.{Told}
 use Prim.Native.Nat.{◌+◌, ◌<◌, ◌≤◌, ℕ}
 use native.Mathlib.Omega.{arith}
 use mathlib.Core.Bool.{Bool}
@@ -10,32 +12,28 @@ use Rattle.integers.proofs.Readings.{Within, numeral_within}
 use Rattle.integers.specs.Front.{front_of}
 use Rattle.integers.specs.Integer.{any_as, any_of, numeral_of, other_suffix, typed_as, typed_of}
 use Rattle.integers.specs.Width.{code_of, widest}
-use Rattle.integers.specs.declared.integer.AnyInteger.{AnyInteger}
 use Rattle.integers.specs.declared.integer.Integer.{Integer}
-use Rattle.integers.specs.declared.integer.Numeral.{Numeral}
 use Rattle.integers.specs.declared.width.Width.{Width}
 use Rattle.text.proofs.Choices.{bool_cases, either}
-use Rattle.integers.specs.declared.integer.Numeral.TheVariants as numeral
 use Rattle.integers.specs.declared.integer.Integer.TheVariants as integer
-use Rattle.integers.specs.declared.integer.AnyInteger.TheVariants as any
 
 abbrev pub TypedBounded : ℕ → Integer → Type 0
 TypedBounded n (integer.Read v end) = (0 < end) × (end ≤ n)
 TypedBounded n integer.OtherSuffix = Unit
 TypedBounded n (integer.Refused r) = r.place ≤ n
 
-abbrev pub AnyBounded : ℕ → AnyInteger → Type 0
-AnyBounded n (any.Read w end) = (0 < end) × (end ≤ n)
-AnyBounded n (any.Refused r) = r.place ≤ n
+abbrev pub AnyBounded : ℕ → Told (Width × ℕ) → Type 0
+AnyBounded n (Ok (w, end)) = (0 < end) × (end ≤ n)
+AnyBounded n (Err r) = r.place ≤ n
 
-typed-as : (asked : ℕ) (minus : Bool) (at n m : ℕ) (r : Numeral) → at + n ≤ m → Within n r → TypedBounded m (typed_as asked minus at r)
-typed-as asked minus at n m (numeral.Read v found end) h w =
+typed-as : (asked : ℕ) (minus : Bool) (at n m : ℕ) (r : Told (ℕ × ℕ × ℕ)) → at + n ≤ m → Within n r → TypedBounded m (typed_as asked minus at r)
+typed-as asked minus at n m (Ok (v, found, end)) h w =
     either (bool_cases (other_suffix found asked)) (λ a. rw a tt) (λ a. rw a (omega (arith, w.0), omega (arith, w.1)))
-typed-as asked minus at n m (numeral.Refused r) h w = omega arith
+typed-as asked minus at n m (Err r) h w = omega arith
 
-any-as : (minus : Bool) (at n m : ℕ) (r : Numeral) → at + n ≤ m → Within n r → AnyBounded m (any_as minus at r)
-any-as minus at n m (numeral.Read v found end) h w = (omega (arith, w.0), omega (arith, w.1))
-any-as minus at n m (numeral.Refused r) h w = omega arith
+any-as : (minus : Bool) (at n m : ℕ) (r : Told (ℕ × ℕ × ℕ)) → at + n ≤ m → Within n r → AnyBounded m (any_as minus at r)
+any-as minus at n m (Ok (v, found, end)) h w = (omega (arith, w.0), omega (arith, w.1))
+any-as minus at n m (Err r) h w = omega arith
 
 behind-front : (s : List ℕ) → (front_of s).end + length (drop (front_of s).end s) ≤ length s
 behind-front s = omega (arith, front_le s, length-drop (front_of s).end s)

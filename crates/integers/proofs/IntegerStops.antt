@@ -1,4 +1,6 @@
 -- Nothing behind a byte outside of the raw name's class, such as a quiet byte or a slash, changes what an integer reads as, refusals included. Assumes nothing.
+use Rattle.std.proofs.Common.{Err}
+use Rattle.text.specs.Refusals.{Told}
 use Prim.Native.Nat.{◌+◌, ◌<◌, ◌≤◌, ℕ}
 use native.Mathlib.Omega.{arith}
 use mathlib.Core.Bool.{Bool, ◌||◌, cond, false, true, ◌&&◌, not}
@@ -17,7 +19,6 @@ use Rattle.integers.specs.declared.front.Front.{Front}
 use Rattle.integers.specs.declared.front.Prefix.{Prefix}
 use Rattle.integers.specs.declared.front.Sign.{Sign}
 use Rattle.integers.specs.declared.ident.Found.{Found}
-use Rattle.integers.specs.declared.integer.AnyInteger.{AnyInteger}
 use Rattle.integers.specs.declared.integer.Integer.{Integer}
 use Rattle.integers.specs.declared.width.Width.{Width}
 use Rattle.text.proofs.Choices.{bool_cases, either, or_left, or_right, and_true}
@@ -27,7 +28,6 @@ use Rattle.text.specs.Classes.{digit, hex_digit, ascii_next, ascii_raw, int_char
 use Rattle.text.specs.Refusals.{eof}
 use Rattle.text.specs.Runs.{run}
 use Rattle.integers.specs.declared.integer.Integer.TheVariants as integer
-use Rattle.integers.specs.declared.integer.AnyInteger.TheVariants as any
 
 -- ---- such a byte is of none of the other classes
 
@@ -170,6 +170,6 @@ module _ (c : ℕ) (o : Outside c) where
   pub integer_stopped : Stopped c any_of
   unfolding any_of
   integer_stopped =
-      on₂ (λ (e : Bool) (r : AnyInteger). cond e (any.Refused (eof 0)) r) (empty_stopped c)
+      on₂ (λ (e : Bool) (r : Told (Width × ℕ)). cond e (Err (eof 0)) r) (empty_stopped c)
       (bind (λ (g : Front) (s : List ℕ). any_behind g (drop (front_of s).end s)) front_stopped
       (λ g. behind front_reach (on (any_as g.minus g.end) (numeral_stopped (widest g.minus) g.minus g.base))))

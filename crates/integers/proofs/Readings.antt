@@ -1,4 +1,6 @@
 -- Laws of reading an integer: what the parts that the code has in hand make up, and places within the part. Assumes nothing.
+use Rattle.std.proofs.Common.{Ok, Err}
+use Rattle.text.specs.Refusals.{Told}
 use Prim.Native.Nat.{◌+◌, ◌-◌, ◌<◌, ◌≤◌, ℕ}
 use native.Mathlib.Omega.{arith}
 use mathlib.Core.Bool.{Bool}
@@ -19,13 +21,11 @@ use Rattle.integers.specs.Integer.{any_as, any_of, behind_run, chosen_of, numera
 use Rattle.integers.specs.Width.{code_of, limit_at, suffix_of, widest}
 use Rattle.integers.specs.declared.front.Front.{Front}
 use Rattle.integers.specs.declared.ident.Found.{Found}
-use Rattle.integers.specs.declared.integer.Numeral.{Numeral}
 use Rattle.integers.specs.declared.width.Width.{Width}
 use Rattle.text.proofs.Choices.{bool_cases, either}
 use Rattle.text.proofs.RunLaws.{run_le}
 use Rattle.text.specs.Classes.{int_char}
 use Rattle.text.specs.Runs.{run}
-use Rattle.integers.specs.declared.integer.Numeral.TheVariants as numeral
 
 -- ---- digits and suffix
 
@@ -44,9 +44,9 @@ module _ (asked : ℕ) (minus : Bool) (base : ℕ) (t : List ℕ) (n : ℕ) (f :
 -- ---- places
 
 -- a numeral is not empty and ends within n bytes, and a refusal's place lies within them
-abbrev pub Within : ℕ → Numeral → Type 0
-Within n (numeral.Read v found end) = (0 < end) × (end ≤ n)
-Within n (numeral.Refused r) = r.place ≤ n
+abbrev pub Within : ℕ → Told (ℕ × ℕ × ℕ) → Type 0
+Within n (Ok (v, found, end)) = (0 < end) × (end ≤ n)
+Within n (Err r) = r.place ≤ n
 
 -- a run that reads is not empty, and 9 stands within it
 abbrev Held : ℕ → Run → Type 0
@@ -88,12 +88,12 @@ numeral_within asked minus base t =
 -- ---- the whole
 
 module _ (s : List ℕ) (some : length s ≡ 0 → ⊥) (g : Front) (eg : g ≡ front_of s) where
-  pub typed_said : (width : Width) (asked : ℕ) → asked ≡ code_of width → (r : Numeral) → r ≡ numeral_of asked g.minus g.base (drop g.end s)
+  pub typed_said : (width : Width) (asked : ℕ) → asked ≡ code_of width → (r : Told (ℕ × ℕ × ℕ)) → r ≡ numeral_of asked g.minus g.base (drop g.end s)
       → typed_as asked g.minus g.end r ≡ typed_of width s
   unfolding typed_of
   typed_said width asked ea r er = rw (ne_eqb (length s) 0 some, sym eg, sym ea, er)
 
-  pub any_said : (asked : ℕ) → asked ≡ widest g.minus → (r : Numeral) → r ≡ numeral_of asked g.minus g.base (drop g.end s)
+  pub any_said : (asked : ℕ) → asked ≡ widest g.minus → (r : Told (ℕ × ℕ × ℕ)) → r ≡ numeral_of asked g.minus g.base (drop g.end s)
       → any_as g.minus g.end r ≡ any_of s
   unfolding any_of
   any_said asked ea r er = rw (ne_eqb (length s) 0 some, sym eg, er, ea)
@@ -102,5 +102,5 @@ module _ (s : List ℕ) (some : length s ≡ 0 → ⊥) (g : Front) (eg : g ≡ 
   front_within = rw eg (front_le s)
 
   -- what was read behind the front ends within the part
-  pub read_within : (asked : ℕ) (r : Numeral) → r ≡ numeral_of asked g.minus g.base (drop g.end s) → Within (length s - g.end) r
+  pub read_within : (asked : ℕ) (r : Told (ℕ × ℕ × ℕ)) → r ≡ numeral_of asked g.minus g.base (drop g.end s) → Within (length s - g.end) r
   read_within asked r er = rw (er, sym (length-drop g.end s)) (numeral_within asked g.minus g.base (drop g.end s))

@@ -29,20 +29,6 @@ pub enum Integer {
     Refused(Refusal),
 }
 
-// A read of any width: the width and the place behind the number, or a refusal.
-#[derive(Clone, Copy)]
-pub enum AnyInteger {
-    Read(Width, usize),
-    Refused(Refusal),
-}
-
-// Digits and suffix: magnitude, the suffix's code or 0, and the place behind both; or a refusal.
-#[derive(Clone, Copy)]
-pub enum Numeral {
-    Read(u64, u8, usize),
-    Refused(Refusal),
-}
-
 // A run at a width: one accumulator goes up, and after a minus the other goes down.
 fn parse_integer(run: &[u8], minus: bool, base: u64, code: u8) -> Run
     requires { (0 < base) × (base ≤ 16) }
@@ -71,20 +57,25 @@ fn chosen(found: u8, asked: u8) -> u8
 }
 
 // A suffix is skipped after a refusal, but not after 8 or 9.
-fn behind_run(run: Run, found: u8, end: usize) -> Numeral
+fn behind_run(run: Run, found: u8, end: usize) -> Result<(u64, u8, usize), Refusal>
     ensures { result ≡ behind_run found end run }
 {
     match run {
-        Run::Value(magnitude) => Numeral::Read(magnitude, found, end),
-        Run::Empty => Numeral::Refused(Refusal::expected_integer(end)),
-        Run::Underscore => Numeral::Refused(Refusal::underscore_at_beginning(0)),
-        Run::NotDigit(at) => Numeral::Refused(Refusal::invalid_integer_digit(at)),
-        Run::Over => Numeral::Refused(Refusal::integer_out_of_bounds(end)),
+        Run::Value(magnitude) => Ok((magnitude, found, end)),
+        Run::Empty => Err(Refusal::expected_integer(end)),
+        Run::Underscore => Err(Refusal::underscore_at_beginning(0)),
+        Run::NotDigit(at) => Err(Refusal::invalid_integer_digit(at)),
+        Run::Over => Err(Refusal::integer_out_of_bounds(end)),
     }
 }
 
 // What stands behind sign and prefix.
-fn digits_and_suffix(t: &[u8], asked: u8, minus: bool, base: u64) -> Numeral
+fn digits_and_suffix(
+    t: &[u8],
+    asked: u8,
+    minus: bool,
+    base: u64,
+) -> Result<(u64, u8, usize), Refusal>
     requires { (0 < base) × (base ≤ 16) }
     ensures { result ≡ numeral_of asked minus base t.now }
 {
@@ -131,14 +122,14 @@ pub fn typed(s: &[u8], width: Width) -> Integer
     let asked = code_of(width);
     let read = digits_and_suffix(&s[at..], asked, front.minus, front.base);
     match read {
-        Numeral::Read(magnitude, found, end) => {
+        Ok((magnitude, found, end)) => {
             if is_other(found, asked) {
                 return Integer::OtherSuffix;
             }
             let value = value_of(front.minus, magnitude);
             Integer::Read(value, at + end)
         }
-        Numeral::Refused(refusal) => Integer::Refused(placed_behind(refusal, at)),
+        Err(refusal) => Integer::Refused(placed_behind(refusal, at)),
     }
 }
 
@@ -153,11 +144,11 @@ fn width_for(found: u8, minus: bool, magnitude: u64) -> Width
 }
 
 // A read of any width.
-pub fn any_integer(s: &[u8]) -> AnyInteger
+pub fn any_integer(s: &[u8]) -> Result<(Width, usize), Refusal>
     ensures { result ≡ any_of s.now }
 {
     if s.len() == 0 {
-        return AnyInteger::Refused(Refusal::eof(0));
+        return Err(Refusal::eof(0));
     }
     let front = front_of(s);
     let at = front.end;
@@ -165,10 +156,10 @@ pub fn any_integer(s: &[u8]) -> AnyInteger
     let asked = widest_of(minus);
     let read = digits_and_suffix(&s[at..], asked, minus, front.base);
     match read {
-        Numeral::Read(magnitude, found, end) => {
+        Ok((magnitude, found, end)) => {
             let width = width_for(found, minus, magnitude);
-            AnyInteger::Read(width, at + end)
+            Ok((width, at + end))
         }
-        Numeral::Refused(refusal) => AnyInteger::Refused(placed_behind(refusal, at)),
+        Err(refusal) => Err(placed_behind(refusal, at)),
     }
 }

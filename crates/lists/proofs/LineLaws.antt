@@ -1,4 +1,5 @@
 -- What the lines say, word by word. Assumes nothing.
+use Rattle.std.proofs.Common.{Ok}
 use Prim.Native.Nat.{ℕ, ◌-◌, ◌<◌, ◌≤◌}
 use mathlib.Core.Bool.{Bool, true, false, cond}
 use mathlib.Core.List.{List}
@@ -10,7 +11,7 @@ use Rattle.lines.specs.Out.{put}
 use Rattle.lines.specs.Over.{over}
 use Rattle.read.specs.Read.{read_answer, read_tape}
 use Rattle.show.specs.Answers.{bad_text}
-use Rattle.text.specs.Refusals.{Told, accepted}
+use Rattle.text.specs.Refusals.{Told}
 use Rattle.words.specs.Hex.{hex_in, pairs}
 use Rattle.words.specs.Number.{decimal_of}
 use Rattle.words.specs.Numbers.{numbers_in, numbers_of}
@@ -236,7 +237,7 @@ module _ (text tape links numbers spare left : List ℕ) (e : left ≡ read_tape
       (p ∙ ap (λ (x : List ℕ × Three). put out x.0) same, (e, b ∙ ap (λ (x : List ℕ × Three). x.1) same))
 
 module _ (text tape links numbers spare left : List ℕ) (e : left ≡ read_tape text tape) (out end : List ℕ × ℕ) (n : ℕ)
-    (t : accepted n ≡ read_answer text (length tape)) where
+    (t : Ok n ≡ read_answer text (length tape)) where
   pub accepted_listed : (k : ℕ) (stored items : List ℕ) → k ≡ length (gathered left n (length links))
       → stored ≡ over (gathered left n (length links)) links → items ≡ take k stored
       → (q : Asked) → q ≡ asked (most_for (length items)) (most_for (length items)) n → (ms cs : List ℕ)
@@ -247,7 +248,7 @@ module _ (text tape links numbers spare left : List ℕ) (e : left ≡ read_tape
       let same : items ≡ all = gathered_said left n links stored items k c s i in
       let list : List ℕ → List ℕ × Two = λ l. list_in text left (asked (most_for (length l)) (most_for (length l)) n) l numbers spare in
       let is : list_in text left q items numbers spare ≡ list all = ap (λ (x : Asked). list_in text left x items numbers spare) f ∙ ap list same in
-      read_listed text tape links numbers spare left e out end (stored, ms, cs) (accepted n) t
+      read_listed text tape links numbers spare left e out end (stored, ms, cs) (Ok n) t
       (a.0 ∙ ap (λ (x : List ℕ × Two). put out x.0) is)
       (ap (λ (x : Two). (stored, x.0, x.1)) a.1 ∙ ap (λ (x : List ℕ × Two). (stored, x.1.0, x.1.1)) is
       ∙ ap (λ (x : List ℕ). (x, (list all).1.0, (list all).1.1)) s)

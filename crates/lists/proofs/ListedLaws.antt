@@ -1,4 +1,5 @@
 -- What is said of a list that is read into two marked buffers. Assumes nothing.
+use Rattle.std.proofs.Common.{Ok, Err}
 use Prim.Native.Nat.{ℕ, ◌-◌, ◌≤◌}
 use native.Mathlib.Omega.{arith}
 use mathlib.Core.Bool.{Bool, true, false, ◌&&◌}
@@ -10,9 +11,7 @@ use Rattle.lent.specs.Marks.{mark_at, byte_mark_at, marked, kept_from}
 use Rattle.lent.proofs.MarkLaws.{marked_length}
 use Rattle.lines.specs.Out.{put}
 use Rattle.lines.proofs.OutLaws.{then}
-use Rattle.sarridok.specs.Integers.{told_integers, done, integers_of, magnitudes_after, codes_after}
-use Rattle.sarridok.specs.declared.integers_call.IntegersAnswer.{IntegersAnswer}
-use Rattle.sarridok.specs.declared.integers_call.IntegersAnswer.TheVariants as answer
+use Rattle.sarridok.specs.Integers.{done, integers_of, magnitudes_after, codes_after}
 use Rattle.show.specs.Answers.{clean_text, refused_text}
 use Rattle.show.specs.Many.{many_text}
 use Rattle.text.specs.Refusals.{Told}
@@ -58,22 +57,22 @@ module _ (text tape : List ℕ) (count : ℕ) (items magnitudes codes ms cs : Li
 
 -- ---- what it says
 
-module _ (n : ℕ) (ms cs : List ℕ) (out mid end : List ℕ × ℕ) (clean : Bool) (z : end ≡ put mid (clean_text clean)) (a : IntegersAnswer) where
-  pub written_said : a ≡ answer.Written → (s t : List ℕ) → s ≡ take n ms → t ≡ take (n - 0) cs → mid ≡ put out (many_text s t)
-      → clean ≡ both_kept n (ms, cs) → end ≡ put out (called_text (told_integers a) n (ms, cs))
+module _ (n : ℕ) (ms cs : List ℕ) (out mid end : List ℕ × ℕ) (clean : Bool) (z : end ≡ put mid (clean_text clean)) (a : Told Unit) where
+  pub written_said : a ≡ Ok tt → (s t : List ℕ) → s ≡ take n ms → t ≡ take (n - 0) cs → mid ≡ put out (many_text s t)
+      → clean ≡ both_kept n (ms, cs) → end ≡ put out (called_text (a) n (ms, cs))
   written_said g s t e f p k =
       let all : n - 0 ≡ n = omega arith in
       then out mid end (many_text s t) (clean_text clean) p z
       ∙ ap (λ (x : List ℕ). put out (many_text x t ++ clean_text clean)) e
       ∙ ap (λ (x : List ℕ). put out (many_text (take n ms) x ++ clean_text clean)) (f ∙ ap (λ (i : ℕ). take i cs) all)
       ∙ ap (λ (b : Bool). put out (many_text (take n ms) (take n cs) ++ clean_text b)) k
-      ∙ sym (ap (λ (x : IntegersAnswer). put out (called_text (told_integers x) n (ms, cs))) g)
+      ∙ sym (ap (λ (x : Told Unit). put out (called_text (x) n (ms, cs))) g)
 
-  pub refused_said : (r : Refusal) → a ≡ answer.Refused r → mid ≡ put out (refused_text r) → clean ≡ both_kept 0 (ms, cs)
-      → end ≡ put out (called_text (told_integers a) n (ms, cs))
+  pub refused_said : (r : Refusal) → a ≡ Err r → mid ≡ put out (refused_text r) → clean ≡ both_kept 0 (ms, cs)
+      → end ≡ put out (called_text (a) n (ms, cs))
   refused_said r g p k =
       then out mid end (refused_text r) (clean_text clean) p z ∙ ap (λ (b : Bool). put out (refused_text r ++ clean_text b)) k
-      ∙ sym (ap (λ (x : IntegersAnswer). put out (called_text (told_integers x) n (ms, cs))) g)
+      ∙ sym (ap (λ (x : Told Unit). put out (called_text (x) n (ms, cs))) g)
 
 pub list_said : (text tape : List ℕ) (count : ℕ) (items magnitudes codes : List ℕ) (told : Told Unit) (left : Two) (out end : List ℕ × ℕ)
     → told ≡ done (integers_of text tape count items (length magnitudes) (length codes)) → left ≡ buffers_left text tape count items magnitudes codes

@@ -1,10 +1,11 @@
 -- The integers that a list of entries names, read by one call into two marked buffers.
+use Rattle.std.specs.Prelude.{Ok, Err}
 use Rattle.std.specs.Prelude.{ℕ, ◌+◌, min, Bool, ◌&&◌, List, ◌++◌, length, take, drop}
 use Rattle.lent.specs.Marks.{mark_at, byte_mark_at, marked, kept_from}
 use Rattle.sarridok.specs.Integers.{done, integers_of, magnitudes_after, codes_after}
 use Rattle.show.specs.Answers.{clean_text, refused_text}
 use Rattle.show.specs.Many.{many_text}
-use Rattle.text.specs.Refusals.{Told, accepted, refused}
+use Rattle.text.specs.Refusals.{Told}
 use Rattle.lists.specs.declared.listed.Asked.{Asked}
 
 -- How long the two buffers are, and how many entries the tape has.
@@ -24,8 +25,8 @@ both_kept from left = kept_from mark_at (drop from left.0) from && kept_from byt
 
 -- What is said of a list of n: a refused call may change neither buffer, an accepted one nothing behind the list's length.
 abbrev pub called_text : Told Unit → ℕ → List ℕ × List ℕ → List ℕ
-called_text (accepted u) n left = many_text (take n left.0) (take n left.1) ++ clean_text (both_kept n left)
-called_text (refused r) n left = refused_text r ++ clean_text (both_kept 0 left)
+called_text (Ok u) n left = many_text (take n left.0) (take n left.1) ++ clean_text (both_kept n left)
+called_text (Err r) n left = refused_text r ++ clean_text (both_kept 0 left)
 
 -- The answer, and whether the call left all marks that it may not change.
 unfoldable pub list_text : (text tape : List ℕ) (count : ℕ) (items magnitudes codes : List ℕ) → List ℕ

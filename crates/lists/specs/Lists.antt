@@ -1,9 +1,10 @@
 -- `I LISTROOM CODEROOM COUNT E,E,.. HEX N,N,..` and `n HEX`: a list of integers over a text and its tape.
+use Rattle.std.specs.Prelude.{Ok, Err}
 use Rattle.std.specs.Prelude.{ℕ, cond, List, ltb, length}
 use Rattle.lines.specs.Over.{over}
 use Rattle.read.specs.Read.{read_answer, read_tape}
 use Rattle.show.specs.Answers.{bad_text, refused_text}
-use Rattle.text.specs.Refusals.{Told, accepted, refused}
+use Rattle.text.specs.Refusals.{Told}
 use Rattle.words.specs.Hex.{pairs}
 use Rattle.words.specs.Number.{decimal_of}
 use Rattle.words.specs.Numbers.{numbers_of}
@@ -59,12 +60,12 @@ any_line words text tape links numbers spare =
 
 -- All integers of a text that was read, with room enough: what is said, and the list, the magnitudes and the codes afterwards.
 abbrev pub read_list : Told ℕ → (text tape links numbers spare : List ℕ) → List ℕ × (List ℕ × List ℕ × List ℕ)
-read_list (accepted n) text tape links numbers spare =
+read_list (Ok n) text tape links numbers spare =
     let items = gathered tape n (length links) in
     let room = most_for (length items) in
     let list = list_in text tape (asked room room n) items numbers spare in
     (list.0, (over items links, list.1.0, list.1.1))
-read_list (refused r) text tape links numbers spare = (refused_text r, (links, numbers, spare))
+read_list (Err r) text tape links numbers spare = (refused_text r, (links, numbers, spare))
 
 -- A text read into a tape, and then all its integers.
 unfoldable pub list_of_text : (text tape links numbers spare : List ℕ) → List ℕ × (List ℕ × List ℕ × List ℕ)

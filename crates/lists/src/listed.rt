@@ -1,11 +1,11 @@
 // The integers of a list into two marked buffers.
 ghost use Rattle.std.specs.Prelude.{◌≡◌, length, take};
 ghost use Rattle.lines.specs.Out.{put};
-ghost use Rattle.sarridok.specs.Integers.{told_integers, done, integers_of};
+ghost use Rattle.sarridok.specs.Integers.{done, integers_of};
 ghost use Rattle.lists.specs.Listed.{buffers_left, both_kept, called_text, list_text, most_for, room_for, list_in};
 
 use lent::{bytes, magnitudes};
-use sarridok::IntegersAnswer;
+use text::Refusal;
 
 // What a line asks: how long the two buffers are, and how many entries the tape has.
 #[derive(Clone, Copy)]
@@ -43,8 +43,8 @@ fn call(
     items: &[u32],
     magnitudes: &mut [u64],
     codes: &mut [u8],
-) -> IntegersAnswer
-    ensures result_value { told_integers result ≡ done (integers_of text.now tape.now count items.now
+) -> Result<(), Refusal>
+    ensures result_value { result ≡ done (integers_of text.now tape.now count items.now
         (length magnitudes.old) (length codes.old)) }
     ensures codes_after { (magnitudes.new, codes.new) ≡ buffers_left text.now tape.now count items.now
         magnitudes.old codes.old }
@@ -56,21 +56,21 @@ fn call(
 
 // What the call says of a list of n, read off the buffers; a refused call may change neither, an accepted one nothing behind the list's length.
 fn said(
-    r: IntegersAnswer,
+    r: Result<(), Refusal>,
     n: usize,
     magnitudes: &[u64],
     codes: &[u8],
     o: &mut [u8],
     at: usize,
 ) -> usize
-    ensures { (o.new, result) ≡ put (o.old, at) (called_text (told_integers r) n (magnitudes.now, codes.now)) }
+    ensures { (o.new, result) ≡ put (o.old, at) (called_text (r) n (magnitudes.now, codes.now)) }
 {
     match r {
-        IntegersAnswer::Written => {
+        Ok(()) => {
             let a = show::many::integers(o, at, first(magnitudes, n), lines::part(codes, 0, n));
             show::clean(o, a, both_kept(magnitudes, codes, n))
         }
-        IntegersAnswer::Refused(f) => {
+        Err(f) => {
             let a = show::refused(o, at, f);
             show::clean(o, a, both_kept(magnitudes, codes, 0))
         }

@@ -1,4 +1,5 @@
 -- Every repair of a tape that `read` or `repair` left answers as `read` of the new text does. Assumes nothing.
+use Rattle.std.proofs.Common.{Ok, Err}
 use Prim.Native.Nat.{ℕ, suc, ◌≤◌}
 use native.Mathlib.Omega.{arith}
 use mathlib.Core.Bool.{Bool}
@@ -8,7 +9,7 @@ use mathlib.Core.Path.{◌≡◌, ap, refl, subst, sym, ◌∙◌}
 use lib.ListN.{length, take}
 use lib.Seq.{length-take-le, take_at}
 use Rattle.text.proofs.Choices.{cond_cases}
-use Rattle.text.specs.Refusals.{Told, accepted, refused}
+use Rattle.text.specs.Refusals.{Told}
 use Rattle.text.specs.declared.refusal.Refusal.{Refusal}
 use Rattle.rows.specs.Rows.{entries_of, laid}
 use Rattle.rows.specs.declared.Entry.{Entry}
@@ -20,8 +21,6 @@ use Rattle.reading.proofs.KeptLaws.{kept_behind_holds}
 use Rattle.read.proofs.AcceptedReads.{read_accepted}
 use Rattle.read.specs.Read.{read_answer, read_tape, reading_of}
 use Rattle.repair.specs.Repair.{Repaired, cleared, entries_by, found_of, kept_of, repair_of, repaired_tape}
-use Rattle.repair.specs.declared.join.Scan.{Scan}
-use Rattle.repair.specs.declared.join.Scan.TheVariants.{Found, Refused as Failed}
 use Rattle.mending.specs.Fresh.{OldText, fresh_by, fresh_call, fresh_call_tape, with_kept}
 use Rattle.mending.proofs.Again.{Held, after_read, after_repair}
 use Rattle.mending.proofs.Demand3.{demand3_call}
@@ -29,25 +28,25 @@ use Rattle.mending.proofs.Whole.{before_is, refused_too, whole}
 use Rattle.mended.specs.Mended.{AsRead, Left, Mended}
 use Rattle.mended.specs.Mended.Left.{by_read, by_repair}
 
-clash : {X : Type 0} {A : Type 0} {a : A} {r : Refusal} → ◌≡◌ {A = Told A} (refused r) (accepted a) → X
+clash : {X : Type 0} {A : Type 0} {a : A} {r : Refusal} → ◌≡◌ {A = Told A} (Err r) (Ok a) → X
 clash e = let z : ◌≡◌ {A = ℕ} 0 1 = cc in absurd (omega arith)
 
 -- ---- the answer of a call by the reading's
 
-kept_refused : (x y : ℕ) (t : Told ℕ) (r : Refusal) → with_kept x y t ≡ refused r → t ≡ refused r
-kept_refused x y (accepted n) r h = clash (sym h)
-kept_refused x y (refused q) r h = let e : q ≡ r = cc in ap refused e
+kept_refused : (x y : ℕ) (t : Told ℕ) (r : Refusal) → with_kept x y t ≡ Err r → t ≡ Err r
+kept_refused x y (Ok n) r h = clash (sym h)
+kept_refused x y (Err q) r h = let e : q ≡ r = cc in ap Err e
 
-kept_accepted : (x y : ℕ) (t : Told ℕ) (p : Repaired) → with_kept x y t ≡ accepted p → t ≡ accepted p.count
-kept_accepted x y (accepted n) p h = let e : record { count = n; before = x; behind = y } ≡ p = cc in ap (λ (q : Repaired). accepted q.count) e
-kept_accepted x y (refused q) p h = clash h
+kept_accepted : (x y : ℕ) (t : Told ℕ) (p : Repaired) → with_kept x y t ≡ Ok p → t ≡ Ok p.count
+kept_accepted x y (Ok n) p h = let e : record { count = n; before = x; behind = y } ≡ p = cc in ap (λ (q : Repaired). Ok q.count) e
+kept_accepted x y (Err q) p h = clash h
 
 -- ---- the rows
 
 held_rows : (text tape : List ℕ) (n : ℕ) → Held text tape n → entries_of n tape ≡ entries (reading_of text)
 held_rows text tape n h = sym (ap entries h.holds ∙ entries_complete (entries_of n tape))
 
-read_rows : (text tape : List ℕ) (n : ℕ) → read_answer text (length tape) ≡ accepted n → entries_of n (read_tape text tape) ≡ entries (reading_of text)
+read_rows : (text tape : List ℕ) (n : ℕ) → read_answer text (length tape) ≡ Ok n → entries_of n (read_tape text tape) ≡ entries (reading_of text)
 read_rows text tape n h = held_rows text (read_tape text tape) n (after_read text tape n h)
 
 -- ---- what is kept
@@ -77,27 +76,27 @@ module _ (old tape : List ℕ) (count a b e : ℕ) (new : List ℕ) (O : OldText
   behind = kept_behind (length old) (length new) e (entries_of count tape) (entries (reading_of new))
 
   -- the new entries begin with the old ones that are kept before
-  first_rows : (n : ℕ) → counted 0 (reading_of new) ≡ accepted n → take before rows ≡ take before was
+  first_rows : (n : ℕ) → counted 0 (reading_of new) ≡ Ok n → take before rows ≡ take before was
   first_rows n h = go (found_of was (kept_of was a new) b e new) refl
     where
-      go : (s : Scan) → found_of was (kept_of was a new) b e new ≡ s → take before rows ≡ take before was
-      go (Failed d) g = clash (sym (refused_too old tape count a b e new O d g) ∙ h)
-      go (Found m i) g =
+      go : (s : Told (ℕ × ℕ)) → found_of was (kept_of was a new) b e new ≡ s → take before rows ≡ take before was
+      go (Err d) g = clash (sym (refused_too old tape count a b e new O d g) ∙ h)
+      go (Ok (m, i)) g =
           let w = whole old tape count a b e new O m i g in
           let k : kept_of was a new ≡ before = sym (before_is old tape count a b e new O) in
           let all : rows ≡ entries_by was (kept_of was a new) m i b e new = ap entries w.reading_is ∙ entries_complete w.all ∙ sym w.rows in
           ap (take before) (all ∙ ap (λ (j : ℕ). entries_by was j m i b e new) k) ∙ take_at (take before was) _ before (length-take-le before was (before_le old a was))
 
   -- the answer and the tape of the call, where `read` of the new text accepts
-  accepted_call : (n : ℕ) → read_answer new (length tape) ≡ accepted n → repair_of tape count (length old) a b new ≡ accepted (record { count = n; before = before; behind = behind })
+  accepted_call : (n : ℕ) → read_answer new (length tape) ≡ Ok n → repair_of tape count (length old) a b new ≡ Ok (record { count = n; before = before; behind = behind })
   unfolding fresh_call
   accepted_call n h = (demand3_call old tape count a b e new O).0 ∙ ap (with_kept before behind) h
 
-  accepted_tape : (n : ℕ) → read_answer new (length tape) ≡ accepted n → repaired_tape tape count (length old) a b new ≡ laid rows (cleared count tape)
+  accepted_tape : (n : ℕ) → read_answer new (length tape) ≡ Ok n → repaired_tape tape count (length old) a b new ≡ laid rows (cleared count tape)
   unfolding fresh_call_tape
   accepted_tape n h = (demand3_call old tape count a b e new O).1 ∙ ap (λ (y : Told ℕ). fresh_by y tape count new) h
 
-  mended : (n : ℕ) → read_answer new (length tape) ≡ accepted n → Mended old tape count a b e new n (repaired_tape tape count (length old) a b new)
+  mended : (n : ℕ) → read_answer new (length tape) ≡ Ok n → Mended old tape count a b e new n (repaired_tape tape count (length old) a b new)
   mended n h =
       let now : List ℕ = repaired_tape tape count (length old) a b new in
       let held : Held new now n = subst (λ (t : List ℕ). Held new t n) (sym (demand3_call old tape count a b e new O).1) (after_repair new tape count n O.room h) in
@@ -115,7 +114,7 @@ module _ (old tape : List ℕ) (count a b e : ℕ) (new : List ℕ) (O : OldText
             ∙ (kept_behind_holds (length old) (length new) e was rows).all_moved;
       }
 
-  refuses : (r : Refusal) → (repair_of tape count (length old) a b new ≡ refused r) ↔ (read_answer new (length tape) ≡ refused r)
+  refuses : (r : Refusal) → (repair_of tape count (length old) a b new ≡ Err r) ↔ (read_answer new (length tape) ≡ Err r)
   unfolding fresh_call
   refuses r = (
     (λ h. kept_refused before behind (read_answer new (length tape)) r (sym (demand3_call old tape count a b e new O).0 ∙ h)),

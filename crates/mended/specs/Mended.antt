@@ -1,7 +1,7 @@
 -- The third demand over the calls (document 01, "Repair"): "Accepted, the slice holds the new entries, zeros up to the old count, and beyond it what stood
 -- there." A repair answers as a fresh reading of the new text does, and the entries that it reports as kept are those that document 01 counts.
+use Rattle.std.specs.Prelude.{Ok, Err}
 use Rattle.std.specs.Prelude.{ℕ, true, List, ◌↔◌, ◌≡◌, length, take}
-use Rattle.text.specs.Refusals.{accepted, refused}
 use Rattle.text.specs.declared.refusal.Refusal.{Refusal}
 use Rattle.rows.specs.Rows.{entries_of, laid}
 use Rattle.reading.specs.Kept.{Replaced, are_moved, kept_before, kept_behind, last_of}
@@ -12,9 +12,9 @@ use Rattle.repair.specs.Repair.{Repaired, cleared, repair_of, repaired_tape}
 -- `Left text tape n`: an accepted `read` of the text left this tape with n entries, or an accepted `repair` did, over a tape that was left so for a text
 -- with one run replaced.
 pub data Left : List ℕ → List ℕ → ℕ → Type 0 where
-  by_read : (text tape : List ℕ) (n : ℕ) → read_answer text (length tape) ≡ accepted n → Left text (read_tape text tape) n
+  by_read : (text tape : List ℕ) (n : ℕ) → read_answer text (length tape) ≡ Ok n → Left text (read_tape text tape) n
   by_repair : (old tape : List ℕ) (count a b e : ℕ) (new : List ℕ) (p : Repaired) → Left old tape count → Replaced old new a b e
-      → repair_of tape count (length old) a b new ≡ accepted p → Left new (repaired_tape tape count (length old) a b new) p.count
+      → repair_of tape count (length old) a b new ≡ Ok p → Left new (repaired_tape tape count (length old) a b new) p.count
 
 -- The repair of a tape of `count` entries comes to n entries on the tape `now`, which are those that `read` of the new text leaves in a tape of that
 -- length; of these the first are old ones that document 01 counts, and the last are old ones moved, as many as it counts; behind the entries stand zeros
@@ -22,7 +22,7 @@ pub data Left : List ℕ → List ℕ → ℕ → Type 0 where
 pub record Mended (old tape : List ℕ) (count a b e : ℕ) (new : List ℕ) (n : ℕ) (now : List ℕ) : Type 0 where
   pub before : ℕ
   pub behind : ℕ
-  pub answer : repair_of tape count (length old) a b new ≡ accepted (record { count = n; before = before; behind = behind })
+  pub answer : repair_of tape count (length old) a b new ≡ Ok (record { count = n; before = before; behind = behind })
   pub as_read : (other : List ℕ) → length other ≡ length tape → entries_of n now ≡ entries_of n (read_tape new other)
   pub zeros : now ≡ laid (entries_of n now) (cleared count tape)
   pub counts_before : before ≡ kept_before quiet_byte old a (entries_of count tape)
@@ -32,5 +32,5 @@ pub record Mended (old tape : List ℕ) (count a b e : ℕ) (new : List ℕ) (n 
 
 -- A repair answers as `read` of the new text in a tape of that length does: it is refused with the same refusal, or comes to the same entries.
 pub record AsRead (old tape : List ℕ) (count a b e : ℕ) (new : List ℕ) : Type 0 where
-  pub refuses : (r : Refusal) → (repair_of tape count (length old) a b new ≡ refused r) ↔ (read_answer new (length tape) ≡ refused r)
-  pub accepts : (n : ℕ) → read_answer new (length tape) ≡ accepted n → Mended old tape count a b e new n (repaired_tape tape count (length old) a b new)
+  pub refuses : (r : Refusal) → (repair_of tape count (length old) a b new ≡ Err r) ↔ (read_answer new (length tape) ≡ Err r)
+  pub accepts : (n : ℕ) → read_answer new (length tape) ≡ Ok n → Mended old tape count a b e new n (repaired_tape tape count (length old) a b new)

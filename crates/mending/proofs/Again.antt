@@ -1,10 +1,11 @@
 -- A tape that an accepted read or repair leaves holds the reading of its text, so that it may be repaired next. Assumes nothing.
+use Rattle.std.proofs.Common.{Ok}
 use Prim.Native.Nat.{ℕ, ◌*◌, ◌≤◌}
 use native.Mathlib.Omega.{arith}
 use mathlib.Core.List.{List}
 use mathlib.Core.Path.{◌≡◌, ap, refl, sym, ◌∙◌, subst}
 use lib.ListN.{length, drop, replicate, length-append, length-drop, length-replicate}
-use Rattle.text.specs.Refusals.{Told, accepted}
+use Rattle.text.specs.Refusals.{Told}
 use Rattle.rows.proofs.RowLaws.{entries_flat, length_flat}
 use Rattle.rows.specs.Rows.{entries_of, flat, laid, room_of, width}
 use Rattle.rows.specs.declared.Entry.{Entry}
@@ -21,7 +22,7 @@ pub record Held (text tape : List ℕ) (n : ℕ) : Type 0 where
   pub holds : reading_of text ≡ entries_of n tape ▸ complete
   pub room : n ≤ room_of (length tape)
 
-laid_held : (text t : List ℕ) (n : ℕ) → counted 0 (reading_of text) ≡ accepted n → n ≤ room_of (length t) → Held text (laid (entries (reading_of text)) t) n
+laid_held : (text t : List ℕ) (n : ℕ) → counted 0 (reading_of text) ≡ Ok n → n ≤ room_of (length t) → Held text (laid (entries (reading_of text)) t) n
 unfolding laid
 laid_held text t n h l =
     let es : List Entry = entries (reading_of text) in
@@ -34,13 +35,13 @@ laid_held text t n h l =
     }
 
 -- what an accepted read leaves
-pub after_read : (text tape : List ℕ) (n : ℕ) → read_answer text (length tape) ≡ accepted n → Held text (read_tape text tape) n
+pub after_read : (text tape : List ℕ) (n : ℕ) → read_answer text (length tape) ≡ Ok n → Held text (read_tape text tape) n
 after_read text tape n h =
     let a = read_accepted text (length tape) n h in
-    subst (λ (t : List ℕ). Held text t n) (sym (tape-by text tape (accepted n) (sym h))) (laid_held text tape n a.counts a.fits)
+    subst (λ (t : List ℕ). Held text t n) (sym (tape-by text tape (Ok n) (sym h))) (laid_held text tape n a.counts a.fits)
 
 -- and what a repair leaves, where it answers as an accepted read
-pub after_repair : (text tape : List ℕ) (count n : ℕ) → count ≤ room_of (length tape) → read_answer text (length tape) ≡ accepted n → Held text (fresh_call_tape tape count text) n
+pub after_repair : (text tape : List ℕ) (count n : ℕ) → count ≤ room_of (length tape) → read_answer text (length tape) ≡ Ok n → Held text (fresh_call_tape tape count text) n
 unfolding fresh_call_tape cleared
 after_repair text tape count n c h =
     let a = read_accepted text (length tape) n h in

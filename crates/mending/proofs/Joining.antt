@@ -1,4 +1,6 @@
 -- What the search for the join finds, where the old entries are in order. Assumes nothing.
+use Rattle.std.proofs.Common.{Ok, Err}
+use Rattle.text.specs.Refusals.{Told}
 use Prim.Native.Nat.{◌+◌, ◌<◌, ◌≤◌, suc, zero, ℕ}
 use native.Mathlib.Nat.{le_of_suc-le-suc, not-suc-le-zero}
 use native.Mathlib.Omega.{arith}
@@ -15,7 +17,6 @@ use Rattle.reading.specs.Readings.Reading.{broken, complete, entry}
 use Rattle.repair.proofs.Finding.{joins_true}
 use Rattle.repair.proofs.Leading.{lead_at, lead_not}
 use Rattle.repair.specs.Repair.{joins, leading, moved_before, no_entry, scan_of, seek_of}
-use Rattle.repair.specs.declared.join.Scan.TheVariants.{Found, Refused as Failed}
 use Rattle.rows.proofs.OrderLaws.{in_order_rise, in_order_row}
 use Rattle.rows.specs.Order.{in_order_from}
 use Rattle.rows.specs.declared.Entry.{Entry}
@@ -108,7 +109,7 @@ module _ (old : List Entry) (o n b e : ℕ) (sorted : in_order_from old 0 o ≡ 
   one_more r c m k x a (ends ns er em ek al) = ends (x ∷ ns) (ap (entry x) er) (omega arith) ek (a, al)
   one_more r c m k x a (meets ns y r' er em al late lt eq g) = meets (x ∷ ns) y r' (ap (entry x) er) (omega arith) (a, al) late lt eq g
 
-  pub scan_found : (r : Reading) (c m k : ℕ) → scan_of old b e c r ≡ Found m k → Joined r c m k
+  pub scan_found : (r : Reading) (c m k : ℕ) → scan_of old b e c r ≡ Ok (m, k) → Joined r c m k
   unfolding scan_of
   scan_found complete c m k f =
       let u : c ≡ m = cc in
@@ -118,8 +119,8 @@ module _ (old : List Entry) (o n b e : ℕ) (sorted : in_order_from old 0 o ≡ 
   scan_found (entry x r) c m k f = go (joins old b e x.gap x.start (seek_of old b e x.start)) refl f (λ h. scan_found r (c + 1) m k h)
     where
       go : (t : Bool) → joins old b e x.gap x.start (seek_of old b e x.start) ≡ t
-          → cond t (Found c (seek_of old b e x.start)) (scan_of old b e (c + 1) r) ≡ Found m k
-          → (scan_of old b e (c + 1) r ≡ Found m k → Joined r (c + 1) m k) → Joined (entry x r) c m k
+          → ◌≡◌ {A = Told (ℕ × ℕ)} (cond t (Ok (c, seek_of old b e x.start)) (scan_of old b e (c + 1) r)) (Ok (m, k))
+          → (scan_of old b e (c + 1) r ≡ Ok (m, k) → Joined r (c + 1) m k) → Joined (entry x r) c m k
       go true j h rec =
           let u : c ≡ m = cc in
           let v : seek_of old b e x.start ≡ k = cc in
@@ -131,13 +132,13 @@ module _ (old : List Entry) (o n b e : ℕ) (sorted : in_order_from old 0 o ≡ 
       go false j h rec = one_more r c m k x (none_there x j) (rec h)
 
 -- and a refusal that it meets is the reading's
-pub scan_refused : (old : List Entry) (b e : ℕ) (r : Reading) (c : ℕ) (d : Refusal) → scan_of old b e c r ≡ Failed d → (ns : List Entry) × (r ≡ ns ▸ broken d)
+pub scan_refused : (old : List Entry) (b e : ℕ) (r : Reading) (c : ℕ) (d : Refusal) → scan_of old b e c r ≡ Err d → (ns : List Entry) × (r ≡ ns ▸ broken d)
 unfolding scan_of
 scan_refused old b e complete c d f = let z : ◌≡◌ {A = ℕ} 0 1 = cc in absurd (omega arith)
 scan_refused old b e (broken q) c d f = let u : q ≡ d = cc in ([], ap broken u)
 scan_refused old b e (entry x r) c d f = go (joins old b e x.gap x.start (seek_of old b e x.start)) f (λ h. scan_refused old b e r (c + 1) d h)
   where
-    go : (t : Bool) → cond t (Found c (seek_of old b e x.start)) (scan_of old b e (c + 1) r) ≡ Failed d
-        → (scan_of old b e (c + 1) r ≡ Failed d → (ns : List Entry) × (r ≡ ns ▸ broken d)) → (ns : List Entry) × (entry x r ≡ ns ▸ broken d)
+    go : (t : Bool) → ◌≡◌ {A = Told (ℕ × ℕ)} (cond t (Ok (c, seek_of old b e x.start)) (scan_of old b e (c + 1) r)) (Err d)
+        → (scan_of old b e (c + 1) r ≡ Err d → (ns : List Entry) × (r ≡ ns ▸ broken d)) → (ns : List Entry) × (entry x r ≡ ns ▸ broken d)
     go true h rec = let z : ◌≡◌ {A = ℕ} 0 1 = cc in absurd (omega arith)
     go false h rec = let w = rec h in (x ∷ w.0, ap (entry x) w.1)

@@ -1,4 +1,5 @@
 -- The new reading, put together from what a repair keeps and reads. Assumes nothing.
+use Rattle.std.proofs.Common.{Ok, Err}
 use Prim.Native.Nat.{◌+◌, ◌-◌, ◌<◌, ◌≤◌, suc, zero, ℕ}
 use native.Mathlib.Nat.{le_of_suc-le-suc, not-suc-le-zero}
 use native.Mathlib.Omega.{arith}
@@ -23,14 +24,12 @@ use Rattle.reading.specs.Readings.{Reading, counted, entries, read_from, read_pa
 use Rattle.reading.specs.Readings.Reading.{broken, complete, entry}
 use Rattle.repair.proofs.Leading.{lead_at, lead_le, lead_not}
 use Rattle.repair.specs.Repair.{cut_fits, ends_before, entries_by, found_of, kept_of, leading, moved_from, new_end, no_entry, repair_fits, resume_at}
-use Rattle.repair.specs.declared.join.Scan.TheVariants.{Found, Refused as Failed}
 use Rattle.rows.proofs.OrderLaws.{in_order_rise, in_order_row}
 use Rattle.rows.proofs.RowLaws.{length_entries}
 use Rattle.rows.specs.Order.{in_order, in_order_from}
 use Rattle.rows.specs.Rows.{entries_of, room_of}
 use Rattle.rows.specs.declared.Entry.{Entry}
 use Rattle.text.proofs.Choices.{either, lt_or_le}
-use Rattle.text.specs.Refusals.Told.{refused}
 use Rattle.text.specs.declared.refusal.Refusal.{Refusal}
 use Rattle.tokens.proofs.RonLaws.{kinds, laws}
 use Rattle.tokens.specs.Ron.{ron_token}
@@ -163,13 +162,13 @@ module _ (old tape : List ℕ) (count a b e : ℕ) (new : List ℕ) (O : OldText
   from_front ns r h = goes-on ∙ ap (λ (x : Reading). take j was ▸ x) h ∙ sym (▸-append (take j was) ns r)
 
   -- ---- a refusal
-  pub refused_too : (d : Refusal) → found_of (entries_of count tape) (kept_of (entries_of count tape) a new) b e new ≡ Failed d → counted 0 (reading_of new) ≡ refused d
+  pub refused_too : (d : Refusal) → found_of (entries_of count tape) (kept_of (entries_of count tape) a new) b e new ≡ Err d → counted 0 (reading_of new) ≡ Err d
   refused_too d h =
       let w = scan_refused was b e (read_from ron_token new P) 0 d h in
       ap (counted 0) (from_front w.0 (broken d) w.1) ∙ counted_broken (take j was ++ w.0) 0 d
 
   -- ---- the whole of an accepted one
-  module _ (m i : ℕ) (found : found_of (entries_of count tape) (kept_of (entries_of count tape) a new) b e new ≡ Found m i) where
+  module _ (m i : ℕ) (found : found_of (entries_of count tape) (kept_of (entries_of count tape) a new) b e new ≡ Ok (m, i)) where
     pub record Whole : Type 0 where
       pub all : List Entry
       pub reading_is : reading_of new ≡ all ▸ complete

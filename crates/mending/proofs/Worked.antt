@@ -1,8 +1,8 @@
 -- The worked repair of document 01, computed from the definitions: `[7, 8, 9]`, cut 4 to 6, new bytes `/*8,*/`: accepted, kept 3 and, since the 9 has another gap, 1. Assumes nothing.
+use Rattle.std.proofs.Common.{Ok, Err}
 use Prim.Native.Nat.{ℕ}
 use mathlib.Core.List.{List, [], ◌∷◌}
 use mathlib.Core.Path.{◌≡◌, refl}
-use Rattle.text.specs.Refusals.Told.{accepted, refused}
 use Rattle.text.specs.Refusals.{unclosed_block_comment}
 use Rattle.text.specs.Classes.{within, blank1, blank2, blank3, blank_width, digit, hex_digit, int_char, float_char, letter}
 use Rattle.text.specs.Runs.{run, run2}
@@ -47,7 +47,7 @@ abbrev changed : List ℕ
 changed = 0x5b ∷ 0x37 ∷ 0x2c ∷ 0x20 ∷ 0x2f ∷ 0x2a ∷ 0x38 ∷ 0x2c ∷ 0x2a ∷ 0x2f ∷ 0x20 ∷ 0x39 ∷ 0x5d ∷ []
 
 -- five entries, three of them kept before and one behind
-pub worked : repair_answer_of tape 7 9 4 6 changed ≡ accepted (record { count = 5; before = 3; behind = 1 })
+pub worked : repair_answer_of tape 7 9 4 6 changed ≡ Ok (record { count = 5; before = 3; behind = 1 })
 unfolding repair_answer_of repair_fits cut_fits leading joins scan_of in_order in_order_from orderly last_quiet quiet_byte end_of place tokens_from ron_token gap_of gap_from item_of comment_of behind_slash block_end block_from mark_of blank_width blank1 blank2 blank3 within run run2 token_of shape_of mark_kind starts_number behind_b behind_r number_of float_ahead float_goes float_char digit hex_digit int_char letter any_of numeral_of front_of sign_of prefix_of hex_of digits_from run_of turn_of first_fit limit_at suffix_of suffix_word width_at first_of ident_of starts_with entries_of
 worked = refl
 
@@ -62,6 +62,6 @@ worked_tape = refl
 abbrev opened : List ℕ
 opened = 0x5b ∷ 0x37 ∷ 0x2c ∷ 0x2f ∷ 0x2a ∷ 0x20 ∷ 0x38 ∷ 0x2c ∷ 0x20 ∷ 0x39 ∷ 0x5d ∷ []
 
-pub worked_open : repair_answer_of tape 7 9 3 3 opened ≡ refused (unclosed_block_comment 11)
+pub worked_open : repair_answer_of tape 7 9 3 3 opened ≡ Err (unclosed_block_comment 11)
 unfolding repair_answer_of repair_fits cut_fits leading joins scan_of in_order in_order_from orderly last_quiet quiet_byte end_of place tokens_from ron_token gap_of gap_from item_of comment_of behind_slash block_end block_from mark_of blank_width blank1 blank2 blank3 within run run2 token_of shape_of mark_kind starts_number behind_b behind_r number_of float_ahead float_goes float_char digit hex_digit int_char letter any_of numeral_of front_of sign_of prefix_of hex_of digits_from run_of turn_of first_fit limit_at suffix_of suffix_word width_at first_of ident_of starts_with entries_of
 worked_open = refl

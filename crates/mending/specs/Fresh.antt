@@ -2,8 +2,9 @@
 -- answers as a fresh reading of the new text with the same room does. Document 01: "Shown with it: k reaches from the first new entry, at or behind the
 -- new bytes' end, that starts where a moved old entry starts, to the last; if none does, k is 0." Document 02, CR 6: "the first new entry is then the
 -- first whose gap agrees too".
+use Rattle.std.specs.Prelude.{Ok, Err}
 use Rattle.std.specs.Prelude.{ℕ, ◌+◌, ◌-◌, ◌≤◌, ◌≡◌, Bool, false, not, ◌&&◌, ◌||◌, List, [], ◌∷◌, leb, eqb, length}
-use Rattle.text.specs.Refusals.{Told, accepted, refused}
+use Rattle.text.specs.Refusals.{Told}
 use Rattle.rows.specs.Rows.{room_of, entries_of, laid}
 use Rattle.rows.specs.declared.Entry.{Entry}
 use Rattle.reading.specs.Owed.{quiet_byte}
@@ -20,8 +21,8 @@ pub record OldText (old tape : List ℕ) (count a b e : ℕ) (new : List ℕ) : 
 
 -- The answer of a reading, with what was kept of the old entries.
 abbrev pub with_kept : ℕ → ℕ → Told ℕ → Told Repaired
-with_kept before behind (accepted n) = accepted (record { count = n; before = before; behind = behind })
-with_kept before behind (refused r) = refused r
+with_kept before behind (Ok n) = Ok (record { count = n; before = before; behind = behind })
+with_kept before behind (Err r) = Err r
 
 -- What a repair is to answer: what a fresh reading with the same room answers, and document 01's counts.
 unfoldable pub fresh_answer : List ℕ → List ℕ → ℕ → ℕ → ℕ → List ℕ → Told Repaired
@@ -33,8 +34,8 @@ fresh_answer old tape count a e new =
 
 -- The new entries, zeros up to the old count, and beyond it what stood there; as it was where the reading is refused.
 abbrev pub fresh_by : Told ℕ → List ℕ → ℕ → List ℕ → List ℕ
-fresh_by (accepted n) tape count new = laid (entries (reading_of new)) (cleared count tape)
-fresh_by (refused r) tape count new = tape
+fresh_by (Ok n) tape count new = laid (entries (reading_of new)) (cleared count tape)
+fresh_by (Err r) tape count new = tape
 
 -- What the tape is to hold then.
 unfoldable pub fresh_tape : List ℕ → ℕ → List ℕ → List ℕ

@@ -1,4 +1,6 @@
 -- What the parts of a number that the code has in hand make up. Assumes nothing.
+use Rattle.text.specs.Refusals.{Told}
+use Rattle.integers.specs.declared.width.Width.{Width}
 use Prim.Native.Nat.{ℕ, zero, suc, ◌+◌, ◌≤◌}
 use native.Mathlib.Omega.{arith}
 use mathlib.Core.Bool.{Bool, false, true}
@@ -13,7 +15,6 @@ use Rattle.floats.specs.Float.{float_of}
 use Rattle.integers.specs.Front.{sign_of}
 use Rattle.integers.specs.Integer.{any_of}
 use Rattle.integers.specs.declared.front.Sign.{Sign}
-use Rattle.integers.specs.declared.integer.AnyInteger.{AnyInteger}
 use Rattle.numbers.specs.Numbers.{float_ahead, number_of, of_float, or_else}
 use Rattle.text.proofs.Choices.{bool_cases, either}
 use Rattle.text.specs.Classes.{int_char}
@@ -39,6 +40,6 @@ pub number_float : (s : List ℕ) → float_ahead s ≡ true → of_float (float
 unfolding number_of
 number_float s e = rw e
 
-pub number_else : (s : List ℕ) → float_ahead s ≡ false → (i : AnyInteger) → i ≡ any_of s → or_else i (float_of s) ≡ number_of s
+pub number_else : (s : List ℕ) → float_ahead s ≡ false → (i : Told (Width × ℕ)) → i ≡ any_of s → or_else i (float_of s) ≡ number_of s
 unfolding number_of
 number_else s e i ei = rw (e, ei)

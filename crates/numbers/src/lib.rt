@@ -8,9 +8,9 @@ ghost use Rattle.numbers.specs.Numbers.{float_ahead, of_float, or_float, number_
 
 use digits::digit::run_len;
 use floats::class::{float_run, goes_on};
-use floats::float::{AnyFloat, FloatSpan, float};
+use floats::float::{FloatSpan, float};
 use integers::front::sign_of;
-use integers::integer::{AnyInteger, any_integer};
+use integers::integer::any_integer;
 use integers::width::Width;
 use text::Refusal;
 
@@ -38,12 +38,12 @@ pub fn next_bytes_is_float(s: &[u8]) -> bool
 }
 
 // A float's answer as a number's.
-fn of_float(f: AnyFloat) -> Number
+fn of_float(f: Result<FloatSpan, Refusal>) -> Number
     ensures { result ≡ of_float f }
 {
     match f {
-        AnyFloat::Read(span) => Number::Float(span),
-        AnyFloat::Refused(refusal) => Number::Refused(refusal),
+        Ok(span) => Number::Float(span),
+        Err(refusal) => Number::Refused(refusal),
     }
 }
 
@@ -53,13 +53,13 @@ fn or_float(refusal: Refusal, s: &[u8]) -> Number
 {
     let f = float(s);
     match f {
-        AnyFloat::Read(span) => {
+        Ok(span) => {
             if refusal.place <= span.len {
                 return Number::Float(span);
             }
             Number::Refused(refusal)
         }
-        AnyFloat::Refused(_) => Number::Refused(refusal),
+        Err(_) => Number::Refused(refusal),
     }
 }
 
@@ -72,7 +72,7 @@ pub fn any_number(s: &[u8]) -> Number
     }
     let i = any_integer(s);
     match i {
-        AnyInteger::Read(width, len) => Number::Int(width, len),
-        AnyInteger::Refused(refusal) => or_float(refusal, s),
+        Ok((width, len)) => Number::Int(width, len),
+        Err(refusal) => or_float(refusal, s),
     }
 }

@@ -6,6 +6,7 @@
 --     ascii-whole, ascii-breaks           an ASCII byte behind
 --     char-whole                          a whole character's width does not depend on what stands behind
 -- Assumes nothing.
+use Rattle.std.proofs.Common.{Some, None}
 use Prim.Native.Nat.{ℕ, suc, ◌+◌, ◌-◌, ◌≤◌, ◌<◌}
 use native.Mathlib.Omega.{arith}
 use mathlib.Core.List.{List, [], ◌∷◌, ◌++◌, append_assoc, append-nil}
@@ -18,7 +19,6 @@ use Rattle.text.proofs.Utf8Agree.{char_len_char, char_pos, encoded_good, good_te
 use Rattle.text.specs.Utf8.{Char, Text, char_len, utf8_of}
 use Rattle.text.specs.Utf8.Char.{utf8_1, utf8_2, utf8_3a, utf8_3b, utf8_3c, utf8_3d, utf8_4a, utf8_4b, utf8_4c}
 use Rattle.text.specs.Utf8.Text.{none, more}
-use Rattle.text.specs.declared.utf8.Utf8Answer.TheVariants.{Good, BadAt}
 use Rattle.octets.specs.Octets.{Broken, Cut, Ends, Whole, allowed_of, further}
 use Rattle.octets.specs.Octets.Begins.{begins}
 use Rattle.octets.specs.declared.answer.Allowed.{Allowed}
@@ -69,18 +69,18 @@ part_none s w = at w.part w.is w.many
 pub all_text : (s : List ℕ) → (allowed_of s ≡ All 0) ↔ Text s
 all_text s = (λ e. part_none s ((allowed_all s 0).0 e), λ x. text_all s x)
 
-pub all_good : (s : List ℕ) → (allowed_of s ≡ All 0) ↔ (utf8_of s ≡ Good)
+pub all_good : (s : List ℕ) → (allowed_of s ≡ All 0) ↔ (utf8_of s ≡ None)
 all_good s = (λ e. encoded_good s (text_encoded ((all_text s).0 e)), λ e. text_all s (good_text s e))
 
-pub bad_place : (s v : List ℕ) (n k : ℕ) → allowed_of s ≡ Bad n k → utf8_of (s ++ v) ≡ BadAt k
+pub bad_place : (s v : List ℕ) (n k : ℕ) → allowed_of s ≡ Bad n k → utf8_of (s ++ v) ≡ Some k
 bad_place s v n k e =
     let w = (allowed_bad s n k).0 e in
     let same : s ++ v ≡ w.good ++ (w.part ++ w.byte ∷ (w.rest ++ v)) = ap (λ (u : List ℕ). u ++ v) w.is ∙ simp append_assoc in
     ap utf8_of same
     ∙ cut_place w.good w.part (w.byte ∷ (w.rest ++ v)) w.text w.cut (at_byte w.ends) (omega (arith, length-append w.part (w.byte ∷ (w.rest ++ v))))
-    ∙ ap BadAt w.starts
+    ∙ ap Some w.starts
 
-pub all_place : (s : List ℕ) (m : ℕ) → allowed_of s ≡ All (suc m) → utf8_of s ≡ BadAt (length s - suc m)
+pub all_place : (s : List ℕ) (m : ℕ) → allowed_of s ≡ All (suc m) → utf8_of s ≡ Some (length s - suc m)
 all_place s m e =
     let w = (allowed_all s (suc m)).0 e in
     let same : s ≡ w.good ++ (w.part ++ []) = w.is ∙ ap (λ (u : List ℕ). w.good ++ u) (sym (append-nil w.part)) in
@@ -89,7 +89,7 @@ all_place s m e =
     let place : length w.good ≡ length s - suc m = omega arith in
     ap utf8_of same
     ∙ cut_place w.good w.part [] w.text w.cut at_end (omega (arith, length-append w.part []))
-    ∙ ap BadAt place
+    ∙ ap Some place
 
 -- ---- where all may be taken
 

@@ -2,6 +2,7 @@
 --     allowed_all    all may be taken exactly where the bytes are whole characters and the front of one more
 --     allowed-bad    so many may be taken exactly where such a front stands there, and behind it a byte with which no character goes on
 -- Assumes nothing.
+use Rattle.std.proofs.Common.{Some, Option}
 use Prim.Native.Nat.{ℕ, ◌+◌, ◌<◌}
 use native.Mathlib.Omega.{arith}
 use mathlib.Core.List.{List, [], ◌∷◌, ◌++◌, append_assoc, append-nil}
@@ -17,8 +18,6 @@ use Rattle.text.proofs.Utf8Agree.Head.{no_char, a_char}
 use Rattle.text.proofs.Utf8Agree.Verdict.{good as all_text, bad as bad-at}
 use Rattle.text.proofs.Utf8Laws.{utf8_bad}
 use Rattle.text.specs.Utf8.{Char, Text, char_len, utf8_from, utf8_of}
-use Rattle.text.specs.declared.utf8.Utf8Answer.{Utf8Answer}
-use Rattle.text.specs.declared.utf8.Utf8Answer.TheVariants.{BadAt}
 use Rattle.octets.specs.Octets.{Begins, Broken, Cut, Ends, Whole, allowed_of, bad_of, begun_of, by_place}
 use Rattle.octets.specs.Octets.Begins.{begins}
 use Rattle.octets.specs.declared.answer.Allowed.{Allowed}
@@ -113,12 +112,12 @@ module _ (good p v : List ℕ) (x : Text good) (c : Cut p) (st : Stops p v) wher
   rest_is : drop (length good) (good ++ (p ++ v)) ≡ p ++ v
   rest_is = drop-append_seam good (p ++ v)
 
-  pub cut_place : 0 < length (p ++ v) → utf8_of (good ++ (p ++ v)) ≡ BadAt (length good)
+  pub cut_place : 0 < length (p ++ v) → utf8_of (good ++ (p ++ v)) ≡ Some (length good)
   unfolding utf8_of
   cut_place h =
       text_passed x 0 (p ++ v)
       ∙ utf8_bad (0 + length good) (p ++ v) h (cut_none p v c st)
-      ∙ ap BadAt (omega arith)
+      ∙ ap Some (omega arith)
 
   begun_there : begun_of (drop (length good) (good ++ (p ++ v))) ≡ length p
   begun_there = ap begun_of rest_is ∙ begun_cut p v c st
@@ -218,8 +217,8 @@ unfolding allowed_of utf8_of
 means s = go (verdict s)
   where
     go : Verdict 0 s → Means s (by_place s (utf8_from 0 0 s))
-    go (all_text x a) = subst (λ (u : Utf8Answer). Means s (by_place s u)) (sym a) (record { good = s; part = []; is = sym (append-nil s); text = x; cut = inl refl; many = refl })
-    go (bad-at k h x z a) = subst (λ (u : Utf8Answer). Means s (by_place s u)) (sym (a ∙ ap BadAt (omega arith))) (bad_means s k h x z)
+    go (all_text x a) = subst (λ (u : Option ℕ). Means s (by_place s u)) (sym a) (record { good = s; part = []; is = sym (append-nil s); text = x; cut = inl refl; many = refl })
+    go (bad-at k h x z a) = subst (λ (u : Option ℕ). Means s (by_place s u)) (sym (a ∙ ap Some (omega arith))) (bad_means s k h x z)
 
 -- ---- both ways
 

@@ -2,11 +2,10 @@
 -- enough, with three exceptions: bad UTF-8 and the byte after the 65,536th are told when met ..". A byte may be taken unless with it no UTF-8 goes on; the place
 -- is then the first byte of its sequence, as document 01 has it for refusal 2. A character may be cut off at the end of a piece, and go on in the next.
 -- A reader has to believe only `Begins`, `Whole` and `Broken`: that the answers agree with them is proved in proofs/Exactly.antt.
+use Rattle.std.specs.Prelude.{Some, None, Option}
 use Rattle.std.specs.Prelude.{ℕ, ◌+◌, cond, List, [], ◌∷◌, ◌++◌, ◌⊎◌, ◌≡◌, eqb, drop, get_or, length}
 use Rattle.text.specs.Classes.{within}
 use Rattle.text.specs.Utf8.{Char, Text, second_byte, tail_byte, utf8_of}
-use Rattle.text.specs.declared.utf8.Utf8Answer.{Utf8Answer}
-use Rattle.text.specs.declared.utf8.Utf8Answer.TheVariants.{Good, BadAt}
 use Rattle.octets.specs.declared.answer.Allowed.{Allowed}
 use Rattle.octets.specs.declared.answer.Allowed.TheVariants.{All, Bad}
 
@@ -64,9 +63,9 @@ unfoldable pub bad_of : List ℕ → ℕ → Allowed
 bad_of s k = let m = begun_of (drop k s) in cond (eqb (k + m) (length s)) (All m) (Bad (k + m) k)
 
 -- The answer by what the text is.
-abbrev pub by_place : List ℕ → Utf8Answer → Allowed
-by_place s Good = All 0
-by_place s (BadAt k) = bad_of s k
+abbrev pub by_place : List ℕ → Option ℕ → Allowed
+by_place s None = All 0
+by_place s (Some k) = bad_of s k
 
 -- What may be taken of s.
 unfoldable pub allowed_of : List ℕ → Allowed

@@ -5,7 +5,7 @@ ghost use Rattle.octets.specs.Octets.{begun3, begun_of, bad_of, allowed_of};
 use crate::answer::Allowed;
 use text::bytes::peek;
 use text::classes::is_within;
-use text::utf8::{Utf8Answer, first_bad, is_second};
+use text::utf8::{first_bad, is_second};
 
 // How many of three bytes a character begins with and goes on behind.
 fn begun_by(a: u8, b: u8, c: u8) -> usize
@@ -58,7 +58,7 @@ pub fn allowed(s: &[u8]) -> Allowed
 {
     let found = first_bad(s);
     match found {
-        Utf8Answer::Good => Allowed::All(0),
-        Utf8Answer::BadAt(k) => at_bad(s, k),
+        None => Allowed::All(0),
+        Some(k) => at_bad(s, k),
     }
 }

@@ -1,4 +1,7 @@
 -- Something is found: a comment that is not closed in the gap behind the last entry, and a string that is not closed behind that gap. Assumes nothing.
+use Rattle.std.proofs.Common.{Err}
+use Rattle.text.specs.Refusals.{Told}
+use Rattle.strings.specs.declared.literal.Literal.{Literal}
 use Prim.Native.Nat.{ℕ, zero, suc, pred, ◌+◌, ◌<◌}
 use native.Mathlib.Omega.{arith}
 use mathlib.Core.Bool.{true, false}
@@ -15,8 +18,6 @@ use Rattle.comments.specs.declared.gap.Item.{Item}
 use Rattle.comments.specs.declared.gap.Item.TheVariants.{Blank, LineOpen, BlockOpen, Unexpected, Ended, Other}
 use Rattle.strings.specs.Pieces.{unquoted}
 use Rattle.strings.specs.Strings.{string_of, byte_string_of}
-use Rattle.strings.specs.declared.literal.LiteralAnswer.{LiteralAnswer}
-use Rattle.strings.specs.declared.literal.LiteralAnswer.TheVariants.{Refused}
 use Rattle.text.proofs.Choices.{cond_cases}
 use Rattle.text.specs.Refusals.{eof, expected_byte_string, expected_string, unexpected_char}
 use Rattle.text.specs.Runs.{run}
@@ -98,36 +99,36 @@ item_ends a s Other q h = q
 -- ---- a string
 
 -- the string or the byte string at the front
-abbrev Either : List ℕ → LiteralAnswer → Type 0
+abbrev Either : List ℕ → Told Literal → Type 0
 Either s a = (string_of s ≡ a) ⊎ (byte_string_of s ≡ a)
 
 module _ (r : Refusal) (is-17 : r.number ≡ 17) where
-  opens : (s : List ℕ) (a : LiteralAnswer) → a ≡ Refused r → by_literal a s ≡ OpenString (run unquoted s)
+  opens : (s : List ℕ) (a : Told Literal) → a ≡ Err r → by_literal a s ≡ OpenString (run unquoted s)
   opens s a e =
-      ap (λ (x : LiteralAnswer). by_literal x s) e ∙ rw (eq-eqb r.number 17 is-17)
+      ap (λ (x : Told Literal). by_literal x s) e ∙ rw (eq-eqb r.number 17 is-17)
 
-  no_string : (s : List ℕ) → eqb (get_or s 0 0) 0x62 ≡ true → string_of s ≡ Refused r → ⊥
+  no_string : (s : List ℕ) → eqb (get_or s 0 0) 0x62 ≡ true → string_of s ≡ Err r → ⊥
   unfolding string_of
   no_string s b =
       let first = eqb-true (get_or s 0 0) 0x62 b in
-      cond_cases (λ (a : LiteralAnswer). a ≡ Refused r → ⊥) (eqb (get_or s 0 0) 0x22) _ _ (λ x e. omega (arith, first, eqb-true (get_or s 0 0) 0x22 x))
-      (λ y. cond_cases (λ (a : LiteralAnswer). a ≡ Refused r → ⊥) (eqb (get_or s 0 0) 0x72) _ _ (λ x e. omega (arith, first, eqb-true (get_or s 0 0) 0x72 x))
+      cond_cases (λ (a : Told Literal). a ≡ Err r → ⊥) (eqb (get_or s 0 0) 0x22) _ _ (λ x e. omega (arith, first, eqb-true (get_or s 0 0) 0x22 x))
+      (λ y. cond_cases (λ (a : Told Literal). a ≡ Err r → ⊥) (eqb (get_or s 0 0) 0x72) _ _ (λ x e. omega (arith, first, eqb-true (get_or s 0 0) 0x72 x))
       (λ x e. (let i : expected_string 0 ≡ r = cc in omega (arith, ap (λ (x : Refusal). x.number) i))))
 
-  no_byte_string : (s : List ℕ) → eqb (get_or s 0 0) 0x62 ≡ false → byte_string_of s ≡ Refused r → ⊥
+  no_byte_string : (s : List ℕ) → eqb (get_or s 0 0) 0x62 ≡ false → byte_string_of s ≡ Err r → ⊥
   unfolding byte_string_of
   no_byte_string s b =
-      cond_cases (λ (a : LiteralAnswer). a ≡ Refused r → ⊥) (eqb (get_or s 0 0) 0x62) _ _ (λ x e. (let z : true ≡ false = sym x ∙ b in let w : ◌≡◌ {A = ℕ} 0 1 = cc in omega arith))
+      cond_cases (λ (a : Told Literal). a ≡ Err r → ⊥) (eqb (get_or s 0 0) 0x62) _ _ (λ x e. (let z : true ≡ false = sym x ∙ b in let w : ◌≡◌ {A = ℕ} 0 1 = cc in omega arith))
       (λ x e. (let i : expected_byte_string 0 ≡ r = cc in omega (arith, ap (λ (x : Refusal). x.number) i)))
 
-  literal_opens : (s : List ℕ) → Either s (Refused r) → literal_front s ≡ OpenString (run unquoted s)
+  literal_opens : (s : List ℕ) → Either s (Err r) → literal_front s ≡ OpenString (run unquoted s)
   unfolding literal_front
   literal_opens s (inl e) =
-      cond_cases (λ (a : LiteralAnswer). by_literal a s ≡ OpenString (run unquoted s)) (eqb (get_or s 0 0) 0x62) _ _ (λ b. absurd (no_string s b e)) (λ b. opens s (string_of s) e)
+      cond_cases (λ (a : Told Literal). by_literal a s ≡ OpenString (run unquoted s)) (eqb (get_or s 0 0) 0x62) _ _ (λ b. absurd (no_string s b e)) (λ b. opens s (string_of s) e)
   literal_opens s (inr e) =
-      cond_cases (λ (a : LiteralAnswer). by_literal a s ≡ OpenString (run unquoted s)) (eqb (get_or s 0 0) 0x62) _ _ (λ b. opens s (byte_string_of s) e) (λ b. absurd (no_byte_string s b e))
+      cond_cases (λ (a : Told Literal). by_literal a s ≡ OpenString (run unquoted s)) (eqb (get_or s 0 0) 0x62) _ _ (λ b. opens s (byte_string_of s) e) (λ b. absurd (no_byte_string s b e))
 
-  front_opens : (t : List ℕ) (to : ℕ) → 0 < length t → gap_of t ≡ Clear 0 → Either t (Refused r) → begun_from t 0 to ≡ Quote (to + run unquoted t)
+  front_opens : (t : List ℕ) (to : ℕ) → 0 < length t → gap_of t ≡ Clear 0 → Either t (Err r) → begun_from t 0 to ≡ Quote (to + run unquoted t)
   unfolding gap_of gap_from begun_from front_of
   front_opens [] to l h w = absurd (omega arith)
   front_opens (a ∷ s) to l h w =
@@ -136,7 +137,7 @@ module _ (r : Refusal) (is-17 : r.number ≡ 17) where
 
   -- a string that is not closed behind the gap behind the last entry is found
   pub string_shows : (text : List ℕ) (g : ℕ) → gap_of (drop (reached_of text) text) ≡ Clear g → 0 < length (drop g (drop (reached_of text) text))
-      → Either (drop g (drop (reached_of text) text)) (Refused r) → (p : ℕ) × (read_begun text 17 ≡ Quote p)
+      → Either (drop g (drop (reached_of text) text)) (Err r) → (p : ℕ) × (read_begun text 17 ≡ Quote p)
   unfolding gap_of read_begun
   string_shows text g h l w =
       let s : List ℕ = drop (reached_of text) text in

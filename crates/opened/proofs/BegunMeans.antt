@@ -1,4 +1,7 @@
 -- What is found begins where it is said to: a comment or a string that is not closed, or an opening bracket. Assumes nothing.
+use Rattle.std.proofs.Common.{Ok, Err, Some, None, Option}
+use Rattle.text.specs.Refusals.{Told}
+use Rattle.strings.specs.declared.literal.Literal.{Literal}
 use Prim.Native.Nat.{ℕ, zero, suc, pred, ◌+◌, ◌<◌}
 use native.Mathlib.Omega.{arith}
 use mathlib.Core.Bool.{Bool, true, false, not, cond}
@@ -13,8 +16,6 @@ use Rattle.comments.proofs.Nesting.{unclosed}
 use Rattle.comments.specs.Blocks.{block_end}
 use Rattle.comments.specs.Gaps.{behind_slash, block_item, comment_of, item_of, line_item}
 use Rattle.comments.specs.Lines.{line_end}
-use Rattle.comments.specs.declared.block.CommentEnd.{CommentEnd}
-use Rattle.comments.specs.declared.block.CommentEnd.TheVariants.{Closed, Unclosed}
 use Rattle.comments.specs.declared.gap.Item.{Item}
 use Rattle.comments.specs.declared.gap.Item.TheVariants.{Blank, LineOpen, BlockOpen, Unexpected, Ended, Other}
 use Rattle.escapes.specs.declared.answers.Mode.{Mode}
@@ -23,8 +24,6 @@ use Rattle.strings.proofs.Wholes.{none_here}
 use Rattle.strings.specs.Pieces.{unquoted}
 use Rattle.strings.specs.Raw.{hash, missing, raw_of}
 use Rattle.strings.specs.Strings.{string_of, byte_string_of}
-use Rattle.strings.specs.declared.literal.LiteralAnswer.{LiteralAnswer}
-use Rattle.strings.specs.declared.literal.LiteralAnswer.TheVariants.{Read, Refused}
 use Rattle.text.proofs.Choices.{cond_cases}
 use Rattle.text.specs.Classes.{blank_width}
 use Rattle.text.specs.Refusals.{expected_string, expected_byte_string}
@@ -40,9 +39,9 @@ use Rattle.opened.specs.declared.front.Front.TheVariants.{Passes, OpenComment, O
 
 -- ---- a comment at the front
 
-literal_no_comment : (s : List ℕ) (a : LiteralAnswer) {X : Type 0} → by_literal a s ≡ OpenComment → X
-literal_no_comment s (Read l) {X} = λ h. (let z : ◌≡◌ {A = ℕ} 0 1 = cc in absurd (omega arith))
-literal_no_comment s (Refused r) {X} =
+literal_no_comment : (s : List ℕ) (a : Told Literal) {X : Type 0} → by_literal a s ≡ OpenComment → X
+literal_no_comment s (Ok l) {X} = λ h. (let z : ◌≡◌ {A = ℕ} 0 1 = cc in absurd (omega arith))
+literal_no_comment s (Err r) {X} =
     cond_cases (λ (f : Front). f ≡ OpenComment → X) (eqb r.number 17) _ _
     (λ e h. (let z : ◌≡◌ {A = ℕ} 0 1 = cc in absurd (omega arith))) (λ e h. (let z : ◌≡◌ {A = ℕ} 0 1 = cc in absurd (omega arith)))
 
@@ -61,13 +60,13 @@ comment_opens s =
     cond_cases (λ (r : Item). r ≡ BlockOpen → comment_of s ≡ BlockOpen) (ltb 0 (blank_width (get_or s 0 0) (get_or s 1 0) (get_or s 2 0)))
     (Blank (blank_width (get_or s 0 0) (get_or s 1 0) (get_or s 2 0))) (comment_of s) (λ e h. (let z : ◌≡◌ {A = ℕ} 0 1 = cc in absurd (omega arith))) (λ e h. h)
 
-line_no_block : (e : CommentEnd) {X : Type 0} → line_item e ≡ BlockOpen → X
-line_no_block (Closed n) h = let z : ◌≡◌ {A = ℕ} 0 1 = cc in absurd (omega arith)
-line_no_block Unclosed h = let z : ◌≡◌ {A = ℕ} 0 1 = cc in absurd (omega arith)
+line_no_block : (e : Option ℕ) {X : Type 0} → line_item e ≡ BlockOpen → X
+line_no_block (Some n) h = let z : ◌≡◌ {A = ℕ} 0 1 = cc in absurd (omega arith)
+line_no_block None h = let z : ◌≡◌ {A = ℕ} 0 1 = cc in absurd (omega arith)
 
-block_opens : (e : CommentEnd) → block_item e ≡ BlockOpen → e ≡ Unclosed
-block_opens (Closed n) h = let z : ◌≡◌ {A = ℕ} 0 1 = cc in absurd (omega arith)
-block_opens Unclosed h = refl
+block_opens : (e : Option ℕ) → block_item e ≡ BlockOpen → e ≡ None
+block_opens (Some n) h = let z : ◌≡◌ {A = ℕ} 0 1 = cc in absurd (omega arith)
+block_opens None h = refl
 
 abbrev Opening : List ℕ → Item → Type 0
 Opening s r = r ≡ BlockOpen → CommentAt s 0
@@ -127,38 +126,38 @@ missing_number Char p h = omega arith
 missing_number Bytes p h = omega arith
 
 module _ (s : List ℕ) (r : Refusal) (is-17 : r.number ≡ 17) where
-  raw_quote : (m : Mode) (start : ℕ) → raw_of m start s ≡ Refused r → HasQuote s
+  raw_quote : (m : Mode) (start : ℕ) → raw_of m start s ≡ Err r → HasQuote s
   unfolding raw_of
   raw_quote m start =
-      cond_cases (λ (a : LiteralAnswer). a ≡ Refused r → HasQuote s) (eqb (get_or s (start + run hash (drop start s)) 0) 0x22) _ _
+      cond_cases (λ (a : Told Literal). a ≡ Err r → HasQuote s) (eqb (get_or s (start + run hash (drop start s)) 0) 0x22) _ _
       (λ q e. at_quote s (start + run hash (drop start s)) q)
       (λ q e. (let i : missing m (start + run hash (drop start s)) ≡ r = cc in absurd (missing_number m (start + run hash (drop start s)) (ap (λ (x : Refusal). x.number) i ∙ is-17))))
 
-  string_quote : string_of s ≡ Refused r → HasQuote s
+  string_quote : string_of s ≡ Err r → HasQuote s
   unfolding string_of
   string_quote =
-      cond_cases (λ (a : LiteralAnswer). a ≡ Refused r → HasQuote s) (eqb (get_or s 0 0) 0x22) _ _ (λ q e. at_quote s 0 q)
-      (λ x. cond_cases (λ (a : LiteralAnswer). a ≡ Refused r → HasQuote s) (eqb (get_or s 0 0) 0x72) _ _ (λ y e. raw_quote Str 1 e)
+      cond_cases (λ (a : Told Literal). a ≡ Err r → HasQuote s) (eqb (get_or s 0 0) 0x22) _ _ (λ q e. at_quote s 0 q)
+      (λ x. cond_cases (λ (a : Told Literal). a ≡ Err r → HasQuote s) (eqb (get_or s 0 0) 0x72) _ _ (λ y e. raw_quote Str 1 e)
       (λ y e. (let i : expected_string 0 ≡ r = cc in absurd (omega (arith, ap (λ (x : Refusal). x.number) i)))))
 
-  byte_string_quote : byte_string_of s ≡ Refused r → HasQuote s
+  byte_string_quote : byte_string_of s ≡ Err r → HasQuote s
   unfolding byte_string_of
   byte_string_quote =
-      cond_cases (λ (a : LiteralAnswer). a ≡ Refused r → HasQuote s) (eqb (get_or s 0 0) 0x62) _ _
-      (λ w. cond_cases (λ (a : LiteralAnswer). a ≡ Refused r → HasQuote s) (eqb (get_or s 1 0) 0x22) _ _ (λ q e. at_quote s 1 q)
-      (λ x. cond_cases (λ (a : LiteralAnswer). a ≡ Refused r → HasQuote s) (eqb (get_or s 1 0) 0x72) _ _ (λ y e. raw_quote Bytes 2 e)
+      cond_cases (λ (a : Told Literal). a ≡ Err r → HasQuote s) (eqb (get_or s 0 0) 0x62) _ _
+      (λ w. cond_cases (λ (a : Told Literal). a ≡ Err r → HasQuote s) (eqb (get_or s 1 0) 0x22) _ _ (λ q e. at_quote s 1 q)
+      (λ x. cond_cases (λ (a : Told Literal). a ≡ Err r → HasQuote s) (eqb (get_or s 1 0) 0x72) _ _ (λ y e. raw_quote Bytes 2 e)
       (λ y e. (let i : expected_byte_string 0 ≡ r = cc in absurd (omega (arith, ap (λ (x : Refusal). x.number) i))))))
       (λ w e. (let i : expected_byte_string 0 ≡ r = cc in absurd (omega (arith, ap (λ (x : Refusal). x.number) i))))
 
 -- the string or the byte string at the front
-abbrev Either : List ℕ → LiteralAnswer → Type 0
+abbrev Either : List ℕ → Told Literal → Type 0
 Either s a = (string_of s ≡ a) ⊎ (byte_string_of s ≡ a)
 
-either_quote : (s : List ℕ) (r : Refusal) → r.number ≡ 17 → Either s (Refused r) → HasQuote s
+either_quote : (s : List ℕ) (r : Refusal) → r.number ≡ 17 → Either s (Err r) → HasQuote s
 either_quote s r n (inl e) = string_quote s r n e
 either_quote s r n (inr e) = byte_string_quote s r n e
 
-quote_there : (s : List ℕ) (n : ℕ) (r : Refusal) → r.number ≡ 17 → Either s (Refused r) → run unquoted s ≡ n → QuoteAt s n
+quote_there : (s : List ℕ) (n : ℕ) (r : Refusal) → r.number ≡ 17 → Either s (Err r) → run unquoted s ≡ n → QuoteAt s n
 quote_there s n r k w e =
     let q = either_quote s r k w in
     let f = first_quote s q.0 q.1 q.2 in
@@ -172,9 +171,9 @@ quote_there s n r k w e =
       not_closed = w;
     }
 
-by-answer : (s : List ℕ) (n : ℕ) (a : LiteralAnswer) → Either s a → by_literal a s ≡ OpenString n → QuoteAt s n
-by-answer s n (Read l) w = λ h. (let z : ◌≡◌ {A = ℕ} 0 1 = cc in absurd (omega arith))
-by-answer s n (Refused r) w =
+by-answer : (s : List ℕ) (n : ℕ) (a : Told Literal) → Either s a → by_literal a s ≡ OpenString n → QuoteAt s n
+by-answer s n (Ok l) w = λ h. (let z : ◌≡◌ {A = ℕ} 0 1 = cc in absurd (omega arith))
+by-answer s n (Err r) w =
     cond_cases (λ (f : Front). f ≡ OpenString n → QuoteAt s n) (eqb r.number 17) _ _
     (λ e h. (let z : run unquoted s ≡ n = cc in quote_there s n r (eqb-true r.number 17 e) w z))
     (λ e h. (let z : ◌≡◌ {A = ℕ} 0 1 = cc in absurd (omega arith)))
@@ -182,7 +181,7 @@ by-answer s n (Refused r) w =
 literal_opens : (s : List ℕ) (n : ℕ) → literal_front s ≡ OpenString n → QuoteAt s n
 unfolding literal_front
 literal_opens s n =
-    cond_cases (λ (a : LiteralAnswer). by_literal a s ≡ OpenString n → QuoteAt s n) (eqb (get_or s 0 0) 0x62) _ _
+    cond_cases (λ (a : Told Literal). by_literal a s ≡ OpenString n → QuoteAt s n) (eqb (get_or s 0 0) 0x62) _ _
     (λ e. by-answer s n (byte_string_of s) (inr refl)) (λ e. by-answer s n (string_of s) (inl refl))
 
 item_quote : (s : List ℕ) (n : ℕ) (r : Item) → by_item r s ≡ OpenString n → QuoteAt s n
@@ -254,7 +253,7 @@ quote_from text k n x = record {
   before = omega (arith, x.before);
   refusal = x.refusal;
   number_is = x.number_is;
-  not_closed = subst (λ (s : List ℕ). Either s (Refused x.refusal)) (drop-drop x.begins k text) x.not_closed;
+  not_closed = subst (λ (s : List ℕ). Either s (Err x.refusal)) (drop-drop x.begins k text) x.not_closed;
 }
 
 -- what a search or none finds, it finds from where the text was read

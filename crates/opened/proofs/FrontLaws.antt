@@ -1,4 +1,6 @@
 -- What a part begins with: which it is, and that it lies within the part. Assumes nothing.
+use Rattle.std.proofs.Common.{Ok, Err}
+use Rattle.text.specs.Refusals.{Told}
 use Prim.Native.Nat.{ℕ, ◌<◌, ◌≤◌}
 use native.Mathlib.Omega.{arith}
 use mathlib.Core.Bool.{Bool, cond}
@@ -15,8 +17,6 @@ use Rattle.strings.proofs.Bounds.{Bounded-string, string_bounded, byte_string_bo
 use Rattle.strings.specs.Pieces.{unquoted}
 use Rattle.strings.specs.Strings.{string_of, byte_string_of}
 use Rattle.strings.specs.declared.literal.Literal.{Literal}
-use Rattle.strings.specs.declared.literal.LiteralAnswer.{LiteralAnswer}
-use Rattle.strings.specs.declared.literal.LiteralAnswer.TheVariants.{Read, Refused}
 use Rattle.text.proofs.Choices.{cond_cases}
 use Rattle.text.proofs.RunLaws.{run_le}
 use Rattle.text.specs.Runs.{run}
@@ -35,20 +35,20 @@ pub other_by : (s : List ℕ) (r : Item) → comment_of s ≡ r → by_item r s 
 other_by s r e = ap (λ (x : Item). by_item x s) (sym e)
 
 -- a string by the answer of its reader
-module _ (s : List ℕ) (a : LiteralAnswer) where
-  pub literal_read : (l : Literal) → a ≡ Read l → Passes l.len ≡ by_literal a s
-  literal_read l e = ap (λ (x : LiteralAnswer). by_literal x s) (sym e)
+module _ (s : List ℕ) (a : Told Literal) where
+  pub literal_read : (l : Literal) → a ≡ Ok l → Passes l.len ≡ by_literal a s
+  literal_read l e = ap (λ (x : Told Literal). by_literal x s) (sym e)
 
-  pub literal_open : (r : Refusal) → a ≡ Refused r → r.number ≡ 17 → (q : ℕ) → q ≡ run unquoted s → OpenString q ≡ by_literal a s
+  pub literal_open : (r : Refusal) → a ≡ Err r → r.number ≡ 17 → (q : ℕ) → q ≡ run unquoted s → OpenString q ≡ by_literal a s
   literal_open r e h q g =
-      ap OpenString g ∙ sym (ap (λ (t : Bool). cond t (OpenString (run unquoted s)) (Passes 1)) (eq-eqb r.number 17 h)) ∙ ap (λ (x : LiteralAnswer). by_literal x s) (sym e)
+      ap OpenString g ∙ sym (ap (λ (t : Bool). cond t (OpenString (run unquoted s)) (Passes 1)) (eq-eqb r.number 17 h)) ∙ ap (λ (x : Told Literal). by_literal x s) (sym e)
 
-  pub literal_none : (r : Refusal) → a ≡ Refused r → (r.number ≡ 17 → ⊥) → Passes 1 ≡ by_literal a s
+  pub literal_none : (r : Refusal) → a ≡ Err r → (r.number ≡ 17 → ⊥) → Passes 1 ≡ by_literal a s
   literal_none r e h =
-      sym (ap (λ (t : Bool). cond t (OpenString (run unquoted s)) (Passes 1)) (ne_eqb r.number 17 h)) ∙ ap (λ (x : LiteralAnswer). by_literal x s) (sym e)
+      sym (ap (λ (t : Bool). cond t (OpenString (run unquoted s)) (Passes 1)) (ne_eqb r.number 17 h)) ∙ ap (λ (x : Told Literal). by_literal x s) (sym e)
 
 -- a string by its first byte
-module _ (s : List ℕ) (a : LiteralAnswer) where
+module _ (s : List ℕ) (a : Told Literal) where
   pub literal_bytes : get_or s 0 0 ≡ 0x62 → a ≡ byte_string_of s → by_literal a s ≡ literal_front s
   unfolding literal_front
   literal_bytes h e = rw (eq-eqb (get_or s 0 0) 0x62 h, e)
@@ -64,14 +64,14 @@ Sized s OpenComment = Unit {0}
 Sized s (OpenString n) = n ≤ length s
 
 module _ (s : List ℕ) (some : 0 < length s) where
-  literal_sized : (a : LiteralAnswer) → Bounded-string s a → Sized s (by_literal a s)
-  literal_sized (Read l) b = (b.0, b.1)
-  literal_sized (Refused r) b = cond_cases (Sized s) (eqb r.number 17) _ _ (λ e. run_le unquoted s) (λ e. (omega arith, omega arith))
+  literal_sized : (a : Told Literal) → Bounded-string s a → Sized s (by_literal a s)
+  literal_sized (Ok l) b = (b.0, b.1)
+  literal_sized (Err r) b = cond_cases (Sized s) (eqb r.number 17) _ _ (λ e. run_le unquoted s) (λ e. (omega arith, omega arith))
 
   string_sized : Sized s (literal_front s)
   unfolding literal_front
   string_sized =
-      cond_cases (λ (a : LiteralAnswer). Sized s (by_literal a s)) (eqb (get_or s 0 0) 0x62) _ _
+      cond_cases (λ (a : Told Literal). Sized s (by_literal a s)) (eqb (get_or s 0 0) 0x62) _ _
       (λ e. literal_sized (byte_string_of s) (byte_string_bounded s)) (λ e. literal_sized (string_of s) (string_bounded s))
 
   sized_by : (r : Item) → Sized-item s r → Sized s (by_item r s)

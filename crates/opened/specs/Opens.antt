@@ -1,8 +1,8 @@
 -- What it means that something that is not closed begins at a place, or that a field is named before, said without the search that finds it.
+use Rattle.std.specs.Prelude.{Err}
 use Rattle.std.specs.Prelude.{ℕ, ◌<◌, ◌≤◌, true, List, ◌∷◌, ◌⊎◌, ◌≡◌, drop}
 use Rattle.comments.specs.Blocks.{Body}
 use Rattle.strings.specs.Strings.{string_of, byte_string_of}
-use Rattle.strings.specs.declared.literal.LiteralAnswer.TheVariants.{Refused}
 use Rattle.text.specs.declared.refusal.Refusal.{Refusal}
 use Rattle.fields.specs.Names.{name_at}
 use Rattle.opened.specs.Brackets.{innermost}
@@ -22,7 +22,7 @@ pub record QuoteAt (text : List ℕ) (p : ℕ) : Type 0 where
   pub before : begins ≤ p
   pub refusal : Refusal
   pub number_is : refusal.number ≡ 17
-  pub not_closed : (string_of (drop begins text) ≡ Refused refusal) ⊎ (byte_string_of (drop begins text) ≡ Refused refusal)
+  pub not_closed : (string_of (drop begins text) ≡ Err refusal) ⊎ (byte_string_of (drop begins text) ≡ Err refusal)
 
 -- Entry i names a field before entry n, with the same name and in the same brackets: the innermost bracket that is open before both is one.
 pub record NamedBefore (text tape : List ℕ) (n i : ℕ) : Type 0 where

@@ -5,8 +5,7 @@ ghost use Rattle.comments.specs.Gaps.{block_item, line_item, comment_of};
 ghost use Rattle.comments.specs.Lines.{line_end};
 ghost use Rattle.opened.specs.Fronts.{by_literal, literal_front, by_item, front_of};
 
-use comments::{CommentEnd, block_comment, line_comment};
-use strings::LiteralAnswer;
+use comments::{block_comment, line_comment};
 use strings::runs::find_quote;
 use text::Refusal;
 use text::bytes::peek;
@@ -30,11 +29,11 @@ fn block_front(s: &[u8]) -> Front
 {
     let end = block_comment(&s[2..]);
     match end {
-        CommentEnd::Closed(n) => {
+        Some(n) => {
             let taken = n + 2;
             Front::Passes(taken)
         }
-        CommentEnd::Unclosed => Front::OpenComment,
+        None => Front::OpenComment,
     }
 }
 
@@ -45,21 +44,21 @@ fn line_front(s: &[u8]) -> Front
 {
     let end = line_comment(&s[2..]);
     match end {
-        CommentEnd::Closed(n) => {
+        Some(n) => {
             let taken = n + 2;
             Front::Passes(taken)
         }
-        CommentEnd::Unclosed => Front::Passes(s.len()),
+        None => Front::Passes(s.len()),
     }
 }
 
 // The quote of a string that is not closed is the first one: before it only `b`, `r` and hashes can stand.
-fn by_literal(s: &[u8], a: LiteralAnswer) -> Front
+fn by_literal(s: &[u8], a: Result<Literal, Refusal>) -> Front
     ensures { result ≡ by_literal a s.now }
 {
     match a {
-        LiteralAnswer::Read(l) => Front::Passes(l.len),
-        LiteralAnswer::Refused(r) => {
+        Ok(l) => Front::Passes(l.len),
+        Err(r) => {
             if r.number == Refusal::EXPECTED_STRING_END {
                 return Front::OpenString(find_quote(s));
             }

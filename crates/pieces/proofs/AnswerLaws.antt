@@ -4,6 +4,7 @@
 --     no_room, stopped_there, given_there     the three answers
 --     not_ordered, state_refused, nothing_there, piece_there     the whole call
 -- Assumes nothing.
+use Rattle.std.proofs.Common.{Ok, Err}
 use Prim.Native.Nat.{ℕ, ◌+◌, ◌-◌, ◌<◌, ◌≤◌}
 use native.Mathlib.Omega.{arith}
 use mathlib.Core.Bool.{Bool, true, false, cond, not, ◌&&◌}
@@ -14,7 +15,7 @@ use lib.ListN.{drop, length, length-drop, take, take-append-drop}
 use lib.Seq.{drop_at, length-take-le, take-add}
 use borrow.Author.Tests.{eq-eqb, eqb-false, eqb-true, le-ltb, leb-true, lt-ltb, ne_eqb, not-false, not-true}
 use Rattle.text.proofs.Choices.{and_true, bool_cases, either, lt_or_le}
-use Rattle.text.specs.Refusals.{Told, accepted, refused, no_room, not_in_order}
+use Rattle.text.specs.Refusals.{Told, no_room, not_in_order}
 use Rattle.text.specs.declared.refusal.Refusal.{Refusal}
 use Rattle.rows.specs.Rows.{flat, laid, room_of}
 use Rattle.rows.specs.declared.Entry.{Entry}
@@ -251,14 +252,14 @@ module _ (a : Arrival) (buffer : List ℕ) (n : ℕ) (most : Most) (r : Reached)
   -- 22
   pub no-room : room_of (length tape) < r.ran.count → (d : Refusal) → d ≡ no_room → Answers (arrived.Refused d) buffer tape told buffer tape
   no-room l d e =
-      answers_by (arrived.Refused d) buffer tape told (refused no_room) buffer tape
-      (ap (λ (t : Bool). cond t (refused no_room) (accepted (outcome_in a buffer n))) (lt-ltb (room_of (length tape)) (length (outcome_in a buffer n).entries) (omega (arith, all_many))))
+      answers_by (arrived.Refused d) buffer tape told (Err no_room) buffer tape
+      (ap (λ (t : Bool). cond t (Err no_room) (Ok (outcome_in a buffer n))) (lt-ltb (room_of (length tape)) (length (outcome_in a buffer n).entries) (omega (arith, all_many))))
       (ap arrived.Refused e, refl, refl)
 
-  roomy : r.ran.count ≤ room_of (length tape) → (o : Outcome) → outcome_in a buffer n ≡ o → told ≡ accepted o
+  roomy : r.ran.count ≤ room_of (length tape) → (o : Outcome) → outcome_in a buffer n ≡ o → told ≡ Ok o
   roomy l o e =
-      ap (λ (t : Bool). cond t (refused no_room) (accepted (outcome_in a buffer n))) (le-ltb (room_of (length tape)) (length (outcome_in a buffer n).entries) (omega (arith, all_many)))
-      ∙ ap accepted e
+      ap (λ (t : Bool). cond t (Err no_room) (Ok (outcome_in a buffer n))) (le-ltb (room_of (length tape)) (length (outcome_in a buffer n).entries) (omega (arith, all_many)))
+      ∙ ap Ok e
 
   module _ (fit : r.ran.count ≤ room_of (length tape)) (d : Refusal) (stop : d ≡ stop_there a buffer n most r) (former : ℕ) (ends : former ≡ former_there a buffer n most r)
       (t : List ℕ) (lay : t ≡ laid (laid_there a buffer n most r) tape) where
@@ -268,7 +269,7 @@ module _ (a : Arrival) (buffer : List ℕ) (n : ℕ) (most : Most) (r : Reached)
         let not : (stop_there a buffer n most r).number ≡ 0 → ⊥ = λ q. some (ap (λ (x : Refusal). x.number) stop ∙ q) in
         let state : Arrival = stopped_state (a.taken - a.kept + r.ran.bytes) (former_there a buffer n most r) (stop_there a buffer n most r) in
         let is : next ≡ state = e ∙ ap₂ (stopped_state (a.taken - a.kept + r.ran.bytes)) ends stop in
-        answers_by (arrived.Stopped r.ran.count d next) buffer t told (accepted (stopping_there a buffer n most r)) buffer tape (roomy fit (stopping_there a buffer n most r) (h.stays not)) (
+        answers_by (arrived.Stopped r.ran.count d next) buffer t told (Ok (stopping_there a buffer n most r)) buffer tape (roomy fit (stopping_there a buffer n most r) (h.stays not)) (
           ap (λ (k : ℕ). arrived.Stopped k d next) (sym laid_many) ∙ ap₂ (arrived.Stopped (length (laid_there a buffer n most r))) stop is
               ∙ ap (λ (q : Bool). cond q (arrived.Given (length (laid_there a buffer n most r)) state) (arrived.Stopped (length (laid_there a buffer n most r)) (stop_there a buffer n most r) state))
               (sym (ne_eqb (stop_there a buffer n most r).number 0 not)),
@@ -286,7 +287,7 @@ module _ (a : Arrival) (buffer : List ℕ) (n : ℕ) (most : Most) (r : Reached)
         let low : from_there a buffer n most r ≤ most.end = h.kept-in num in
         let many : length (take (most.end - from_there a buffer n most r) (drop (from_there a buffer n most r) buffer)) ≡ most.end - from_there a buffer n most r =
         length-take-le (most.end - from_there a buffer n most r) (drop (from_there a buffer n most r) buffer) (omega (arith, h.inside, length-drop (from_there a buffer n most r) buffer)) in
-        answers_by (arrived.Given r.ran.count (state from former o d)) b t told (accepted (going_there a buffer n most r)) buffer tape (roomy fit (going_there a buffer n most r) (h.goes num)) (
+        answers_by (arrived.Given r.ran.count (state from former o d)) b t told (Ok (going_there a buffer n most r)) buffer tape (roomy fit (going_there a buffer n most r) (h.goes num)) (
           ap (λ (k : ℕ). arrived.Given k (state from former o d)) (sym laid_many)
               ∙ ap (λ (k : ℕ). arrived.Given (length (laid_there a buffer n most r)) (state k former o d)) from_is
               ∙ ap (λ (k : ℕ). arrived.Given (length (laid_there a buffer n most r)) (state (from_there a buffer n most r) k o d)) ends
@@ -312,8 +313,8 @@ module _ (a : Arrival) (buffer : List ℕ) (n : ℕ) (tape : List ℕ) where
   pub not_ordered : (t : Bool) → t ≡ (in_order a && leb (a.kept + n) (length buffer)) → not t ≡ true → (d : Refusal) → d ≡ not_in_order → Answers (arrived.Refused d) buffer tape whole buffer tape
   unfolding piece_of
   not_ordered t e h d q =
-      answers_by (arrived.Refused d) buffer tape whole (refused not_in_order) buffer tape
-      (ap (λ (x : Bool). cond x (cond (eqb a.refusal.number 0 && ltb 0 n) (in_room room (outcome_in a buffer n)) (accepted (unchanged a (take a.kept buffer)))) (refused not_in_order))
+      answers_by (arrived.Refused d) buffer tape whole (Err not_in_order) buffer tape
+      (ap (λ (x : Bool). cond x (cond (eqb a.refusal.number 0 && ltb 0 n) (in_room room (outcome_in a buffer n)) (Ok (unchanged a (take a.kept buffer)))) (Err not_in_order))
       (sym e ∙ not-true t h))
       (ap arrived.Refused q, refl, refl)
 
@@ -322,12 +323,12 @@ module _ (a : Arrival) (buffer : List ℕ) (n : ℕ) (tape : List ℕ) where
     both_true = and_true (in_order a) (leb (a.kept + n) (length buffer)) (sym e ∙ not-false t h)
 
     -- by whether anything is read
-    by_need : (b : Bool) → (eqb a.refusal.number 0 && ltb 0 n) ≡ b → whole ≡ cond b (in_room room (outcome_in a buffer n)) (accepted (unchanged a (take a.kept buffer)))
+    by_need : (b : Bool) → (eqb a.refusal.number 0 && ltb 0 n) ≡ b → whole ≡ cond b (in_room room (outcome_in a buffer n)) (Ok (unchanged a (take a.kept buffer)))
     unfolding piece_of
     by_need b q =
-        ap (λ (x : Bool). cond x (cond (eqb a.refusal.number 0 && ltb 0 n) (in_room room (outcome_in a buffer n)) (accepted (unchanged a (take a.kept buffer)))) (refused not_in_order))
+        ap (λ (x : Bool). cond x (cond (eqb a.refusal.number 0 && ltb 0 n) (in_room room (outcome_in a buffer n)) (Ok (unchanged a (take a.kept buffer)))) (Err not_in_order))
         (sym e ∙ not-false t h)
-        ∙ ap (λ (x : Bool). cond x (in_room room (outcome_in a buffer n)) (accepted (unchanged a (take a.kept buffer)))) q
+        ∙ ap (λ (x : Bool). cond x (in_room room (outcome_in a buffer n)) (Ok (unchanged a (take a.kept buffer)))) q
 
     -- what is kept stays
     stays_kept : buffer ≡ take a.kept buffer ++ drop (length (take a.kept buffer)) buffer
@@ -344,14 +345,14 @@ module _ (a : Arrival) (buffer : List ℕ) (n : ℕ) (tape : List ℕ) where
     pub state_refused : (a.refusal.number ≡ 0 → ⊥) → Answers (arrived.Stopped 0 a.refusal a) buffer tape whole buffer tape
     state_refused some =
         let z : eqb a.refusal.number 0 ≡ false = ne_eqb a.refusal.number 0 some in
-        answers_by (arrived.Stopped 0 a.refusal a) buffer tape whole (accepted (unchanged a (take a.kept buffer))) buffer tape (by_need false (ap (λ (x : Bool). x && ltb 0 n) z))
+        answers_by (arrived.Stopped 0 a.refusal a) buffer tape whole (Ok (unchanged a (take a.kept buffer))) buffer tape (by_need false (ap (λ (x : Bool). x && ltb 0 n) z))
         (ap (λ (x : Bool). cond x (arrived.Given 0 a) (arrived.Stopped 0 a.refusal a)) (sym z), stays_kept, stays_laid)
 
     -- an empty piece
     pub nothing_there : a.refusal.number ≡ 0 → n ≡ 0 → Answers (arrived.Given 0 a) buffer tape whole buffer tape
     nothing_there zero none =
         let z : eqb a.refusal.number 0 ≡ true = eq-eqb a.refusal.number 0 zero in
-        answers_by (arrived.Given 0 a) buffer tape whole (accepted (unchanged a (take a.kept buffer))) buffer tape
+        answers_by (arrived.Given 0 a) buffer tape whole (Ok (unchanged a (take a.kept buffer))) buffer tape
         (by_need false (ap (λ (x : Bool). x && ltb 0 n) z ∙ ap (λ (k : ℕ). ltb 0 k) none))
         (ap (λ (x : Bool). cond x (arrived.Given 0 a) (arrived.Stopped 0 a.refusal a)) (sym z), stays_kept, stays_laid)
 

@@ -1,4 +1,5 @@
 -- A gap and the fronts of a text: what a front of it says of the gap. Assumes nothing.
+use Rattle.std.proofs.Common.{Some, None, Option}
 use Prim.Native.Nat.{ℕ, suc, zero, ◌+◌, ◌-◌, ◌<◌, ◌≤◌}
 use native.Mathlib.Omega.{arith}
 use mathlib.Core.Bool.{Bool, true, false, cond}
@@ -13,8 +14,6 @@ use Rattle.comments.specs.Blocks.Body.{closes, nests, passes}
 use Rattle.comments.specs.Gaps.{behind_slash, block_item, comment_of, gap_of, item_of, line_item}
 use Rattle.comments.specs.Blocks.{block_end}
 use Rattle.comments.specs.Lines.{line_end}
-use Rattle.comments.specs.declared.block.CommentEnd.{CommentEnd}
-use Rattle.comments.specs.declared.block.CommentEnd.TheVariants.{Closed, Unclosed}
 use Rattle.comments.specs.declared.gap.Item.{Item}
 use Rattle.comments.specs.declared.gap.Item.TheVariants.{Blank, Other, Unexpected}
 use Rattle.comments.proofs.GapWindow.{gap_window_by}
@@ -160,13 +159,13 @@ unfolding item_of comment_of
 plain_other a s w e = rw (w, e)
 
 -- what a `/` begins is told
-line_told : (e : CommentEnd) → line_item e ≡ Other → ⊥
-line_told (Closed n) h = let z : ◌≡◌ {A = ℕ} 0 1 = cc in omega arith
-line_told Unclosed h = let z : ◌≡◌ {A = ℕ} 0 1 = cc in omega arith
+line_told : (e : Option ℕ) → line_item e ≡ Other → ⊥
+line_told (Some n) h = let z : ◌≡◌ {A = ℕ} 0 1 = cc in omega arith
+line_told None h = let z : ◌≡◌ {A = ℕ} 0 1 = cc in omega arith
 
-block_told : (e : CommentEnd) → block_item e ≡ Other → ⊥
-block_told (Closed n) h = let z : ◌≡◌ {A = ℕ} 0 1 = cc in omega arith
-block_told Unclosed h = let z : ◌≡◌ {A = ℕ} 0 1 = cc in omega arith
+block_told : (e : Option ℕ) → block_item e ≡ Other → ⊥
+block_told (Some n) h = let z : ◌≡◌ {A = ℕ} 0 1 = cc in omega arith
+block_told None h = let z : ◌≡◌ {A = ℕ} 0 1 = cc in omega arith
 
 slash_told : (s : List ℕ) → behind_slash s ≡ Other → ⊥
 unfolding behind_slash

@@ -5,6 +5,7 @@
 --     part_keeps, then_keeps, within_keeps   such a front behind it is kept; what is kept piece after piece; both together
 --     clear_with_part                        such a front behind what has begun leaves the gap as it is
 -- Assumes nothing.
+use Rattle.std.proofs.Common.{None}
 use Prim.Native.Nat.{ℕ, suc, ◌*◌, ◌+◌, ◌-◌, ◌<◌, ◌≤◌, pred}
 use native.Mathlib.Omega.{arith}
 use mathlib.Core.Bool.{Bool, true, false, cond}
@@ -34,7 +35,6 @@ use Rattle.comments.proofs.BlockLaws.{after, step}
 use Rattle.comments.specs.Blocks.{block_end, block_from, decision_of}
 use Rattle.comments.specs.declared.block.Decision.TheVariants.{PassOn}
 use Rattle.comments.specs.Lines.{line_end, line_from}
-use Rattle.comments.specs.declared.block.CommentEnd.TheVariants.{Unclosed}
 use Rattle.comments.specs.declared.gap.Item.{Item}
 use Rattle.comments.specs.declared.gap.Item.TheVariants.{BlockOpen, Ended, LineOpen, Other, Unexpected}
 use Rattle.gapped.proofs.Blanks.{blank_front, encode_pos}
@@ -247,7 +247,7 @@ once_slash [] c = once_is (0x2f ∷ []) (gap.Refused (eof 1)) (gap-of 0x2f [] En
 once_slash (a ∷ q) c = once_is (0x2f ∷ a ∷ q) (gap.Refused (unexpected_char 1)) (slash_gap a q c)
 
 -- it ends no line
-high_line : (q : List ℕ) (at : ℕ) → High q → line_from q at ≡ Unclosed
+high_line : (q : List ℕ) (at : ℕ) → High q → line_from q at ≡ None
 unfolding line_from
 high_line [] at h = refl
 high_line (a ∷ q) at (more k h) = rw (ne_eqb a 0x0a (λ e. omega arith)) (high_line q (at + 1) h)
@@ -258,7 +258,7 @@ once_line q h =
     once_is (0x2f ∷ 0x2f ∷ q) (gap.InLine (0 + length (0x2f ∷ 0x2f ∷ q))) (gap-of 0x2f (0x2f ∷ q) LineOpen (item_line q ∙ ap line_item (high_line q 0 h)))
 
 -- nor a block comment
-high_block : (q : List ℕ) (level at : ℕ) → High q → block_from q level at ≡ Unclosed
+high_block : (q : List ℕ) (level at : ℕ) → High q → block_from q level at ≡ None
 unfolding block_from
 high_block [] level at h = refl
 high_block (a ∷ q) level at (more k h) = other_passed a q level at (λ e. omega arith) (λ e. omega arith) ∙ high_block q level (at + 1) h
@@ -266,17 +266,17 @@ high_block (a ∷ q) level at (more k h) = other_passed a q level at (λ e. omeg
 no_mark : (a b level : ℕ) → 0x80 ≤ b → decision_of a b level ≡ PassOn
 no_mark a b level h = rw (ne_eqb b 0x2a (λ e. omega arith), ne_eqb b 0x2f (λ e. omega arith), and_false (eqb a 0x2f), and_false (eqb a 0x2a))
 
-high_behind : (a : ℕ) (q : List ℕ) (level at : ℕ) → High q → block_from (a ∷ q) level at ≡ Unclosed
+high_behind : (a : ℕ) (q : List ℕ) (level at : ℕ) → High q → block_from (a ∷ q) level at ≡ None
 unfolding block_from
 high_behind a [] level at h = refl
 high_behind a (b ∷ q) level at (more k h) =
     step a b q level at ∙ ap (after b q level at) (no_mark a b level k) ∙ high_block (b ∷ q) level (at + 1) (more k h)
 
-high_last : (last : ℕ) (q : List ℕ) (level at : ℕ) → High q → block_from (last_byte last ++ q) level at ≡ Unclosed
+high_last : (last : ℕ) (q : List ℕ) (level at : ℕ) → High q → block_from (last_byte last ++ q) level at ≡ None
 unfolding last_byte
 high_last last q level at h = go (eqb last 0)
   where
-    go : (t : Bool) → block_from (cond t [] (last ∷ []) ++ q) level at ≡ Unclosed
+    go : (t : Bool) → block_from (cond t [] (last ∷ []) ++ q) level at ≡ None
     go true = high_block q level at h
     go false = high_behind last q level at h
 
@@ -284,7 +284,7 @@ once_block : (level last : ℕ) (q : List ℕ) → High q → ron_once (0x2f ∷
 unfolding block_end behind_slash
 once_block level last q h =
     let w : List ℕ = rest level last ++ q in
-    let e : block_end w ≡ Unclosed = rest_pass level last q ∙ high_last last q (suc level) (2 * level) h in
+    let e : block_end w ≡ None = rest_pass level last q ∙ high_last last q (suc level) (2 * level) h in
     once_is (0x2f ∷ 0x2a ∷ w) (gap.Refused (unclosed_block_comment (0 + length (0x2f ∷ 0x2a ∷ w)))) (gap-of 0x2f (0x2a ∷ w) BlockOpen (item_block w ∙ ap block_item e))
 
 -- so nothing is behind a gap that reaches to the end

@@ -1,4 +1,6 @@
 -- What the last byte of a part decides, by what the part holds. Assumes nothing.
+use Rattle.std.proofs.Common.{Ok, Err}
+use Rattle.text.specs.Refusals.{Told}
 use Prim.Native.Nat.{ℕ, ◌+◌, ◌-◌, ◌<◌, ◌≤◌}
 use native.Mathlib.Nat.{sub_self}
 use native.Mathlib.Omega.{arith}
@@ -27,8 +29,6 @@ use Rattle.settled.proofs.Owed.{ron}
 use Rattle.settled.specs.Bytes.{closes_byte, decides_byte, stops_byte}
 use Rattle.settled.specs.Settled.{ron_reader, ron_settles}
 use Rattle.pieces.proofs.ScanLaws.{but_last, ending_front}
-use Rattle.read.specs.declared.scanned.Ending.{Ending}
-use Rattle.read.specs.declared.scanned.Ending.TheVariants.{Complete, Broken}
 use Rattle.read.specs.declared.scanned.Scanned.{Scanned}
 use Rattle.pieces.specs.declared.verdict.Verdict.TheVariants.{Nothing, Shuts}
 use Rattle.pieces.specs.inner.Judges.{behind_of, decided_by, gives_of, judged_of, verdict_by}
@@ -41,20 +41,20 @@ last_byte part = get_or part (length part - 1) 0
 -- ---- the tests of `behind_entries`
 
 module _ (part : List ℕ) (s : Scanned) where
-  pub whole_gives : s.ending ≡ Complete → decides_byte (last_byte part) ≡ true → gives_of s.count s.end ≡ behind_of part s
+  pub whole_gives : s.ending ≡ Ok tt → decides_byte (last_byte part) ≡ true → gives_of s.count s.end ≡ behind_of part s
   unfolding behind_of
-  whole_gives e d = sym (ap (λ (x : Ending). decided_by x part s) e ∙ ap (λ (t : Bool). cond t (gives_of s.count s.end) Nothing) d)
+  whole_gives e d = sym (ap (λ (x : Told Unit). decided_by x part s) e ∙ ap (λ (t : Bool). cond t (gives_of s.count s.end) Nothing) d)
 
-  pub whole_keeps : s.ending ≡ Complete → decides_byte (last_byte part) ≡ false → Nothing ≡ behind_of part s
+  pub whole_keeps : s.ending ≡ Ok tt → decides_byte (last_byte part) ≡ false → Nothing ≡ behind_of part s
   unfolding behind_of
-  whole_keeps e d = sym (ap (λ (x : Ending). decided_by x part s) e ∙ ap (λ (t : Bool). cond t (gives_of s.count s.end) Nothing) d)
+  whole_keeps e d = sym (ap (λ (x : Told Unit). decided_by x part s) e ∙ ap (λ (t : Bool). cond t (gives_of s.count s.end) Nothing) d)
 
-  module _ (d : Refusal) (e : s.ending ≡ Broken d) where
+  module _ (d : Refusal) (e : s.ending ≡ Err d) where
     by_tests : (t u : Bool) → ron_settles (drop s.end part) ≡ t → decides_byte (last_byte part) ≡ u
         → behind_of part s ≡ cond t (Shuts s.count s.end d) (cond u (gives_of s.count s.end) Nothing)
     unfolding behind_of
     by_tests t u p q =
-        ap (λ (x : Ending). decided_by x part s) e
+        ap (λ (x : Told Unit). decided_by x part s) e
         ∙ ap₂ (λ (a b : Bool). cond a (Shuts s.count s.end d) (cond b (gives_of s.count s.end) Nothing)) p q
 
     pub broken_shuts : ron_settles (drop s.end part) ≡ true → Shuts s.count s.end d ≡ behind_of part s
@@ -312,20 +312,20 @@ last_none (entry e r) = last_none r
 
 module _ (part : List ℕ) (stops : stops_byte (last_byte part) ≡ true) (es : List Entry) where
   -- behind the entries: by how the reading ends
-  behind_complete : read_part ron_token 0 part ≡ es ▸ complete → end_of 0 es < length part → behind_of part (scanned_by es Complete) ≡ judged_of part
+  behind_complete : read_part ron_token 0 part ≡ es ▸ complete → end_of 0 es < length part → behind_of part (scanned_by es (Ok tt)) ≡ judged_of part
   unfolding entries
   behind_complete h lt =
-      let s : Scanned = scanned_by es Complete in
+      let s : Scanned = scanned_by es (Ok tt) in
       let left : List ℕ = drop (end_of 0 es) part in
       let over : ron_token left ≡ stop = stopped_at (end_of 0 es) left (rest_from es part complete h) in
       either (bool_cases (decides_byte (last_byte part)))
       (λ d. sym (whole_gives part s refl d) ∙ sym (left_gives part es complete h refl lt (left_stop (end_of 0 es) left over) d))
       (λ d. sym (whole_keeps part s refl d) ∙ sym (left_nothing part es complete h refl lt (left_stop (end_of 0 es) left over) (spoilt_stop left over) d))
 
-  behind_broken : (r : Refusal) → read_part ron_token 0 part ≡ es ▸ broken r → end_of 0 es < length part → behind_of part (scanned_by es (Broken r)) ≡ judged_of part
+  behind_broken : (r : Refusal) → read_part ron_token 0 part ≡ es ▸ broken r → end_of 0 es < length part → behind_of part (scanned_by es (Err r)) ≡ judged_of part
   unfolding entries
   behind_broken r h lt =
-      let s : Scanned = scanned_by es (Broken r) in
+      let s : Scanned = scanned_by es (Err r) in
       let left : List ℕ = drop (end_of 0 es) part in
       let f = refused_at (end_of 0 es) left r (rest_from es part (broken r) h) in
       either (bool_cases (ron_settles left))

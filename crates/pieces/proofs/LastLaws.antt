@@ -1,4 +1,5 @@
 -- The end of a text: what is kept, read as it stands. Assumes nothing.
+use Rattle.std.proofs.Common.{Ok, Err}
 use Prim.Native.Nat.{ℕ, suc, ◌+◌, ◌-◌, ◌<◌, ◌≤◌}
 use native.Mathlib.Omega.{arith}
 use mathlib.Core.Bool.{Bool, true, false, ◌&&◌}
@@ -26,7 +27,7 @@ use Rattle.rows.specs.Rows.{flat, laid}
 use Rattle.rows.specs.declared.Entry.{Entry}
 use Rattle.text.proofs.Choices.{and_true, bool_cases, cond_cases, either}
 use Rattle.text.proofs.Lists.{tail_part}
-use Rattle.text.specs.Refusals.{eof, no_room, not_in_order, not_utf8, placed_behind, refused, unclosed_block_comment, unexpected_char}
+use Rattle.text.specs.Refusals.{eof, no_room, not_in_order, not_utf8, placed_behind, unclosed_block_comment, unexpected_char}
 use Rattle.text.specs.declared.refusal.Refusal.{Refusal}
 use Rattle.tokens.proofs.RonLaws.{laws, refused_within}
 use Rattle.tokens.specs.Ron.{ron_token}
@@ -36,7 +37,6 @@ use Rattle.pieces.specs.Orders.{in_order}
 use Rattle.pieces.specs.Pieces.{gapped, moved_to, no_refusal}
 use Rattle.pieces.specs.inner.Lasts.{ended_by, ends_with, last_from}
 use Rattle.pieces.specs.inner.Scans.{ending_of as scanEnding, scanned_by, scanned_of}
-use Rattle.read.specs.declared.scanned.Ending.TheVariants.{Complete, Broken}
 use Rattle.read.specs.declared.scanned.Scanned.{Scanned}
 use Rattle.pieces.specs.declared.state.Arrival.{Arrival}
 use Rattle.pieces.specs.declared.state.Ended.{Ended}
@@ -50,13 +50,13 @@ many_there done at k = refl
 many_there (fault r) at k = refl
 many_there (next t ts) at k = ap suc (many_there ts (at + reach t) (k + reach t))
 
-last_complete : (ts : Tokens) (at k : ℕ) → scanEnding (place k ts) ≡ Complete → last_of (place at ts) ≡ no_refusal
+last_complete : (ts : Tokens) (at k : ℕ) → scanEnding (place k ts) ≡ Ok tt → last_of (place at ts) ≡ no_refusal
 unfolding place scanEnding last_of
 last_complete done at k h = refl
 last_complete (fault r) at k h = let z : ◌≡◌ {A = ℕ} 0 1 = cc in absurd (omega arith)
 last_complete (next t ts) at k h = last_complete ts (at + reach t) (k + reach t) h
 
-last_broken : (ts : Tokens) (at k : ℕ) (d : Refusal) → scanEnding (place k ts) ≡ Broken d → last_of (place (at + k) ts) ≡ placed_behind at d
+last_broken : (ts : Tokens) (at k : ℕ) (d : Refusal) → scanEnding (place k ts) ≡ Err d → last_of (place (at + k) ts) ≡ placed_behind at d
 unfolding place scanEnding last_of
 last_broken done at k d h = let z : ◌≡◌ {A = ℕ} 0 1 = cc in absurd (omega arith)
 last_broken (fault r) at k d h =
@@ -77,7 +77,7 @@ broken_by at s x (refuse d) q h =
     let e : placed_behind at d ≡ x = cc in
     omega (arith, ap (λ (y : Refusal). y.place) e, refused_within s d q)
 
-broken_within : (r : Reading) (at : ℕ) (s : List ℕ) (d : Refusal) → read_part ron_token at s ≡ r → scanEnding r ≡ Broken d → d.place ≤ at + length s
+broken_within : (r : Reading) (at : ℕ) (s : List ℕ) (d : Refusal) → read_part ron_token at s ≡ r → scanEnding r ≡ Err d → d.place ≤ at + length s
 unfolding scanEnding
 broken_within complete at s d h e = let z : ◌≡◌ {A = ℕ} 0 1 = cc in absurd (omega arith)
 broken_within (broken x) at s d h e =
@@ -98,16 +98,16 @@ module _ (s : List ℕ) (from : ℕ) (sc : Scanned) (q : sc ≡ scanned_of (take
   pub scan_count : sc.count ≡ length (entries (read_from ron_token s from))
   scan_count = ap (λ (x : Scanned). x.count) scan_is ∙ many_there (tokens ron_token (drop from s)) 0 from
 
-  pub scan_complete : sc.ending ≡ Complete → last_of (read_from ron_token s from) ≡ no_refusal
+  pub scan_complete : sc.ending ≡ Ok tt → last_of (read_from ron_token s from) ≡ no_refusal
   scan_complete h = last_complete (tokens ron_token (drop from s)) from 0 (sym (ap (λ (x : Scanned). x.ending) scan_is) ∙ h)
 
-  pub scan_broken : (d : Refusal) → sc.ending ≡ Broken d → last_of (read_from ron_token s from) ≡ placed_behind from d
+  pub scan_broken : (d : Refusal) → sc.ending ≡ Err d → last_of (read_from ron_token s from) ≡ placed_behind from d
   scan_broken d h =
       let z : from ≡ from + 0 = omega arith in
       ap (λ (x : ℕ). last_of (place x (tokens ron_token (drop from s)))) z
       ∙ last_broken (tokens ron_token (drop from s)) from 0 d (sym (ap (λ (x : Scanned). x.ending) scan_is) ∙ h)
 
-  pub scan_within : (d : Refusal) → sc.ending ≡ Broken d → d.place ≤ length s
+  pub scan_within : (d : Refusal) → sc.ending ≡ Err d → d.place ≤ length s
   scan_within d h =
       let b = broken_within (read_part ron_token 0 (drop from s)) 0 (drop from s) d refl (sym (ap (λ (x : Scanned). x.ending) scan_is) ∙ h) in
       omega (arith, b, length-drop from s)
@@ -221,10 +221,10 @@ module _ (room : ℕ) (tape : List ℕ) where
       given_by : (r : Ended) → r ≡ ended_by sc.count (last_from a s from).refusal → Answers room (last_from a s from) tape r tape'
       given_by r e = let w = told_by (last_from a s from) sc.count many h in (e ∙ w.0, whole_laid ∙ w.1)
 
-      pub complete_given : sc.ending ≡ Complete → Answers room (last_from a s from) tape (ended.Given sc.count) tape'
+      pub complete_given : sc.ending ≡ Ok tt → Answers room (last_from a s from) tape (ended.Given sc.count) tape'
       complete_given c = given_by (ended.Given sc.count) (sym (simp (scan_complete s from sc q c)))
 
-      pub broken_given : (d x : Refusal) → sc.ending ≡ Broken d → x ≡ placed_behind (a.taken - a.kept + from) d → (r : Ended) → r ≡ ended_by sc.count x
+      pub broken_given : (d x : Refusal) → sc.ending ≡ Err d → x ≡ placed_behind (a.taken - a.kept + from) d → (r : Ended) → r ≡ ended_by sc.count x
           → Answers room (last_from a s from) tape r tape'
       broken_given d x c w r y =
           let b : ℕ = a.taken - a.kept in
@@ -236,7 +236,7 @@ module _ (a : Arrival) (buffer : List ℕ) (room : ℕ) (fit : Bool) (f : fit �
   fit_is : fit ≡ in_order a && leb a.kept (length buffer)
   fit_is = let z : a.kept + 0 ≡ a.kept = omega arith in f ∙ ap (λ (k : ℕ). in_order a && leb k (length buffer)) z
 
-  pub finish_unfit : fit ≡ false → finish_of a buffer room ≡ refused not_in_order
+  pub finish_unfit : fit ≡ false → finish_of a buffer room ≡ Err not_in_order
   unfolding finish_of
   finish_unfit h = simp (sym fit_is ∙ h)
 

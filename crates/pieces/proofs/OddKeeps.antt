@@ -1,4 +1,5 @@
 -- A `/` behind which stands no comment and no whole character: what follows is kept, and decides nothing. Assumes nothing.
+use Rattle.std.proofs.Common.{Some, None, Option}
 use Prim.Native.Nat.{ℕ, suc, zero, pred, ◌+◌, ◌-◌, ◌<◌, ◌≤◌}
 use native.Mathlib.Nat.{add-zero, sub_self}
 use native.Mathlib.Omega.{arith}
@@ -22,8 +23,6 @@ use Rattle.comments.proofs.GapWindow.{item_window}
 use Rattle.comments.specs.Blocks.{block_end}
 use Rattle.comments.specs.Gaps.{block_item, by_item, gap_from, gap_of, item_of, line_item}
 use Rattle.comments.specs.Lines.{line_end}
-use Rattle.comments.specs.declared.block.CommentEnd.{CommentEnd}
-use Rattle.comments.specs.declared.block.CommentEnd.TheVariants.{Closed, Unclosed}
 use Rattle.comments.specs.declared.gap.Gap.TheVariants as gap
 use Rattle.comments.specs.declared.gap.Item.{Item}
 use Rattle.comments.specs.declared.gap.Item.TheVariants.{Blank, BlockOpen, Ended, LineOpen, Other, Unexpected}
@@ -62,13 +61,13 @@ record Odd (s : List ℕ) (left at q : ℕ) : Type 0 where
 odd_here : (s : List ℕ) (at q n : ℕ) → item_of s ≡ Unexpected n → q ≡ at + n → Odd s 0 at q
 odd_here s at q n h e = by (fronts s)
   where
-    line_not : (c : CommentEnd) → line_item c ≡ Unexpected n → Odd s 0 at q
-    line_not (Closed m) f = let z : ◌≡◌ {A = ℕ} 0 1 = cc in absurd (omega arith)
-    line_not Unclosed f = let z : ◌≡◌ {A = ℕ} 0 1 = cc in absurd (omega arith)
+    line_not : (c : Option ℕ) → line_item c ≡ Unexpected n → Odd s 0 at q
+    line_not (Some m) f = let z : ◌≡◌ {A = ℕ} 0 1 = cc in absurd (omega arith)
+    line_not None f = let z : ◌≡◌ {A = ℕ} 0 1 = cc in absurd (omega arith)
 
-    block_not : (c : CommentEnd) → block_item c ≡ Unexpected n → Odd s 0 at q
-    block_not (Closed m) f = let z : ◌≡◌ {A = ℕ} 0 1 = cc in absurd (omega arith)
-    block_not Unclosed f = let z : ◌≡◌ {A = ℕ} 0 1 = cc in absurd (omega arith)
+    block_not : (c : Option ℕ) → block_item c ≡ Unexpected n → Odd s 0 at q
+    block_not (Some m) f = let z : ◌≡◌ {A = ℕ} 0 1 = cc in absurd (omega arith)
+    block_not None f = let z : ◌≡◌ {A = ℕ} 0 1 = cc in absurd (omega arith)
 
     by : Front s → Odd s 0 at q
     by (Front.space w f) = let z = sym (item_space s w f) ∙ h in let z : ◌≡◌ {A = ℕ} 0 1 = cc in absurd (omega arith)

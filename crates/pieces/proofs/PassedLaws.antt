@@ -3,6 +3,7 @@
 --     passes                              what is told where nothing was open
 --     odd_stays                           5 behind a `/` stays, whatever follows
 -- Assumes nothing.
+use Rattle.std.proofs.Common.{Some, None, Option}
 use Prim.Native.Nat.{◌*◌, ◌+◌, ◌-◌, ◌<◌, ◌≤◌, suc, ℕ}
 use native.Mathlib.Omega.{arith}
 use mathlib.Core.Bool.{Bool, cond}
@@ -18,8 +19,6 @@ use Rattle.comments.proofs.GapLaws.{EndsBy, gap_bounded}
 use Rattle.comments.specs.Blocks.{block_end}
 use Rattle.comments.specs.Gaps.{gap_of, item_of}
 use Rattle.comments.specs.Lines.{line_end}
-use Rattle.comments.specs.declared.block.CommentEnd.{CommentEnd}
-use Rattle.comments.specs.declared.block.CommentEnd.TheVariants.{Closed, Unclosed}
 use Rattle.comments.specs.declared.gap.Gap.{Gap}
 use Rattle.comments.specs.declared.gap.Gap.TheVariants as gap
 use Rattle.comments.specs.declared.gap.Item.{Item}
@@ -42,13 +41,13 @@ use Rattle.gaps.specs.declared.state.Open.TheVariants.{Clear, Slash, Line, Block
 -- ---- the shortest text that leaves something open is no gap that ends
 
 -- a comment whose end lies behind f
-closed_least : {i : Item} → Comment i → (y : ℕ) (w : List ℕ) (n g : ℕ) (c : CommentEnd) → item_of (0x2f ∷ y ∷ w) ≡ closed_item i c → From n c → gap_of (0x2f ∷ y ∷ w) ≡ gap.Clear g → n + 2 ≤ g
+closed_least : {i : Item} → Comment i → (y : ℕ) (w : List ℕ) (n g : ℕ) (c : Option ℕ) → item_of (0x2f ∷ y ∷ w) ≡ closed_item i c → From n c → gap_of (0x2f ∷ y ∷ w) ≡ gap.Clear g → n + 2 ≤ g
 unfolding gap_of
-closed_least k y w n g (Closed m) e h q = let b = clear_least (drop m w) (0 + (m + 2)) g (sym (gap_closed 0x2f y w m 0 e) ∙ q) in omega arith
-closed_least Comment.line y w n g Unclosed e h q =
+closed_least k y w n g (Some m) e h q = let b = clear_least (drop m w) (0 + (m + 2)) g (sym (gap_closed 0x2f y w m 0 e) ∙ q) in omega arith
+closed_least Comment.line y w n g None e h q =
     let z : gap.InLine (0 + length (0x2f ∷ y ∷ w)) ≡ gap.Clear g = sym (open_ends Comment.line 0x2f (y ∷ w) 0 e) ∙ q in
     let o : ◌≡◌ {A = ℕ} 0 1 = cc in absurd (omega arith)
-closed_least Comment.block y w n g Unclosed e h q =
+closed_least Comment.block y w n g None e h q =
     let z : gap.Refused (unclosed_block_comment (0 + length (0x2f ∷ y ∷ w))) ≡ gap.Clear g = sym (open_ends Comment.block 0x2f (y ∷ w) 0 e) ∙ q in
     let o : ◌≡◌ {A = ℕ} 0 1 = cc in absurd (omega arith)
 

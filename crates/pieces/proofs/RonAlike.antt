@@ -1,5 +1,8 @@
 -- A text and what is kept of it have the same tokens to come, whatever follows: `ron_alike`, `ron_alike_clear`. And 30 moves with the place: `bar_moves`.
 -- Assumes nothing.
+use Rattle.std.proofs.Common.{Ok, Err, Some, None, Option}
+use Rattle.text.specs.Refusals.{Told}
+use Rattle.tokens.specs.declared.lexeme.Lexeme.{Lexeme}
 use Prim.Native.Nat.{ℕ, suc, zero, pred, ◌*◌, ◌+◌, ◌-◌, ◌<◌}
 use native.Mathlib.Omega.{arith}
 use mathlib.Core.List.{List, [], ◌++◌, ◌∷◌, append_assoc, append-nil}
@@ -16,8 +19,6 @@ use Rattle.comments.proofs.GapLaws.{gap_step}
 use Rattle.comments.specs.Blocks.{block_end}
 use Rattle.comments.specs.Gaps.{block_item, by_item, gap_from, gap_of, item_of, line_item}
 use Rattle.comments.specs.Lines.{line_end}
-use Rattle.comments.specs.declared.block.CommentEnd.{CommentEnd}
-use Rattle.comments.specs.declared.block.CommentEnd.TheVariants.{Closed, Unclosed}
 use Rattle.comments.specs.declared.gap.Gap.{Gap}
 use Rattle.comments.specs.declared.gap.Gap.TheVariants as gap
 use Rattle.comments.specs.declared.gap.Item.{Item}
@@ -33,8 +34,6 @@ use Rattle.tokens.proofs.RonLaws.{gap_end, gap_token, token_is}
 use Rattle.tokens.specs.Lexemes.{lexeme_of}
 use Rattle.tokens.specs.Ron.{by_gap, lexeme_behind, ron_token}
 use Rattle.tokens.specs.Token.{token_of}
-use Rattle.tokens.specs.declared.lexeme.LexemeAnswer.{LexemeAnswer}
-use Rattle.tokens.specs.declared.lexeme.LexemeAnswer.TheVariants as lexeme
 use Rattle.arriving.proofs.Meets.{Alike, PassThere, later_answer}
 use Rattle.arriving.proofs.Meets.PassThere.{halts, passes}
 use Rattle.settled.specs.Settled.{behind_slash, once_behind, ron_once, ron_reader, ron_settles, settled_behind, spoilt_for, starts_nothing}
@@ -69,9 +68,9 @@ abbrev SameByte : List ℕ → List ℕ → ℕ → Type 0
 SameByte x y d = (v : List ℕ) (r : Refusal) → gap_of (y ++ v) ≡ gap.Refused r → r.number ≡ 5 → get_or (x ++ v) (d + r.place - 1) 0 ≡ get_or (y ++ v) (r.place - 1) 0
 
 module _ (x y : List ℕ) (k : Stands x y) (byte : SameByte x y k.by) where
-  lexeme_later : (d g : ℕ) (a : LexemeAnswer) → lexeme_behind (d + g) a ≡ later_answer d (lexeme_behind g a)
-  lexeme_later d g (lexeme.Read l) = refl
-  lexeme_later d g (lexeme.Refused r) = ap (λ (p : ℕ). refuse (at_place r p)) (omega arith)
+  lexeme_later : (d g : ℕ) (a : Told Lexeme) → lexeme_behind (d + g) a ≡ later_answer d (lexeme_behind g a)
+  lexeme_later d g (Ok l) = refl
+  lexeme_later d g (Err r) = ap (λ (p : ℕ). refuse (at_place r p)) (omega arith)
 
   longer : (v : List ℕ) → length (x ++ v) ≡ k.by + length (y ++ v)
   longer v = omega (arith, k.whole, length-append x v, length-append y v)
@@ -147,13 +146,13 @@ module _ (x y : List ℕ) (k : Stands x y) (byte : SameByte x y k.by) where
 unexpected_some : (s : List ℕ) (n : ℕ) → item_of s ≡ Unexpected n → 0 < n
 unexpected_some s n h = by (fronts s)
   where
-    line_not : (c : CommentEnd) → line_item c ≡ Unexpected n → 0 < n
-    line_not (Closed m) e = let z : ◌≡◌ {A = ℕ} 0 1 = cc in absurd (omega arith)
-    line_not Unclosed e = let z : ◌≡◌ {A = ℕ} 0 1 = cc in absurd (omega arith)
+    line_not : (c : Option ℕ) → line_item c ≡ Unexpected n → 0 < n
+    line_not (Some m) e = let z : ◌≡◌ {A = ℕ} 0 1 = cc in absurd (omega arith)
+    line_not None e = let z : ◌≡◌ {A = ℕ} 0 1 = cc in absurd (omega arith)
 
-    block_not : (c : CommentEnd) → block_item c ≡ Unexpected n → 0 < n
-    block_not (Closed m) e = let z : ◌≡◌ {A = ℕ} 0 1 = cc in absurd (omega arith)
-    block_not Unclosed e = let z : ◌≡◌ {A = ℕ} 0 1 = cc in absurd (omega arith)
+    block_not : (c : Option ℕ) → block_item c ≡ Unexpected n → 0 < n
+    block_not (Some m) e = let z : ◌≡◌ {A = ℕ} 0 1 = cc in absurd (omega arith)
+    block_not None e = let z : ◌≡◌ {A = ℕ} 0 1 = cc in absurd (omega arith)
 
     by : Front s → 0 < n
     by (Front.space w e) = let q : Blank (suc w) ≡ Unexpected n = sym (item_space s w e) ∙ h in let z : ◌≡◌ {A = ℕ} 0 1 = cc in absurd (omega arith)
@@ -194,13 +193,13 @@ one_more a s l = record { before = a ∷ l.before; is = ap {B = List ℕ} (λ (t
 ended_slash : (s : List ℕ) → item_of s ≡ Ended → Last s
 ended_slash s h = by (fronts s)
   where
-    line_not : (c : CommentEnd) → line_item c ≡ Ended → Last s
-    line_not (Closed m) e = let z : ◌≡◌ {A = ℕ} 0 1 = cc in absurd (omega arith)
-    line_not Unclosed e = let z : ◌≡◌ {A = ℕ} 0 1 = cc in absurd (omega arith)
+    line_not : (c : Option ℕ) → line_item c ≡ Ended → Last s
+    line_not (Some m) e = let z : ◌≡◌ {A = ℕ} 0 1 = cc in absurd (omega arith)
+    line_not None e = let z : ◌≡◌ {A = ℕ} 0 1 = cc in absurd (omega arith)
 
-    block_not : (c : CommentEnd) → block_item c ≡ Ended → Last s
-    block_not (Closed m) e = let z : ◌≡◌ {A = ℕ} 0 1 = cc in absurd (omega arith)
-    block_not Unclosed e = let z : ◌≡◌ {A = ℕ} 0 1 = cc in absurd (omega arith)
+    block_not : (c : Option ℕ) → block_item c ≡ Ended → Last s
+    block_not (Some m) e = let z : ◌≡◌ {A = ℕ} 0 1 = cc in absurd (omega arith)
+    block_not None e = let z : ◌≡◌ {A = ℕ} 0 1 = cc in absurd (omega arith)
 
     by : Front s → Last s
     by (Front.space w e) = let q : Blank (suc w) ≡ Ended = sym (item_space s w e) ∙ h in let z : ◌≡◌ {A = ℕ} 0 1 = cc in absurd (omega arith)
@@ -248,10 +247,10 @@ line_far : (v : List ℕ) (r : Refusal) → gap_of (0x2f ∷ 0x2f ∷ v) ≡ gap
 unfolding gap_of
 line_far v r e n = by (line_end v) refl
   where
-    by : (c : CommentEnd) → line_end v ≡ c → 2 < r.place
-    by (Closed m) q =
+    by : (c : Option ℕ) → line_end v ≡ c → 2 < r.place
+    by (Some m) q =
         let k = five_late (drop m v) 0 (0 + (m + 2)) r (sym (gap_closed 0x2f 0x2f v m 0 (item_line v ∙ ap line_item q)) ∙ e) n in omega arith
-    by Unclosed q =
+    by None q =
         let g : gap.InLine (0 + length (0x2f ∷ 0x2f ∷ v)) ≡ gap.Refused r =
         sym (gap_step 0x2f (0x2f ∷ v) 0 ∙ ap (λ (i : Item). by_item i (λ m. gap_from (0x2f ∷ v) (pred m) (0 + 1)) 0 (0 + length (0x2f ∷ 0x2f ∷ v))) (item_line v ∙ ap line_item q)) ∙ e in
         let z : ◌≡◌ {A = ℕ} 0 1 = cc in absurd (omega arith)
@@ -264,10 +263,10 @@ block_far level last v r e n = by (block_end (rest level last ++ v)) refl far
     far = from_less (length (rest level last)) (2 * level + 2) (block_end (rest level last ++ v)) (omega (arith, rest_length level last, last_length last))
         (subst (From (2 * level + 2)) (sym (rest_pass level last v)) (block-from (last_byte last ++ v) (suc level) (2 * level)))
 
-    by : (c : CommentEnd) → block_end (rest level last ++ v) ≡ c → From (length (rest level last)) c → length (rest level last) + 2 < r.place
-    by (Closed m) q w =
+    by : (c : Option ℕ) → block_end (rest level last ++ v) ≡ c → From (length (rest level last)) c → length (rest level last) + 2 < r.place
+    by (Some m) q w =
         let k = five_late (drop m (rest level last ++ v)) 0 (0 + (m + 2)) r (sym (gap_closed 0x2f 0x2a (rest level last ++ v) m 0 (item_block (rest level last ++ v) ∙ ap block_item q)) ∙ e) n in omega arith
-    by Unclosed q w =
+    by None q w =
         let end : ℕ = 0 + length (0x2f ∷ 0x2a ∷ (rest level last ++ v)) in
         let g : gap.Refused (unclosed_block_comment end) ≡ gap.Refused r =
         sym (gap_step 0x2f (0x2a ∷ (rest level last ++ v)) 0 ∙ ap (λ (i : Item). by_item i (λ m. gap_from (0x2a ∷ (rest level last ++ v)) (pred m) (0 + 1)) 0 end) (item_block (rest level last ++ v) ∙ ap block_item q)) ∙ e in

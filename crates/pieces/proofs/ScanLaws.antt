@@ -1,4 +1,5 @@
 -- A scan: the entries counted so far, and what is left to read. Assumes nothing.
+use Rattle.text.specs.Refusals.{Told}
 use Prim.Native.Nat.{ℕ, ◌+◌, ◌-◌}
 use native.Mathlib.Omega.{arith}
 use mathlib.Core.List.{List, [], ◌++◌, ◌∷◌, append-nil}
@@ -9,7 +10,6 @@ use Rattle.rows.specs.declared.Entry.{Entry}
 use Rattle.reading.specs.Readings.{Reading, ◌▸◌, end_of, entries, read_part}
 use Rattle.tokens.specs.Ron.{ron_token}
 use Rattle.arriving.proofs.Fronts.{entries_front}
-use Rattle.read.specs.declared.scanned.Ending.{Ending}
 use Rattle.read.specs.declared.scanned.Scanned.{Scanned}
 use Rattle.read.specs.inner.Pass.{scanned_from}
 use Rattle.read.proofs.PassLaws.{before_of, scanned_is}
@@ -44,5 +44,5 @@ scanned_pass part = let r : Reading = read_part ron_token 0 part in scanned_is r
     last [] = refl
     last (e ∷ es) = let z : length es ≡ length (e ∷ es) - 1 = omega arith in ap (λ (n : ℕ). end_of 0 (take n (e ∷ es))) z
 
-    numbers : {a b c d e : ℕ} {x : Ending} → a ≡ b → c ≡ d → ◌≡◌ {A = Scanned} (record { count = a; end = e; before = c; ending = x }) (record { count = b; end = e; before = d; ending = x })
+    numbers : {a b c d e : ℕ} {x : Told Unit} → a ≡ b → c ≡ d → ◌≡◌ {A = Scanned} (record { count = a; end = e; before = c; ending = x }) (record { count = b; end = e; before = d; ending = x })
     numbers p q = cc

@@ -1,4 +1,6 @@
 -- Many decisions at once: where no byte was refused, what the last deciding byte says of all that has come is what the bytes gave one by one. Assumes nothing.
+use Rattle.std.proofs.Common.{Err}
+use Rattle.text.specs.Refusals.{Told}
 use Prim.Native.Nat.{ℕ, suc, zero, ◌+◌, ◌-◌, ◌<◌, ◌≤◌}
 use native.Mathlib.Omega.{arith}
 use mathlib.Core.Bool.{Bool, true, false, cond, ◌&&◌, true≢false}
@@ -41,8 +43,6 @@ use Rattle.pieces.specs.declared.verdict.Verdict.{Verdict}
 use Rattle.pieces.specs.declared.verdict.Verdict.TheVariants.{Nothing}
 use Rattle.pieces.specs.declared.stride.Leapt.{Leapt}
 use Rattle.pieces.specs.declared.waiting.Waited.{Waited}
-use Rattle.read.specs.declared.scanned.Ending.{Ending}
-use Rattle.read.specs.declared.scanned.Ending.TheVariants.{Broken, Complete}
 use Rattle.read.specs.declared.scanned.Scanned.{Scanned}
 use Rattle.pieces.proofs.JudgeLaws.{judge_within, up_front}
 use Rattle.pieces.proofs.ScanLaws.{ending_front}
@@ -176,7 +176,7 @@ module _ (x u : List ℕ) (b : ℕ) (short : length (x ++ u) < most_held) (quiet
       let next : (bytes_give (going 0 x) w).next ≡ shut d = ap (λ (h : Given). h.next) on ∙ ap (λ (c : Coming). (bytes_give c (b ∷ [])).next) e ∙ still d in
       let reads : (bytes_give (going 0 x) w).entries ▸ broken d ≡ read_part ron_token 0 (x ++ w) =
       ap (λ (c : Coming). (bytes_give (going 0 x) w).entries ▸ ended ron_reader c) (sym next) ∙ one_reading ron_reader ron bar_of w (going 0 x) (subst Taken (sym next) tt) in
-      let ending : ending_of (read_part ron_token 0 ((x ++ u) ++ b ∷ [])) ≡ Broken d =
+      let ending : ending_of (read_part ron_token 0 ((x ++ u) ++ b ∷ [])) ≡ Err d =
       ap (λ (s : List ℕ). ending_of (read_part ron_token 0 s)) (append_assoc x u (b ∷ [])) ∙ ap ending_of (sym reads) ∙ ending_front (bytes_give (going 0 x) w).entries (broken d) ∙ broken_ends d in
       let tells : tells_end d ≡ true = ap opens_end (sym ending) ∙ end-open in
       let not : tells_end d ≡ false = subst (Fine (length x + length u)) e fine in
@@ -185,7 +185,7 @@ module _ (x u : List ℕ) (b : ℕ) (short : length (x ++ u) < most_held) (quiet
       still : (d : Refusal) → (bytes_give (shut d) (b ∷ [])).next ≡ shut d
       still d = refl
 
-      broken_ends : (d : Refusal) → ending_of (broken d) ≡ Broken d
+      broken_ends : (d : Refusal) → ending_of (broken d) ≡ Err d
       broken_ends d = refl
 
   -- so it goes on
@@ -403,7 +403,7 @@ module _ (p t : List ℕ) (seen from : ℕ) (behind-seen : seen ≤ from) (short
   unfolding leap_of
   leap_decides =
       let bytes : ℕ = behind_deciders p from in
-      let ending : Ending = (scanned_of (take bytes p)).ending in
+      let ending : Told Unit = (scanned_of (take bytes p)).ending in
       cond_cases (λ (l : Leapt). decides l.verdict ≡ true → Decided (take seen (p ++ t)) (drop seen (p ++ t)) (leapt l)) (ltb from bytes) (leap_by p bytes ending) (no_leap 0)
       (λ a. cond_cases (λ (l : Leapt). decides l.verdict ≡ true → Decided (take seen (p ++ t)) (drop seen (p ++ t)) (leapt l)) (opens_end ending)
       (record { bytes = bytes; verdict = judged_of (take bytes p); end = 0 }) (no_leap (scanned_of (take bytes p)).end)

@@ -1,7 +1,8 @@
 -- The call `finish` (document 02, change request 3): "An entry is decided once .. the text has ended", so the rest is read as it stands; a character cut off is 2. The
 -- state stays as it was: after 22 the end may be asked again.
+use Rattle.std.specs.Prelude.{Ok, Err}
 use Rattle.std.specs.Prelude.{ℕ, ◌-◌, Bool, cond, ◌&&◌, List, [], ◌++◌, map, eqb, leb, ltb, drop, length, take}
-use Rattle.text.specs.Refusals.{Told, accepted, refused, no_room, not_in_order, not_utf8, placed_behind}
+use Rattle.text.specs.Refusals.{Told, no_room, not_in_order, not_utf8, placed_behind}
 use Rattle.text.specs.declared.refusal.Refusal.{Refusal}
 use Rattle.rows.specs.Rows.{laid}
 use Rattle.rows.specs.declared.Entry.{Entry}
@@ -62,22 +63,22 @@ ending_of a kept =
 
 -- 22 where the entries do not fit.
 abbrev pub fitting : ℕ → Rest → Told Rest
-fitting room e = cond (ltb room (length e.entries)) (refused no_room) (accepted e)
+fitting room e = cond (ltb room (length e.entries)) (Err no_room) (Ok e)
 
 -- The whole answer: 23; the state's own refusal; 22.
 unfoldable pub finish_of : Arrival → List ℕ → ℕ → Told Rest
 finish_of a buffer room =
     let rest = fitting room (ending_of a (take a.kept buffer)) in
     cond (in_order a && leb a.kept (length buffer))
-    (cond (eqb a.refusal.number 0) rest (accepted (record { entries = []; refusal = a.refusal })))
-    (refused not_in_order)
+    (cond (eqb a.refusal.number 0) rest (Ok (record { entries = []; refusal = a.refusal })))
+    (Err not_in_order)
 
 -- The code's answer.
 abbrev pub ended_of : Told Rest → Ended
-ended_of (accepted e) = cond (eqb e.refusal.number 0) (ended.Given (length e.entries)) (ended.Stopped (length e.entries) e.refusal)
-ended_of (refused r) = ended.Refused r
+ended_of (Ok e) = cond (eqb e.refusal.number 0) (ended.Given (length e.entries)) (ended.Stopped (length e.entries) e.refusal)
+ended_of (Err r) = ended.Refused r
 
 -- The tape afterwards.
 abbrev pub rest_laid : Told Rest → List ℕ → List ℕ
-rest_laid (accepted e) tape = laid e.entries tape
-rest_laid (refused r) tape = tape
+rest_laid (Ok e) tape = laid e.entries tape
+rest_laid (Err r) tape = tape

@@ -2,8 +2,9 @@
 -- 65,536th are told when met, after the entries decided before, and a long entry has its own refusal. .. One answer may carry entries with a refusal behind them
 -- .. After a refusal every later piece gets the same one, but for 22: then nothing of the piece was taken, and it may be given again. Refusals: 23, a state out of
 -- order, first ..; 30 ..; 22, the piece's entries don't fit, ahead of the rest."
+use Rattle.std.specs.Prelude.{Ok, Err}
 use Rattle.std.specs.Prelude.{ℕ, ◌+◌, ◌-◌, Bool, cond, ◌&&◌, List, [], ◌∷◌, ◌++◌, map, eqb, leb, ltb, drop, length, take}
-use Rattle.text.specs.Refusals.{Told, accepted, refused, no_room, not_in_order, not_utf8, placed_behind, refusal, too_long}
+use Rattle.text.specs.Refusals.{Told, no_room, not_in_order, not_utf8, placed_behind, refusal, too_long}
 use Rattle.text.specs.declared.refusal.Refusal.{Refusal}
 use Rattle.rows.specs.Rows.{laid, room_of}
 use Rattle.rows.specs.declared.Entry.{Entry}
@@ -141,7 +142,7 @@ outcome_of a kept w =
 
 -- 22, "the piece's entries don't fit".
 abbrev pub in_room : ℕ → Outcome → Told Outcome
-in_room room o = cond (ltb room (length o.entries)) (refused no_room) (accepted o)
+in_room room o = cond (ltb room (length o.entries)) (Err no_room) (Ok o)
 
 -- Nothing is given, and the state stays as it is.
 abbrev pub unchanged : Arrival → List ℕ → Outcome
@@ -153,21 +154,21 @@ piece_of a buffer n room =
     let kept = take a.kept buffer in
     let given = in_room room (outcome_of a kept (take n (drop a.kept buffer))) in
     cond (in_order a && leb (a.kept + n) (length buffer))
-    (cond (eqb a.refusal.number 0 && ltb 0 n) given (accepted (unchanged a kept)))
-    (refused not_in_order)
+    (cond (eqb a.refusal.number 0 && ltb 0 n) given (Ok (unchanged a kept)))
+    (Err not_in_order)
 
 -- The code's answer: the refusal stands in the state too.
 abbrev pub arrived_of : Told Outcome → Arrived
-arrived_of (accepted o) =
+arrived_of (Ok o) =
     cond (eqb o.next.refusal.number 0) (arrived.Given (length o.entries) o.next) (arrived.Stopped (length o.entries) o.next.refusal o.next)
-arrived_of (refused r) = arrived.Refused r
+arrived_of (Err r) = arrived.Refused r
 
 -- The buffer afterwards: what is kept, and then what stood there.
 abbrev pub kept_in : Told Outcome → List ℕ → List ℕ
-kept_in (accepted o) buffer = o.kept ++ drop (length o.kept) buffer
-kept_in (refused r) buffer = buffer
+kept_in (Ok o) buffer = o.kept ++ drop (length o.kept) buffer
+kept_in (Err r) buffer = buffer
 
 -- The tape afterwards: the entries, and then what stood there.
 abbrev pub laid_in : Told Outcome → List ℕ → List ℕ
-laid_in (accepted o) tape = laid o.entries tape
-laid_in (refused r) tape = tape
+laid_in (Ok o) tape = laid o.entries tape
+laid_in (Err r) tape = tape

@@ -9,7 +9,7 @@ use crate::order::fits;
 use crate::scan::scan;
 use crate::state::{Arrival, Ended};
 use gaps::{Open, Passed, pass_gap};
-use read::scanned::{Ending, Scanned};
+use read::scanned::Scanned;
 use rows::row;
 use text::Refusal;
 use text::refusal::placed_behind;
@@ -50,8 +50,8 @@ fn last_entries(state: Arrival, s: &[u8], from: usize, tape: &mut [u32]) -> Ende
     lay(s, from, tape, all.count, base, state.former);
     let ending = all.ending;
     match ending {
-        Ending::Complete => Ended::Given(all.count),
-        Ending::Broken(refusal) => ended_with(all.count, placed_behind(refusal, base + from)),
+        Ok(()) => Ended::Given(all.count),
+        Err(refusal) => ended_with(all.count, placed_behind(refusal, base + from)),
     }
 }
 

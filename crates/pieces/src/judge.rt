@@ -6,7 +6,7 @@ ghost use Rattle.pieces.specs.inner.Judges.{behind_of, gives_of, judged_of};
 
 use crate::scan::scan;
 use crate::verdict::Verdict;
-use read::scanned::{Ending, Scanned};
+use read::scanned::Scanned;
 use settled::bytes::{is_closer, is_decider};
 use settled::refused::settles;
 
@@ -28,13 +28,13 @@ fn behind_entries(part: &[u8], s: Scanned) -> Verdict
     let last = part[part.len() - 1];
     let ending = s.ending;
     match ending {
-        Ending::Complete => {
+        Ok(()) => {
             if is_decider(last) {
                 return gives(s.count, s.end);
             }
             Verdict::Nothing
         }
-        Ending::Broken(refusal) => {
+        Err(refusal) => {
             let end = s.end;
             if settles(&part[end..]) {
                 return Verdict::Shuts(s.count, s.end, refusal);

@@ -9,9 +9,10 @@ use crate::judge::judge_scanned;
 use crate::scan::scan;
 use crate::verdict::Verdict;
 use crate::waiting::{Waited, beyond, is_some, wait};
-use read::scanned::{Ending, Scanned};
+use read::scanned::Scanned;
 use settled::bytes::is_decider;
 use settled::refused::tells_end;
+use text::Refusal;
 
 // What is decided behind so many bytes; or, where nothing is, the end of the last entry before what is refused.
 #[derive(Clone, Copy)]
@@ -36,12 +37,12 @@ fn behind_deciders(part: &[u8], from: usize) -> usize
 }
 
 // Whether a reading was broken off by the end of its part, or not at all.
-fn opens_end(ending: Ending) -> bool
+fn opens_end(ending: Result<(), Refusal>) -> bool
     ensures { result ≡ opens_end ending }
 {
     match ending {
-        Ending::Complete => true,
-        Ending::Broken(refusal) => tells_end(refusal),
+        Ok(()) => true,
+        Err(refusal) => tells_end(refusal),
     }
 }
 

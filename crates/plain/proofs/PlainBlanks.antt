@@ -1,4 +1,7 @@
 -- Blanks in front of a part only move what is read there, and widen the first entry's gap. Assumes nothing.
+use Rattle.std.proofs.Common.{Ok, Err}
+use Rattle.text.specs.Refusals.{Told}
+use Rattle.tokens.specs.declared.lexeme.Lexeme.{Lexeme}
 use Prim.Native.Nat.{ℕ, suc, ◌+◌}
 use native.Mathlib.Omega.{arith}
 use mathlib.Core.Bool.{Bool, true, false, cond}
@@ -22,8 +25,6 @@ use Rattle.tokens.proofs.RonLaws.{gap_end, gap_token, laws}
 use Rattle.tokens.specs.Lexemes.{lexeme_of}
 use Rattle.tokens.specs.Ron.{lexeme_behind, by_gap, ron_token}
 use Rattle.tokens.specs.Token.{token_of}
-use Rattle.tokens.specs.declared.lexeme.LexemeAnswer.{LexemeAnswer}
-use Rattle.tokens.specs.declared.lexeme.LexemeAnswer.TheVariants as lexeme
 
 -- the same answer, seen from one byte further in front
 abbrev later : Answer → Answer
@@ -31,9 +32,9 @@ later (token t) = token (record { gap = 1 + t.gap; len = t.len; kind = t.kind; d
 later stop = stop
 later (refuse r) = refuse (placed_behind 1 r)
 
-later_lexeme : (g : ℕ) (l : LexemeAnswer) → lexeme_behind (1 + g) l ≡ later (lexeme_behind g l)
-later_lexeme g (lexeme.Read l) = refl
-later_lexeme g (lexeme.Refused r) = ap (λ (p : ℕ). refuse (at_place r p)) (omega arith)
+later_lexeme : (g : ℕ) (l : Told Lexeme) → lexeme_behind (1 + g) l ≡ later (lexeme_behind g l)
+later_lexeme g (Ok l) = refl
+later_lexeme g (Err r) = ap (λ (p : ℕ). refuse (at_place r p)) (omega arith)
 
 later_gap : (a : ℕ) (s : List ℕ) (g : Gap) → by_gap (a ∷ s) (gap_behind 1 g) ≡ later (by_gap s g)
 later_gap a s (gap.Clear g) =

@@ -1,4 +1,5 @@
 -- The general reader says of a plain float what its definition does. Assumes nothing.
+use Rattle.std.proofs.Common.{Ok}
 use Prim.Native.Nat.{ℕ, zero, suc, ◌+◌, ◌≤◌, ◌<◌}
 use native.Mathlib.Nat.{add-zero, zero-add}
 use native.Mathlib.Omega.{arith}
@@ -20,7 +21,6 @@ use Rattle.floats.specs.Classes.{float_goes, float_run, sign}
 use Rattle.floats.specs.Float.{float_of, float_suffixes, run_at, specials}
 use Rattle.floats.specs.Grammar as g
 use Rattle.floats.specs.Judged.{float_judged, may_follow, stripped, well_to}
-use Rattle.floats.specs.declared.float.AnyFloat.TheVariants.{Read}
 use Rattle.floats.specs.declared.judge.Judged.TheVariants.{Fine}
 use Rattle.floats.specs.declared.state.State.TheVariants.{Start}
 use Rattle.integers.proofs.Words.{other_first}
@@ -213,7 +213,7 @@ loud = refl
 
 module _ (s : List ℕ) (some : 0 < run digit (drop (sign_of s).end s)) (frac : 0 < fraction_of (drop (run digit (drop (sign_of s).end s)) (drop (sign_of s).end s))) where
   run_is : (m : ℕ) → m ≡ (sign_of s).end + (run digit (drop (sign_of s).end s) + fraction_of (drop (run digit (drop (sign_of s).end s)) (drop (sign_of s).end s)))
-      → Read (record { len = m; suffix = 0 }) ≡ run_at s
+      → Ok (record { len = m; suffix = 0 }) ≡ run_at s
   run_is m em =
       let e : ℕ = (sign_of s).end in
       let t : List ℕ = drop e s in
@@ -224,7 +224,7 @@ module _ (s : List ℕ) (some : 0 < run digit (drop (sign_of s).end s)) (frac : 
       let text = text_from s e (n + f) (sign_cases s) (whole_text t f some is).0 (whole_text t f some is).1 in
       let fine : Fine ≡ float_judged (take m s) = clean_fine (take m s) (rw em text.1) (rw em text.0) in
       let behind : quiet_byte (get_or (drop m s) 0 0) ≡ true = ap quiet_byte (head_at s m ∙ ap (λ (k : ℕ). get_or s k 0) em ∙ sym (get_or-drop e s (n + f) 0)) ∙ whole_quiet t f some is in
-      ap (λ (k : ℕ). Read (record { len = k; suffix = 0 })) (sym (add-zero m))
+      ap (λ (k : ℕ). Ok (record { len = k; suffix = 0 })) (sym (add-zero m))
       ∙ run_judged s m Fine nothing_found long (λ z. omega arith) fine (no_float_suffix (drop m s) (quiet_not _ behind 0x66 loud))
 
   ahead : float_ahead s ≡ true

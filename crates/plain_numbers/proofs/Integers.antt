@@ -1,4 +1,5 @@
 -- The general reader says of a plain integer what its definition does. Assumes nothing.
+use Rattle.std.proofs.Common.{Ok}
 use Prim.Native.Nat.{ℕ, ◌+◌, ◌≤◌, ◌<◌}
 use native.Mathlib.Nat.{add-zero}
 use native.Mathlib.Omega.{arith}
@@ -27,7 +28,6 @@ use Rattle.integers.specs.Front.{front_of, prefix_of, sign_of}
 use Rattle.integers.specs.Integer.{any_of, numeral_of}
 use Rattle.integers.specs.Width.{first_fit, limit_at, suffix_first, suffix_of, widest, width_at}
 use Rattle.integers.specs.Words.{nothing_found}
-use Rattle.integers.specs.declared.integer.Numeral.TheVariants as numeral
 use Rattle.numbers.specs.Numbers.{float_ahead, number_of}
 use Rattle.numbers.specs.declared.Number.TheVariants.{Int}
 use Rattle.reading.specs.Owed.{quiet_byte}
@@ -126,7 +126,7 @@ module _ (s : List ℕ) (some : 0 < run digit (drop (sign_of s).end s)) (ends : 
   -- digits in a width that holds their value
   pub numeral_is : (asked : ℕ) → value_of 10 (take (run digit (drop (sign_of s).end s)) (drop (sign_of s).end s)) ≤ limit_at asked (sign_of s).minus
       → numeral_of asked (sign_of s).minus 10 (drop (sign_of s).end s)
-      ≡ numeral.Read (value_of 10 (take (run digit (drop (sign_of s).end s)) (drop (sign_of s).end s))) 0 (run digit (drop (sign_of s).end s))
+      ≡ Ok (value_of 10 (take (run digit (drop (sign_of s).end s)) (drop (sign_of s).end s)), 0, run digit (drop (sign_of s).end s))
   unfolding numeral_of
   numeral_is asked fits =
       let t : List ℕ = drop (sign_of s).end s in

@@ -1,4 +1,7 @@
 -- A plain string is the token that the token reader reads there. Assumes nothing.
+use Rattle.std.proofs.Common.{Ok, Err}
+use Rattle.text.specs.Refusals.{Told}
+use Rattle.strings.specs.declared.literal.Literal.{Literal}
 use Prim.Native.Nat.{ℕ, ◌+◌, ◌-◌, ◌<◌, ◌≤◌}
 use native.Mathlib.Omega.{arith}
 use mathlib.Core.Bool.{Bool, false, cond, ◌&&◌}
@@ -16,8 +19,6 @@ use Rattle.strings.proofs.QuotedLaws.{quoted_plain}
 use Rattle.strings.specs.Pieces.{plain}
 use Rattle.strings.specs.Quoted.{literal, quoted_of}
 use Rattle.strings.specs.Strings.{string_of}
-use Rattle.strings.specs.declared.literal.LiteralAnswer.{LiteralAnswer}
-use Rattle.strings.specs.declared.literal.LiteralAnswer.TheVariants.{Read, Refused}
 use Rattle.strings.specs.Raw.{raw_of}
 use Rattle.strings.proofs.Wholes.{none_here}
 use Rattle.text.specs.Refusals.{expected_string}
@@ -56,9 +57,9 @@ quote_clear : (s : List ℕ) → get_or s 0 0 ≡ 0x22 → gap_of s ≡ Clear 0
 unfolding blank1 within
 quote_clear s e = clear_front s (none_here s 0 0x22 (omega arith) (eq-eqb (get_or s 0 0) 0x22 e)) (ap clear_byte e)
 
-quote_lexeme : (s : List ℕ) (n : ℕ) → get_or s 0 0 ≡ 0x22 → string_of s ≡ Read (literal (1 + n + 1) 1 (1 + n) n false) → lexeme_of (token_of s) ≡ lexeme (n + 2) 14 n
+quote_lexeme : (s : List ℕ) (n : ℕ) → get_or s 0 0 ≡ 0x22 → string_of s ≡ Ok (literal (1 + n + 1) 1 (1 + n) n false) → lexeme_of (token_of s) ≡ lexeme (n + 2) 14 n
 unfolding token_of shape_of mark_kind
-quote_lexeme s n e is = let z : 1 + n + 1 ≡ n + 2 = omega arith in rw e (ap (λ (l : LiteralAnswer). lexeme_of (of_string l)) is ∙ ap (λ (k : ℕ). lexeme k 14 n) z)
+quote_lexeme s n e is = let z : 1 + n + 1 ≡ n + 2 = omega arith in rw e (ap (λ (l : Told Literal). lexeme_of (of_string l)) is ∙ ap (λ (k : ℕ). lexeme k 14 n) z)
 
 -- ---- the law
 
@@ -69,8 +70,8 @@ plain-string s h =
     let n = run plain (drop 1 s) in
     let z : 1 + n ≡ n + 1 = omega arith in
     let end = none_here s (n + 1) 0x22 (omega arith) (eq-eqb _ _ f.closes) in
-    let is : string_of s ≡ Read (literal (1 + n + 1) 1 (1 + n) n false) =
-    ap (λ (t : Bool). cond t (quoted_of Str 1 s) (cond (eqb (get_or s 0 0) 0x72) (raw_of Str 1 s) (Refused (expected_string 0)))) (eq-eqb _ _ f.opens)
+    let is : string_of s ≡ Ok (literal (1 + n + 1) 1 (1 + n) n false) =
+    ap (λ (t : Bool). cond t (quoted_of Str 1 s) (cond (eqb (get_or s 0 0) 0x72) (raw_of Str 1 s) (Err (expected_string 0)))) (eq-eqb _ _ f.opens)
     ∙ quoted_plain Str s 1 n refl (omega arith) (ap (λ (k : ℕ). get_or s k 0) z ∙ f.closes) in
     let d : n + 2 - 2 ≡ n = omega arith in
     rw (f.len_is, d)

@@ -2,6 +2,7 @@
 -- from the beginning of a text: the pieces `ps` were handed over, `es` was given, and the state `a` was left with the bytes `kept`; a refused call took nothing, and its piece
 -- may have been handed over again. The text is `joined ps`; `text_gives` is the rule of docs/ARRIVAL.md, byte by byte. Each line is a theorem's statement; its proof only says
 -- where it is proved. Assumes nothing.
+use Rattle.std.proofs.Common.{Ok, Err}
 use Prim.Native.Nat.{ℕ, ◌+◌, ◌<◌, ◌≤◌}
 use mathlib.Core.Bool.{false, true}
 use mathlib.Core.List.{List, [], ◌++◌, ◌∷◌}
@@ -10,8 +11,7 @@ use mathlib.Core.Path.{◌≡◌}
 use lib.Dec.{eqb}
 use lib.ListN.{length, take}
 use Rattle.text.specs.Judged.{judged_of}
-use Rattle.text.specs.Refusals.{accepted, entry_too_long, no_room, not_utf8, refused, too_long}
-use Rattle.text.specs.declared.judge.Judged.TheVariants.{Fit}
+use Rattle.text.specs.Refusals.{entry_too_long, no_room, not_utf8, too_long}
 use Rattle.text.specs.declared.refusal.Refusal.{Refusal}
 use Rattle.comments.specs.Gaps.{gap_of}
 use Rattle.comments.specs.declared.gap.Gap.TheVariants as gap
@@ -57,14 +57,14 @@ module _ {ps : List (List ℕ)} {es : List Entry} {a : Arrival} {kept : List ℕ
 
   -- ---- beside one reading
 
-  module _ (fit : judged_of (joined ps) ≡ Fit) (no-30 : a.refusal.number ≡ 30 → ⊥) (junk : List ℕ) (room : ℕ) (e : Rest) (h : finish_of a (kept ++ junk) room ≡ accepted e) where
+  module _ (fit : judged_of (joined ps) ≡ Ok tt) (no-30 : a.refusal.number ≡ 30 → ⊥) (junk : List ℕ) (room : ℕ) (e : Rest) (h : finish_of a (kept ++ junk) room ≡ Ok e) where
     -- A text of at most 65,536 bytes of UTF-8 that is accepted in pieces is accepted by `read`, and its entries are those on the tape,
     pub arrival_accepted : e.refusal.number ≡ 0 → (tape : List ℕ) → length (es ++ e.entries) ≤ room_of (length tape)
-        → (read_answer (joined ps) (length tape) ≡ accepted (length (es ++ e.entries))) × (read_tape (joined ps) tape ≡ laid (es ++ e.entries) tape)
+        → (read_answer (joined ps) (length tape) ≡ Ok (length (es ++ e.entries))) × (read_tape (joined ps) tape ≡ laid (es ++ e.entries) tape)
     arrival_accepted = as_read.calls_accept k fit no-30 junk room e h
 
     -- and one that is refused, but for 30, is refused so by `read`.
-    pub arrival_refused : (e.refusal.number ≡ 0 → ⊥) → (numbers : ℕ) → read_answer (joined ps) numbers ≡ refused e.refusal
+    pub arrival_refused : (e.refusal.number ≡ 0 → ⊥) → (numbers : ℕ) → read_answer (joined ps) numbers ≡ Err e.refusal
     arrival_refused = as_read.calls_refuse k fit no-30 junk room e h
 
   -- In any case what was given is the front of the reading of what was taken, whatever follows it: of a refused text, the entries before the refusal.
@@ -96,7 +96,7 @@ module _ {ps : List (List ℕ)} {es : List Entry} {a : Arrival} {kept : List ℕ
   arrival_numbers = as_read.calls_numbers k
 
   -- or by the end.
-  pub end_numbers : (junk : List ℕ) (room : ℕ) (e : Rest) → finish_of a (kept ++ junk) room ≡ accepted e → (e.refusal.number ≡ 0 → ⊥) → Arrives e.refusal
+  pub end_numbers : (junk : List ℕ) (room : ℕ) (e : Rest) → finish_of a (kept ++ junk) room ≡ Ok e → (e.refusal.number ≡ 0 → ⊥) → Arrives e.refusal
   end_numbers = as_read.end_numbers k
 
   -- ---- an entry is given exactly when it is decided
@@ -121,17 +121,17 @@ module _ {ps : List (List ℕ)} {es : List Entry} {a : Arrival} {kept : List ℕ
   arrival_in_order = laws.calls_in_order k
 
   -- and so no call over one is refused but with 22, neither a piece nor the end: then nothing was taken.
-  pub arrival_22 : (w junk : List ℕ) (room : ℕ) (d : Refusal) → piece_of a (kept ++ (w ++ junk)) (length w) room ≡ refused d → d ≡ no_room
+  pub arrival_22 : (w junk : List ℕ) (room : ℕ) (d : Refusal) → piece_of a (kept ++ (w ++ junk)) (length w) room ≡ Err d → d ≡ no_room
   arrival_22 = laws.only_no_room (laws.begun_calls k).shows
 
-  pub end_22 : (junk : List ℕ) (room : ℕ) (d : Refusal) → finish_of a (kept ++ junk) room ≡ refused d → d ≡ no_room
+  pub end_22 : (junk : List ℕ) (room : ℕ) (d : Refusal) → finish_of a (kept ++ junk) room ≡ Err d → d ≡ no_room
   end_22 = laws.end_no_room (laws.begun_calls k).shows
 
   -- After a refusal every later piece gets the same one, and the end too; nothing changes.
-  pub refusal_stays : eqb a.refusal.number 0 ≡ false → (w junk : List ℕ) (room : ℕ) → piece_of a (kept ++ (w ++ junk)) (length w) room ≡ accepted (unchanged a kept)
+  pub refusal_stays : eqb a.refusal.number 0 ≡ false → (w junk : List ℕ) (room : ℕ) → piece_of a (kept ++ (w ++ junk)) (length w) room ≡ Ok (unchanged a kept)
   refusal_stays = laws.refusal_again (laws.begun_calls k).shows
 
-  pub refusal_ends : eqb a.refusal.number 0 ≡ false → (junk : List ℕ) (room : ℕ) → finish_of a (kept ++ junk) room ≡ accepted (record { entries = []; refusal = a.refusal })
+  pub refusal_ends : eqb a.refusal.number 0 ≡ false → (junk : List ℕ) (room : ℕ) → finish_of a (kept ++ junk) room ≡ Ok (record { entries = []; refusal = a.refusal })
   refusal_ends = laws.refusal_at_the_end (laws.begun_calls k).shows
 
 -- ---- bytes that may be taken

@@ -1,4 +1,6 @@
 -- What is promised of `integer`. Each line is a theorem's statement; its proof only says where it is proved. Assumes nothing.
+use Rattle.std.proofs.Common.{Ok, Err}
+use Rattle.text.specs.Refusals.{Told}
 use Prim.Native.Nat.{ℕ, ◌<◌}
 use mathlib.Core.Bool.{Bool, cond, false, true}
 use mathlib.Core.List.{List}
@@ -6,8 +8,7 @@ use mathlib.Core.Logic.{◌↔◌, ◌⊎◌}
 use mathlib.Core.Path.{◌≡◌}
 use lib.ListN.{drop, get_or, length}
 use Rattle.text.specs.Judged.{judged_of, place_fits}
-use Rattle.text.specs.Refusals.{accepted, eof, expected_integer, integer_out_of_bounds, invalid_integer_digit, other_kind, refused, underscore_at_beginning, unfit}
-use Rattle.text.specs.declared.judge.Judged.TheVariants.{Fit}
+use Rattle.text.specs.Refusals.{eof, expected_integer, integer_out_of_bounds, invalid_integer_digit, other_kind, underscore_at_beginning, unfit}
 use Rattle.text.specs.declared.refusal.Refusal.{Refusal}
 use Rattle.digits.specs.Digits.{run_of}
 use Rattle.digits.specs.declared.Run.TheVariants.{Empty, NotDigit, Over, Underscore, Value}
@@ -19,7 +20,6 @@ use Rattle.integers.proofs.Exactly as runs
 use Rattle.rows.specs.Rows.{entry_at}
 use Rattle.read.specs.Read.{read_answer, read_tape}
 use Rattle.sarridok.specs.Typed.{Typed, integer_at, integer_of, placed_at, told_integer}
-use Rattle.sarridok.specs.declared.integer_call.IntegerAnswer.{IntegerAnswer}
 use Rattle.sarridok.proofs.IntegerDetermined.{integer_determined}
 use Rattle.written.specs.Accepted.{ByteAccepted, NumberAccepted}
 use Rattle.written.specs.Refused.{DigitTooHigh, NoDigits, OtherByte, OtherWidth, OutOfBounds, TextEnds, UnderscoreFirst}
@@ -60,7 +60,7 @@ module _ (signed : Bool) (bits : ℕ) (minus : Bool) (base : ℕ) (positive : 0 
 
 module _ (text : List ℕ) (place : ℕ) (width : Width) where
   -- 1 and 2 exactly in their cases, and past both exactly where the text is sound.
-  pub integer_front : FrontOf text (integer_of text place width) (cond (place_fits text place) (told_integer (placed_at place (integer_at width (drop place text)))) (refused unfit))
+  pub integer_front : FrontOf text (integer_of text place width) (cond (place_fits text place) (told_integer (placed_at place (integer_at width (drop place text)))) (Err unfit))
   integer_front = fronts.integer_front text place width
 
   -- 28 exactly where the place is no boundary of characters.
@@ -69,52 +69,52 @@ module _ (text : List ℕ) (place : ℕ) (width : Width) where
 
   -- What is accepted, where no byte literal stands, is the number written at the place: by its sign, its prefix's base and its digits, the underscores
   -- left out. It is a number of the width, and the place answered is the one behind its digits and its suffix.
-  pub integer_written : (t : Typed) → byte_literal (drop place text) ≡ false → integer_of text place width ≡ accepted t → IsWritten width (drop place text) × AsWritten width (drop place text) place t
+  pub integer_written : (t : Typed) → byte_literal (drop place text) ≡ false → integer_of text place width ≡ Ok t → IsWritten width (drop place text) × AsWritten width (drop place text) place t
   integer_written = accepted_written text place width
 
   -- And what is written there, fits the width and carries no other suffix is accepted.
-  pub integer_accepts : judged_of text ≡ Fit → place_fits text place ≡ true → IsWritten width (drop place text) → (t : Typed) × (integer_of text place width ≡ accepted t)
+  pub integer_accepts : judged_of text ≡ Ok tt → place_fits text place ≡ true → IsWritten width (drop place text) → (t : Typed) × (integer_of text place width ≡ Ok t)
   integer_accepts = written_accepted text place width
 
   -- A byte literal is accepted exactly as a u8, with the byte that it means.
-  pub integer_byte : (t : Typed) → byte_literal (drop place text) ≡ true → (integer_of text place width ≡ accepted t) ↔ ByteAccepted width text place t
+  pub integer_byte : (t : Typed) → byte_literal (drop place text) ≡ true → (integer_of text place width ≡ Ok t) ↔ ByteAccepted width text place t
   integer_byte = bytes.byte_literal_exactly text place width
 
   -- Both in one: accepted exactly where such a number or byte literal stands.
-  pub integer_accepted : (t : Typed) → (integer_of text place width ≡ accepted t) ↔ (NumberAccepted width text place t ⊎ ByteAccepted width text place t)
+  pub integer_accepted : (t : Typed) → (integer_of text place width ≡ Ok t) ↔ (NumberAccepted width text place t ⊎ ByteAccepted width text place t)
   integer_accepted = accepts.integer_accepted text place width
 
   -- 6, 7, 8, 9, 10 and 27 exactly in their cases.
-  pub integer_6 : (p : ℕ) → (integer_of text place width ≡ refused (eof p)) ↔ TextEnds text place p
+  pub integer_6 : (p : ℕ) → (integer_of text place width ≡ Err (eof p)) ↔ TextEnds text place p
   integer_6 = others.integer_6 text place width
 
-  pub integer_7 : (p : ℕ) → (integer_of text place width ≡ refused (expected_integer p)) ↔ NoDigits text place p
+  pub integer_7 : (p : ℕ) → (integer_of text place width ≡ Err (expected_integer p)) ↔ NoDigits text place p
   integer_7 p = refusals.integer_7 text place width p
 
-  pub integer_8 : (p : ℕ) → (integer_of text place width ≡ refused (underscore_at_beginning p)) ↔ UnderscoreFirst text place p
+  pub integer_8 : (p : ℕ) → (integer_of text place width ≡ Err (underscore_at_beginning p)) ↔ UnderscoreFirst text place p
   integer_8 p = refusals.integer_8 text place width p
 
-  pub integer_9 : (p : ℕ) → (integer_of text place width ≡ refused (invalid_integer_digit p)) ↔ DigitTooHigh width text place p
+  pub integer_9 : (p : ℕ) → (integer_of text place width ≡ Err (invalid_integer_digit p)) ↔ DigitTooHigh width text place p
   integer_9 p = refusals.integer_9 text place width p
 
-  pub integer_10 : (p : ℕ) → (integer_of text place width ≡ refused (integer_out_of_bounds p)) ↔ OutOfBounds width text place p
+  pub integer_10 : (p : ℕ) → (integer_of text place width ≡ Err (integer_out_of_bounds p)) ↔ OutOfBounds width text place p
   integer_10 p = refusals.integer_10 text place width p
 
-  pub integer_27 : (integer_of text place width ≡ refused other_kind) ↔ (OtherWidth width text place ⊎ OtherByte width text place)
+  pub integer_27 : (integer_of text place width ≡ Err other_kind) ↔ (OtherWidth width text place ⊎ OtherByte width text place)
   integer_27 = bytes.integer_27 text place width
 
   -- A refusal's number is 1, 2 or one of 4 to 29, and its reason 1 to 8 where that is 13, else 0.
-  pub integer_numbers : (r : Refusal) → integer_of text place width ≡ refused r → Given r
+  pub integer_numbers : (r : Refusal) → integer_of text place width ≡ Err r → Given r
   integer_numbers = integer_given text place width
 
   -- Two answers that meet the promise are equal.
-  pub one_integer : (x y : IntegerAnswer) → told_integer x ≡ integer_of text place width → told_integer y ≡ integer_of text place width → x ≡ y
+  pub one_integer : (x y : Told (Value × ℕ)) → told_integer x ≡ integer_of text place width → told_integer y ≡ integer_of text place width → x ≡ y
   one_integer = integer_determined text place width
 
 -- ---- the integers of an accepted read
 
 -- Every integer of an accepted read is accepted again by `integer`, in the width that its detail says, and ends where its entry does.
-pub integer_again : (text tape : List ℕ) (count k : ℕ) (width : Width) → read_answer text (length tape) ≡ accepted count → k < count
+pub integer_again : (text tape : List ℕ) (count k : ℕ) (width : Width) → read_answer text (length tape) ≡ Ok count → k < count
     → (entry_at (read_tape text tape) k).kind ≡ 11 → code_of width ≡ (entry_at (read_tape text tape) k).detail
-    → (v : Number) × (integer_of text (entry_at (read_tape text tape) k).start width ≡ accepted (record { number = v; end = (entry_at (read_tape text tape) k).end }))
+    → (v : Number) × (integer_of text (entry_at (read_tape text tape) k).start width ≡ Ok (record { number = v; end = (entry_at (read_tape text tape) k).end }))
 integer_again = read_integer

@@ -12,6 +12,7 @@
 --     Hosts         the interface for C: nothing of an answer is cut off
 -- Demand 1: `refused_read`, `refused_decoded`, `refused_walk`, `refused_repair`, `refused_integers`; the other calls are lent nothing to write, or say what they write in their contract. Demand 2: what is said of each call. Demand 3: `repair_as_read`. In both a
 -- refusal is its number, place and reason. Each line is a theorem's statement; its proof only says where it is proved. Assumes nothing.
+use Rattle.std.proofs.Common.{Ok, Err, Some, None}
 use Prim.Native.Nat.{ℕ, ◌<◌, ◌≤◌}
 use mathlib.Core.Bool.{true}
 use mathlib.Core.List.{List, ◌++◌}
@@ -21,9 +22,7 @@ use lib.ListN.{drop, length, take}
 use Rattle.text.specs.Judged.{judged_of, place_fits}
 use Rattle.text.specs.Refusals.{not_utf8, too_long}
 use Rattle.text.specs.Utf8.{Encoded, Scalar, char_len, code_of, encode, utf8_of}
-use Rattle.text.specs.declared.judge.Judged.TheVariants.{Fit, Refused}
 use Rattle.text.specs.declared.refusal.Refusal.{Refusal}
-use Rattle.text.specs.declared.utf8.Utf8Answer.TheVariants.{BadAt, Good}
 use Rattle.text.proofs.Utf8Agree.{bad_means, encoded_good, good_encoded, means_bad}
 use Rattle.fronts.specs.Fronts.{Boundary, FirstBad, Sound}
 use Rattle.fronts.proofs.Characters as characters
@@ -41,13 +40,13 @@ use Rattle.worked.proofs.Worked.{worked, worked_fields, worked_gaps, worked_list
 -- ---- the front of every call with a text
 
 -- A text is UTF-8 exactly when it is a run of encoded scalar values, and refusal 2 stands exactly at the first place where none stands.
-pub utf8_good : (s : List ℕ) → (utf8_of s ≡ Good) ↔ Encoded s
+pub utf8_good : (s : List ℕ) → (utf8_of s ≡ None) ↔ Encoded s
 utf8_good s = (good_encoded s, encoded_good s)
 
-pub utf8_bad : (s : List ℕ) (p : ℕ) → utf8_of s ≡ BadAt p → (p < length s) × Encoded (take p s) × ((c : ℕ) (t : List ℕ) → Scalar c → drop p s ≡ encode c ++ t → ⊥)
+pub utf8_bad : (s : List ℕ) (p : ℕ) → utf8_of s ≡ Some p → (p < length s) × Encoded (take p s) × ((c : ℕ) (t : List ℕ) → Scalar c → drop p s ≡ encode c ++ t → ⊥)
 utf8_bad = bad_means
 
-pub utf8_place : (s : List ℕ) (p : ℕ) → p < length s → Encoded (take p s) → ((c : ℕ) (t : List ℕ) → Scalar c → drop p s ≡ encode c ++ t → ⊥) → utf8_of s ≡ BadAt p
+pub utf8_place : (s : List ℕ) (p : ℕ) → p < length s → Encoded (take p s) → ((c : ℕ) (t : List ℕ) → Scalar c → drop p s ≡ encode c ++ t → ⊥) → utf8_of s ≡ Some p
 utf8_place = means_bad
 
 -- The character at the front of a part: its code point and width are those of the encoding that stands there, and the width is 0 exactly where none does.
@@ -59,13 +58,13 @@ no_char_front = characters.no_char_front
 
 -- A call goes past its front exactly when its text has at most 65,536 bytes and is UTF-8; 1 and 2 are given exactly in their cases (of each call:
 -- `skip_front` and its like).
-pub text_fit : (text : List ℕ) → (judged_of text ≡ Fit) ↔ Sound text
+pub text_fit : (text : List ℕ) → (judged_of text ≡ Ok tt) ↔ Sound text
 text_fit = texts-front.fit_exactly
 
-pub text_long : (text : List ℕ) → (judged_of text ≡ Refused too_long) ↔ (65536 < length text)
+pub text_long : (text : List ℕ) → (judged_of text ≡ Err too_long) ↔ (65536 < length text)
 text_long = texts-front.long_exactly
 
-pub text_bad : (text : List ℕ) (p : ℕ) → (judged_of text ≡ Refused (not_utf8 p)) ↔ ((length text ≤ 65536) × FirstBad text p)
+pub text_bad : (text : List ℕ) (p : ℕ) → (judged_of text ≡ Err (not_utf8 p)) ↔ ((length text ≤ 65536) × FirstBad text p)
 text_bad = texts-front.bad_exactly
 
 -- A place is fit exactly when it is a boundary of characters.

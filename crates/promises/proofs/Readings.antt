@@ -1,4 +1,5 @@
 -- What is promised of `read`. Each line is a theorem's statement; its proof only says where it is proved. Assumes nothing.
+use Rattle.std.proofs.Common.{Ok, Err}
 use Prim.Native.Nat.{ℕ, suc, ◌+◌, ◌<◌, ◌≤◌}
 use mathlib.Core.Bool.{true, false}
 use mathlib.Core.List.{List, ◌++◌}
@@ -6,9 +7,8 @@ use mathlib.Core.Logic.{◌↔◌}
 use mathlib.Core.Path.{◌≡◌, ap}
 use lib.ListN.{drop, length}
 use Rattle.text.specs.Judged.{judged_of}
-use Rattle.text.specs.Refusals.{Told, accepted, refused, unexpected_char}
+use Rattle.text.specs.Refusals.{Told, unexpected_char}
 use Rattle.text.specs.Utf8.{Scalar, encode}
-use Rattle.text.specs.declared.judge.Judged.TheVariants.{Fit}
 use Rattle.text.specs.declared.refusal.Refusal.{Refusal}
 use Rattle.xid.specs.Rows.{Lies, Row, class_at, first_at, last_at}
 use Rattle.xid.specs.Table.{table}
@@ -29,9 +29,7 @@ use Rattle.rows.specs.Rows.{entries_of, entry_at, room_of}
 use Rattle.rows.specs.declared.Entry.{Entry}
 use Rattle.reading.specs.Readings.{◌▸◌, entry as then, read_from}
 use Rattle.tokens.specs.Ron.{ron_token}
-use Rattle.read.specs.Read.{fitted, laid_by, read_answer, read_tape, reading_of, told_read}
-use Rattle.read.specs.declared.measure.ReadAnswer.{ReadAnswer}
-use Rattle.read.specs.declared.measure.ReadAnswer.TheVariants.{Accepted, Refused}
+use Rattle.read.specs.Read.{fitted, laid_by, read_answer, read_tape, reading_of}
 use Rattle.sarridok.proofs.ReadDetermined.{read_determined}
 use Rattle.fields.specs.Names.{raws_fit}
 use Rattle.tiled.proofs.RawTiles as raws
@@ -53,25 +51,25 @@ use Rattle.shutout.proofs.ShutReaders as readers
 
 -- The entries of an accepted read and the gaps between them tile the text: gap, entry, gap, .. to the end, each gap as long as its entry says, and each entry's
 -- bytes have the form of its kind and detail.
-pub read_tiles : (text tape : List ℕ) (n : ℕ) → read_answer text (length tape) ≡ accepted n → Tiles text 0 (entries_of n (read_tape text tape))
+pub read_tiles : (text tape : List ℕ) (n : ℕ) → read_answer text (length tape) ≡ Ok n → Tiles text 0 (entries_of n (read_tape text tape))
 read_tiles = tiles.read_tiles
 
 -- The gap of each entry is the distance from the former's end, or from the text's start.
-pub read_gaps : (text tape : List ℕ) (n : ℕ) → read_answer text (length tape) ≡ accepted n → (k : ℕ) → k < n
+pub read_gaps : (text tape : List ℕ) (n : ℕ) → read_answer text (length tape) ≡ Ok n → (k : ℕ) → k < n
     → former_end 0 (entries_of n (read_tape text tape)) k + (entry_at (read_tape text tape) k).gap ≡ (entry_at (read_tape text tape) k).start
 read_gaps text tape n h k below = gaps.ordered_gap (read_tape text tape) n k below (length text) (read_walkable text tape n h)
 
 -- Plain tokens with a blank behind each, marks, names, decimal integers that fit and strings without quote or backslash, are read, and the tape holds
 -- exactly them.
 pub read_plain : (text tape : List ℕ) (es : List Entry) → Spelt 0 text es → length text ≤ 65536 → length es ≤ room_of (length tape)
-    → (read_answer text (length tape) ≡ accepted (length es)) × (entries_of (length es) (read_tape text tape) ≡ es)
+    → (read_answer text (length tape) ≡ Ok (length es)) × (entries_of (length es) (read_tape text tape) ≡ es)
 read_plain = spelt.spelt_read
 
 -- The tape that an accepted read leaves is in order within the text, and its raw names are raw, so that `walk` over that text never answers 23 of it.
-pub read_ordered : (text tape : List ℕ) (n : ℕ) → read_answer text (length tape) ≡ accepted n → in_order (entries_of n (read_tape text tape)) (length text) ≡ true
+pub read_ordered : (text tape : List ℕ) (n : ℕ) → read_answer text (length tape) ≡ Ok n → in_order (entries_of n (read_tape text tape)) (length text) ≡ true
 read_ordered = read_walkable
 
-pub read_raws : (text tape : List ℕ) (n : ℕ) → read_answer text (length tape) ≡ accepted n → raws_fit text (entries_of n (read_tape text tape)) ≡ true
+pub read_raws : (text tape : List ℕ) (n : ℕ) → read_answer text (length tape) ≡ Ok n → raws_fit text (entries_of n (read_tape text tape)) ≡ true
 read_raws = raws.read_raws
 
 -- ---- the call
@@ -81,27 +79,27 @@ pub read_front : (text : List ℕ) (numbers : ℕ) → FrontOf text (read_answer
 read_front = fronts.read_front
 
 -- Demand 1: a refused read leaves every number of the tape.
-pub refused_read : (text tape : List ℕ) (r : Refusal) → read_answer text (length tape) ≡ refused r → read_tape text tape ≡ tape
+pub refused_read : (text tape : List ℕ) (r : Refusal) → read_answer text (length tape) ≡ Err r → read_tape text tape ≡ tape
 unfolding read_tape
 refused_read text tape r e = ap (λ (t : Told ℕ). laid_by t (reading_of text) tape) e
 
 -- A refusal's number is 1, 2 or one of 4 to 29, and its reason 1 to 8 where that is 13, else 0.
-pub read_numbers : (text : List ℕ) (numbers : ℕ) (r : Refusal) → read_answer text numbers ≡ refused r → Given r
+pub read_numbers : (text : List ℕ) (numbers : ℕ) (r : Refusal) → read_answer text numbers ≡ Err r → Given r
 read_numbers = read_given
 
 -- Two answers that meet the promise are equal, and so are the tapes.
-pub one_read : (text tape : List ℕ) (x y : ReadAnswer) (u v : List ℕ) → (told_read x ≡ read_answer text (length tape)) × (u ≡ read_tape text tape)
-    → (told_read y ≡ read_answer text (length tape)) × (v ≡ read_tape text tape) → (x ≡ y) × (u ≡ v)
+pub one_read : (text tape : List ℕ) (x y : Told ℕ) (u v : List ℕ) → (x ≡ read_answer text (length tape)) × (u ≡ read_tape text tape)
+    → (y ≡ read_answer text (length tape)) × (v ≡ read_tape text tape) → (x ≡ y) × (u ≡ v)
 one_read text tape x y u v p q = read_determined text tape x y u v (record { answer = p.0; tape_after = p.1 }) (record { answer = q.0; tape_after = q.1 })
 
 -- ---- what is shut out: no reader that meets the promise is such
 
 module _ (f : Reader) (meets : Meets-read f) where
   -- One that refuses everything; and so none of the plain texts, if there is room.
-  pub not_all_refused : ((text tape : List ℕ) → (r : Refusal) × ((f text tape).0 ≡ Refused r)) → ⊥
+  pub not_all_refused : ((text tape : List ℕ) → (r : Refusal) × ((f text tape).0 ≡ Err r)) → ⊥
   not_all_refused = readers.not_all_refused f meets
 
-  pub refuses_no_plain_text : (text tape : List ℕ) (es : List Entry) → Spelt 0 text es → length text ≤ 65536 → length es ≤ room_of (length tape) → (r : Refusal) → (f text tape).0 ≡ Refused r → ⊥
+  pub refuses_no_plain_text : (text tape : List ℕ) (es : List Entry) → Spelt 0 text es → length text ≤ 65536 → length es ≤ room_of (length tape) → (r : Refusal) → (f text tape).0 ≡ Err r → ⊥
   refuses_no_plain_text = readers.refuses_none f meets
 
   -- One that gives one tape to all texts; plain texts are told apart by answer and tape.
@@ -109,10 +107,10 @@ module _ (f : Reader) (meets : Meets-read f) where
   not_one_tape = readers.not_one_tape f meets
 
   -- One that accepts and writes nothing, or counts none.
-  pub not_nothing_written : ((text tape : List ℕ) (n : ℕ) → (f text tape).0 ≡ Accepted n → (f text tape).1 ≡ tape) → ⊥
+  pub not_nothing_written : ((text tape : List ℕ) (n : ℕ) → (f text tape).0 ≡ Ok n → (f text tape).1 ≡ tape) → ⊥
   not_nothing_written = readers.not_nothing_written f meets
 
-  pub not_none_counted : ((text tape : List ℕ) (n : ℕ) → (f text tape).0 ≡ Accepted n → n ≡ 0) → ⊥
+  pub not_none_counted : ((text tape : List ℕ) (n : ℕ) → (f text tape).0 ≡ Ok n → n ≡ 0) → ⊥
   not_none_counted = readers.not_none_counted f meets
 
 -- There is one that does.
@@ -140,7 +138,7 @@ pub name_read : (c : ℕ) (t : List ℕ) → Scalar c → 0x80 ≤ c → (text :
 name_read = starts_name
 
 pub nothing_read : (c : ℕ) (t : List ℕ) → Scalar c → 0x80 ≤ c → (text : List ℕ) (at g : ℕ) → gap_of (drop at text) ≡ Clear g → drop g (drop at text) ≡ encode c ++ t → (es : List Entry) (numbers : ℕ)
-    → judged_of text ≡ Fit → reading_of text ≡ es ▸ read_from ron_token text at → xid_start c ≡ false → read_answer text numbers ≡ refused (unexpected_char (at + g))
+    → judged_of text ≡ Ok tt → reading_of text ≡ es ▸ read_from ron_token text at → xid_start c ≡ false → read_answer text numbers ≡ Err (unexpected_char (at + g))
 nothing_read = read_nothing
 
 -- The table's rows are ranges, sorted and apart: none shares a character with another, and none that touch are of one class.

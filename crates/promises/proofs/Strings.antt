@@ -1,11 +1,12 @@
 -- What is promised of `contents`, `contents_part` and `decoded`. Each line is a theorem's statement; its proof only says where it is proved. Assumes nothing.
+use Rattle.std.proofs.Common.{Ok, Err}
 use Prim.Native.Nat.{ℕ, ◌<◌, ◌≤◌}
 use mathlib.Core.Bool.{Bool, true, false}
 use mathlib.Core.List.{List, ◌++◌}
 use mathlib.Core.Logic.{◌↔◌}
 use mathlib.Core.Path.{◌≡◌, ◌∙◌, ap}
 use lib.ListN.{drop, length}
-use Rattle.text.specs.Refusals.{Told, accepted, eof, invalid_escape, no_room, refused}
+use Rattle.text.specs.Refusals.{Told, eof, invalid_escape, no_room}
 use Rattle.text.specs.Utf8.{Encoded}
 use Rattle.text.specs.declared.reason.EscapeReason.{EscapeReason}
 use Rattle.text.specs.declared.refusal.Refusal.{Refusal}
@@ -19,9 +20,6 @@ use Rattle.escaped.proofs.Reasons as reasons
 use Rattle.strings.specs.Chars.{byte_of, char_of}
 use Rattle.strings.specs.Strings.{byte_string_decoded, byte_string_of, string_decoded, string_of}
 use Rattle.strings.specs.declared.literal.Literal.{Literal}
-use Rattle.strings.specs.declared.literal.LiteralAnswer.TheVariants.{Read, Refused as NoString}
-use Rattle.strings.specs.declared.chars.ByteAnswer.TheVariants.{Read as ReadByte, Refused as NoByte}
-use Rattle.strings.specs.declared.chars.CharAnswer.TheVariants.{Read as ReadChar, Refused as NoChar}
 use Rattle.quoted.specs.Decoding.{Decodes}
 use Rattle.quoted.specs.Literals.{ByteAt, ByteStringAt, CharAt, LiteralAt, StringAt}
 use Rattle.quoted.specs.Wrong.{WrongByte, WrongByteString, WrongChar, WrongString}
@@ -30,11 +28,8 @@ use Rattle.quoted.proofs.Exactly as quotes
 use Rattle.quoted.proofs.WrongChars as wrong-chars
 use Rattle.quoted.proofs.WrongStrings as wrong-strings
 use Rattle.rows.specs.Rows.{entry_at}
-use Rattle.entries.specs.Contents.{Span, by_named, contents_in, decoded_in, told_contents, told_decoded, written_by}
+use Rattle.entries.specs.Contents.{Span, by_named, contents_in, decoded_in, told_contents, written_by}
 use Rattle.entries.specs.Named.{literal_decoded, literal_of, named_of}
-use Rattle.entries.specs.declared.decoding.DecodedAnswer.{DecodedAnswer}
-use Rattle.entries.specs.declared.named.Named.TheVariants.{At}
-use Rattle.entries.specs.declared.view.ContentsAnswer.{ContentsAnswer}
 use Rattle.read.specs.Read.{read_answer, read_tape}
 use Rattle.sarridok.specs.Contents.{contents_of, decoded_answer, decoded_out, named_bytes, part_of}
 use Rattle.sarridok.proofs.ContentsAgree as agree
@@ -69,36 +64,36 @@ escape_refused = escapes.escape_refused
 -- ---- strings, chars and byte literals
 
 -- What is read and decoded is exactly a string: with its decoded bytes, and what stands behind it.
-pub string_exactly : (s d t : List ℕ) → StringAt s d t ↔ ((l : Literal) × (string_of s ≡ Read l) × (string_decoded s ≡ d) × (drop l.len s ≡ t) × (l.len ≤ length s))
+pub string_exactly : (s d t : List ℕ) → StringAt s d t ↔ ((l : Literal) × (string_of s ≡ Ok l) × (string_decoded s ≡ d) × (drop l.len s ≡ t) × (l.len ≤ length s))
 string_exactly = quotes.string_exactly
 
-pub byte_string_exactly : (s d t : List ℕ) → ByteStringAt s d t ↔ ((l : Literal) × (byte_string_of s ≡ Read l) × (byte_string_decoded s ≡ d) × (drop l.len s ≡ t) × (l.len ≤ length s))
+pub byte_string_exactly : (s d t : List ℕ) → ByteStringAt s d t ↔ ((l : Literal) × (byte_string_of s ≡ Ok l) × (byte_string_decoded s ≡ d) × (drop l.len s ≡ t) × (l.len ≤ length s))
 byte_string_exactly = quotes.byte_string_exactly
 
-pub char_exactly : (s : List ℕ) (n c : ℕ) → (char_of s ≡ ReadChar n c) ↔ ((n ≤ length s) × CharAt s c (drop n s))
+pub char_exactly : (s : List ℕ) (n c : ℕ) → (char_of s ≡ Ok (n, c)) ↔ ((n ≤ length s) × CharAt s c (drop n s))
 char_exactly = quotes.char_exactly
 
-pub byte_exactly : (s : List ℕ) (n b : ℕ) → (byte_of s ≡ ReadByte n b) ↔ ((n ≤ length s) × ByteAt s b (drop n s))
+pub byte_exactly : (s : List ℕ) (n b : ℕ) → (byte_of s ≡ Ok (n, b)) ↔ ((n ≤ length s) × ByteAt s b (drop n s))
 byte_exactly = quotes.byte_exactly
 
 -- 13 is given exactly where an escape in it is wrong, with that reason, at that place: behind pieces that are well, where a quote stands behind the opening one.
-pub string_13 : (s : List ℕ) (why : EscapeReason) (p : ℕ) → (string_of s ≡ NoString (invalid_escape why p)) ↔ WrongString s why p
+pub string_13 : (s : List ℕ) (why : EscapeReason) (p : ℕ) → (string_of s ≡ Err (invalid_escape why p)) ↔ WrongString s why p
 string_13 = wrong-strings.string_13
 
-pub byte_string_13 : (s : List ℕ) (why : EscapeReason) (p : ℕ) → (byte_string_of s ≡ NoString (invalid_escape why p)) ↔ WrongByteString s why p
+pub byte_string_13 : (s : List ℕ) (why : EscapeReason) (p : ℕ) → (byte_string_of s ≡ Err (invalid_escape why p)) ↔ WrongByteString s why p
 byte_string_13 = wrong-strings.byte_string_13
 
-pub char_13 : (s : List ℕ) (why : EscapeReason) (p : ℕ) → (char_of s ≡ NoChar (invalid_escape why p)) ↔ WrongChar s why p
+pub char_13 : (s : List ℕ) (why : EscapeReason) (p : ℕ) → (char_of s ≡ Err (invalid_escape why p)) ↔ WrongChar s why p
 char_13 = wrong-chars.char_13
 
-pub byte_13 : (s : List ℕ) (why : EscapeReason) (p : ℕ) → (byte_of s ≡ NoByte (invalid_escape why p)) ↔ WrongByte s why p
+pub byte_13 : (s : List ℕ) (why : EscapeReason) (p : ℕ) → (byte_of s ≡ Err (invalid_escape why p)) ↔ WrongByte s why p
 byte_13 = wrong-chars.byte_13
 
 -- The decoded length is that of the decoded bytes.
-pub string_length : (s : List ℕ) (l : Literal) → string_of s ≡ Read l → length (string_decoded s) ≡ l.decoded
+pub string_length : (s : List ℕ) (l : Literal) → string_of s ≡ Ok l → length (string_decoded s) ≡ l.decoded
 string_length = quotes.string_length
 
-pub byte_string_length : (s : List ℕ) (l : Literal) → byte_string_of s ≡ Read l → length (byte_string_decoded s) ≡ l.decoded
+pub byte_string_length : (s : List ℕ) (l : Literal) → byte_string_of s ≡ Ok l → length (byte_string_decoded s) ≡ l.decoded
 byte_string_length = quotes.byte_string_length
 
 -- ---- decoded
@@ -109,20 +104,20 @@ module _ (text tape : List ℕ) (count entry : ℕ) where
   decoded_front = fronts.decoded_front text tape count entry
 
   -- Accepted exactly where a string stands at the entry's start and there is room for the bytes that it decodes to.
-  pub decoded_exactly : (out : List ℕ) (n : ℕ) → (decoded_answer text tape count entry (length out) ≡ accepted n) ↔ Decodes text tape count entry (length out) n
+  pub decoded_exactly : (out : List ℕ) (n : ℕ) → (decoded_answer text tape count entry (length out) ≡ Ok n) ↔ Decodes text tape count entry (length out) n
   decoded_exactly = decodings.decoded_exactly text tape count entry
 
   -- 22 exactly where one stands that decodes to more.
-  pub decoded_22 : (room : ℕ) → (decoded_answer text tape count entry room ≡ refused no_room) ↔ ((n : ℕ) × (room < n) × Decodes text tape count entry n n)
+  pub decoded_22 : (room : ℕ) → (decoded_answer text tape count entry room ≡ Err no_room) ↔ ((n : ℕ) × (room < n) × Decodes text tape count entry n n)
   decoded_22 = lacking.decoded_22 text tape count entry
 
   -- What is written is exactly those bytes; behind them the buffer is as it was.
-  pub decoded_writes : (out : List ℕ) (n : ℕ) (bytes : Bool) (place : ℕ) (d t : List ℕ) → decoded_answer text tape count entry (length out) ≡ accepted n
-      → named_of text tape count entry ≡ At bytes place → LiteralAt bytes (drop place text) d t → decoded_out text tape count entry out ≡ d ++ drop n out
+  pub decoded_writes : (out : List ℕ) (n : ℕ) (bytes : Bool) (place : ℕ) (d t : List ℕ) → decoded_answer text tape count entry (length out) ≡ Ok n
+      → named_of text tape count entry ≡ Ok (bytes, place) → LiteralAt bytes (drop place text) d t → decoded_out text tape count entry out ≡ d ++ drop n out
   decoded_writes = decodings.decoded_writes text tape count entry
 
   -- A decoded string, the n bytes in front of the buffer, is UTF-8.
-  pub decoded_utf8 : (out : List ℕ) (n place : ℕ) → named_of text tape count entry ≡ At false place → decoded_answer text tape count entry (length out) ≡ accepted n
+  pub decoded_utf8 : (out : List ℕ) (n place : ℕ) → named_of text tape count entry ≡ Ok (false, place) → decoded_answer text tape count entry (length out) ≡ Ok n
       → (d : List ℕ) × Encoded d × (length d ≡ n) × (decoded_out text tape count entry out ≡ d ++ drop n out)
   unfolding decoded_out
   decoded_utf8 out n place m e = (
@@ -133,17 +128,17 @@ module _ (text tape : List ℕ) (count entry : ℕ) where
   )
 
   -- Demand 1: a refused decoding leaves the buffer.
-  pub refused_decoded : (out : List ℕ) (r : Refusal) → decoded_answer text tape count entry (length out) ≡ refused r → decoded_out text tape count entry out ≡ out
+  pub refused_decoded : (out : List ℕ) (r : Refusal) → decoded_answer text tape count entry (length out) ≡ Err r → decoded_out text tape count entry out ≡ out
   refused_decoded = out_refused text tape count entry
 
   -- A refusal's number is 1, 2 or one of 4 to 29, and its reason 1 to 8 where that is 13, else 0.
-  pub decoded_numbers : (room : ℕ) (r : Refusal) → decoded_answer text tape count entry room ≡ refused r → Given r
+  pub decoded_numbers : (room : ℕ) (r : Refusal) → decoded_answer text tape count entry room ≡ Err r → Given r
   decoded_numbers = decoded_given text tape count entry
 
   -- Two answers that meet the promise are equal, and so are the buffers.
-  pub one_decoded : (out : List ℕ) (x y : DecodedAnswer) (u v : List ℕ)
-      → (told_decoded x ≡ decoded_answer text tape count entry (length out)) × (u ≡ decoded_out text tape count entry out)
-      → (told_decoded y ≡ decoded_answer text tape count entry (length out)) × (v ≡ decoded_out text tape count entry out) → (x ≡ y) × (u ≡ v)
+  pub one_decoded : (out : List ℕ) (x y : Told ℕ) (u v : List ℕ)
+      → (x ≡ decoded_answer text tape count entry (length out)) × (u ≡ decoded_out text tape count entry out)
+      → (y ≡ decoded_answer text tape count entry (length out)) × (v ≡ decoded_out text tape count entry out) → (x ≡ y) × (u ≡ v)
   one_decoded = decoded_determined text tape count entry
 
 -- ---- contents and contents_part
@@ -158,16 +153,16 @@ module _ (text tape : List ℕ) (count entry : ℕ) where
   contents_front = fronts.contents_front text tape count entry
 
   -- Contents that are handed out are the decoded bytes.
-  pub contents_decoded : (s : Span) (bytes : Bool) (place : ℕ) (d t : List ℕ) → contents_of text tape count entry ≡ accepted s → named_of text tape count entry ≡ At bytes place
+  pub contents_decoded : (s : Span) (bytes : Bool) (place : ℕ) (d t : List ℕ) → contents_of text tape count entry ≡ Ok s → named_of text tape count entry ≡ Ok (bytes, place)
       → LiteralAt bytes (drop place text) d t → part_of text (contents_of text tape count entry) ≡ d
   contents_decoded s bytes place d t e m l = agree.part_decoded text tape count entry s e ∙ ap (named_bytes text) m ∙ literal_is bytes (drop place text) d t l
 
   -- A refusal's number is 1, 2 or one of 4 to 29, and its reason 1 to 8 where that is 13, else 0.
-  pub contents_numbers : (r : Refusal) → contents_of text tape count entry ≡ refused r → Given r
+  pub contents_numbers : (r : Refusal) → contents_of text tape count entry ≡ Err r → Given r
   contents_numbers = contents_given text tape count entry
 
   -- Two answers that meet the promise are equal, and so are two parts.
-  pub one_contents : (x y : ContentsAnswer) → told_contents x ≡ contents_of text tape count entry → told_contents y ≡ contents_of text tape count entry → x ≡ y
+  pub one_contents : (x y : Told (ℕ × ℕ)) → told_contents x ≡ contents_of text tape count entry → told_contents y ≡ contents_of text tape count entry → x ≡ y
   one_contents = contents_determined text tape count entry
 
   pub one_part : (x y : List ℕ) → x ≡ part_of text (contents_of text tape count entry) → y ≡ part_of text (contents_of text tape count entry) → x ≡ y
@@ -177,12 +172,12 @@ module _ (text tape : List ℕ) (count entry : ℕ) where
 
 -- Every string of an accepted read can be decoded: with room for as many bytes as its detail says that many are written, with less it is 22; its contents are
 -- a part of the text with so many bytes, or 29.
-module _ (text tape : List ℕ) (count k : ℕ) (e : read_answer text (length tape) ≡ accepted count) (i : k < count) (is : IsString (entry_at (read_tape text tape) k)) where
+module _ (text tape : List ℕ) (count k : ℕ) (e : read_answer text (length tape) ≡ Ok count) (i : k < count) (is : IsString (entry_at (read_tape text tape) k)) where
   pub decoded_accepts : (room : ℕ) → (entry_at (read_tape text tape) k).detail ≤ room
-      → decoded_answer text (read_tape text tape) count k room ≡ accepted (entry_at (read_tape text tape) k).detail
+      → decoded_answer text (read_tape text tape) count k room ≡ Ok (entry_at (read_tape text tape) k).detail
   decoded_accepts = read_decoded text tape count k e i is
 
-  pub decoded_lacks_room : (room : ℕ) → room < (entry_at (read_tape text tape) k).detail → decoded_answer text (read_tape text tape) count k room ≡ refused no_room
+  pub decoded_lacks_room : (room : ℕ) → room < (entry_at (read_tape text tape) k).detail → decoded_answer text (read_tape text tape) count k room ≡ Err no_room
   decoded_lacks_room = read_too_long text tape count k e i is
 
   pub contents_handed : Handed text (read_tape text tape) count k

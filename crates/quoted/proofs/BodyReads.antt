@@ -1,4 +1,5 @@
 -- A body of specs/Bodies.antt is read, to its closing quote, and decodes to what the relation says. Assumes nothing.
+use Rattle.std.proofs.Common.{Ok}
 use Prim.Native.Nat.{ℕ, suc, zero, ◌+◌}
 use native.Mathlib.Nat.{add-suc}
 use native.Mathlib.Numerals.{add-one}
@@ -23,7 +24,6 @@ use Rattle.strings.specs.Pieces.{Body, behind_backslash, body_of, bytes_of, deco
 use Rattle.strings.specs.Pieces.Body.{closes, next}
 use Rattle.strings.specs.Quoted.{literal, measured}
 use Rattle.strings.specs.declared.literal.Literal.{Literal}
-use Rattle.strings.specs.declared.literal.LiteralAnswer.TheVariants.{Read}
 use Rattle.strings.specs.declared.pieces.Decoded.{Decoded}
 use Rattle.strings.specs.declared.pieces.Decoded.TheVariants.{Ascii, Nothing, Utf8}
 use Rattle.strings.specs.declared.pieces.Piece.TheVariants.{Backslash, Plain, Quote}
@@ -111,7 +111,7 @@ module _ (m : Mode) where
   abbrev pub Reads : List ℕ → List ℕ → List ℕ → Type 0
   Reads t d u =
       (k : ℕ) × (get_or t k 0 ≡ 0x22) × (u ≡ drop (suc k) t) × (decoded_of (body_of m t) ≡ d)
-      × ((start from at dec : ℕ) (esc : Bool) → (l : Literal) × (measured (body_of m t) start from at dec esc ≡ Read l) × (l.len ≡ at + suc k))
+      × ((start from at dec : ℕ) (esc : Bool) → (l : Literal) × (measured (body_of m t) start from at dec esc ≡ Ok l) × (l.len ≡ at + suc k))
 
   -- a quote is the piece at the front
   quote_front : (t : List ℕ) → Quote ≡ piece_of m (0x22 ∷ t)

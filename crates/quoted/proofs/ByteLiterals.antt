@@ -1,4 +1,6 @@
 -- A byte literal is read exactly where one stands. Assumes nothing.
+use Rattle.std.proofs.Common.{Ok, Err}
+use Rattle.text.specs.Refusals.{Told}
 use Prim.Native.Nat.{ℕ, suc, ◌+◌, ◌<◌, ◌≤◌}
 use native.Mathlib.Numerals.{add-one}
 use native.Mathlib.Omega.{arith}
@@ -21,8 +23,6 @@ use Rattle.quoted.specs.Literals.{ByteAt}
 use Rattle.quoted.specs.Literals.ByteAt.{escaped, itself}
 use Rattle.strings.proofs.CharLaws.{byte_short}
 use Rattle.strings.specs.Chars.{by_byte_escape, byte_ends, byte_of}
-use Rattle.strings.specs.declared.chars.ByteAnswer.{ByteAnswer}
-use Rattle.strings.specs.declared.chars.ByteAnswer.TheVariants.{Read as ReadByte, Refused as NoByte}
 use Rattle.text.proofs.Choices.{and_true, bool_cases, cond_cases, either}
 use Rattle.text.proofs.Lists.{head_at}
 use Rattle.text.specs.Refusals.{eof, expected_byte_literal}
@@ -31,26 +31,26 @@ use Rattle.text.specs.declared.refusal.Refusal.{Refusal}
 -- ---- the closing quote
 
 -- a byte is read where the closing quote stands behind it
-ends_reads : (s : List ℕ) (at b : ℕ) → get_or s at 0 ≡ 0x27 → byte_ends s at b ≡ ReadByte (suc at) b
+ends_reads : (s : List ℕ) (at b : ℕ) → get_or s at 0 ≡ 0x27 → byte_ends s at b ≡ Ok (suc at, b)
 unfolding byte_ends
 ends_reads s at b e = rw (eq-eqb (get_or s at 0) 0x27 e, add-one at)
 
 -- and nowhere else
-ends_read : (s : List ℕ) (at b n c : ℕ) → byte_ends s at b ≡ ReadByte n c → (get_or s at 0 ≡ 0x27) × (n ≡ at + 1) × (b ≡ c)
+ends_read : (s : List ℕ) (at b n c : ℕ) → byte_ends s at b ≡ Ok (n, c) → (get_or s at 0 ≡ 0x27) × (n ≡ at + 1) × (b ≡ c)
 unfolding byte_ends
 ends_read s at b n c =
-    cond_cases (λ (a : ByteAnswer). a ≡ ReadByte n c → (get_or s at 0 ≡ 0x27) × (n ≡ at + 1) × (b ≡ c)) (eqb (get_or s at 0) 0x27) _ _
+    cond_cases (λ (a : Told (ℕ × ℕ)). a ≡ Ok (n, c) → (get_or s at 0 ≡ 0x27) × (n ≡ at + 1) × (b ≡ c)) (eqb (get_or s at 0) 0x27) _ _
     (λ q e. let i : at + 1 ≡ n = cc in let j : b ≡ c = cc in (eqb-true (get_or s at 0) 0x27 q, sym i, j))
     (λ q e. let z : ◌≡◌ {A = ℕ} 0 1 = cc in absurd (omega arith))
 
 -- ---- what is read stands there
 
 -- what is to be shown of an answer over s
-abbrev Stands : List ℕ → ByteAnswer → Type 0
-Stands s a = (n b : ℕ) → a ≡ ReadByte n b → (n ≤ length s) × ByteAt s b (drop n s)
+abbrev Stands : List ℕ → Told (ℕ × ℕ) → Type 0
+Stands s a = (n b : ℕ) → a ≡ Ok (n, b) → (n ≤ length s) × ByteAt s b (drop n s)
 
 -- of a refusal nothing is to be shown
-refused_stands : (s : List ℕ) (a : ByteAnswer) (r : Refusal) → a ≡ NoByte r → Stands s a
+refused_stands : (s : List ℕ) (a : Told (ℕ × ℕ)) (r : Refusal) → a ≡ Err r → Stands s a
 refused_stands s a r e n b f = let z : ◌≡◌ {A = ℕ} 0 1 = cc in absurd (omega arith)
 
 -- a byte that stands for itself, and the closing quote
@@ -97,7 +97,7 @@ opened [] = refused_stands (0x62 ∷ 0x27 ∷ []) (byte_of (0x62 ∷ 0x27 ∷ []
 opened (a ∷ w) = of_three a w
 
 -- no byte literal begins otherwise
-unopened : (x y : ℕ) (w : List ℕ) → (eqb x 0x62 && eqb y 0x27) ≡ false → byte_of (x ∷ y ∷ w) ≡ NoByte (expected_byte_literal 0)
+unopened : (x y : ℕ) (w : List ℕ) → (eqb x 0x62 && eqb y 0x27) ≡ false → byte_of (x ∷ y ∷ w) ≡ Err (expected_byte_literal 0)
 unfolding byte_of
 unopened x y w e = rw e
 
@@ -113,20 +113,20 @@ byte_stands (x ∷ y ∷ w) =
 -- ---- the other way round
 
 -- a byte that stands for itself is read
-plain_reads : (b : ℕ) (t : List ℕ) → b < 0x80 → (b ≡ 0x5C → ⊥) → byte_of (0x62 ∷ 0x27 ∷ b ∷ 0x27 ∷ t) ≡ ReadByte 4 b
+plain_reads : (b : ℕ) (t : List ℕ) → b < 0x80 → (b ≡ 0x5C → ⊥) → byte_of (0x62 ∷ 0x27 ∷ b ∷ 0x27 ∷ t) ≡ Ok (4, b)
 unfolding byte_of
 plain_reads b t h ne =
     simp (ne_eqb (suc (suc (suc (suc (length t))))) 2 (λ i. omega arith), ne_eqb b 0x5C ne, lt-ltb b 0x80 h) (ends_reads (0x62 ∷ 0x27 ∷ b ∷ 0x27 ∷ t) 3 b refl)
 
 -- and so is an escape that means a byte
-escape_reads_byte : (w : List ℕ) (b k : ℕ) → escape_of Bytes w ≡ Ascii b k → get_or w k 0 ≡ 0x27 → byte_of (0x62 ∷ 0x27 ∷ 0x5C ∷ w) ≡ ReadByte (suc (suc (suc (suc k)))) b
+escape_reads_byte : (w : List ℕ) (b k : ℕ) → escape_of Bytes w ≡ Ascii b k → get_or w k 0 ≡ 0x27 → byte_of (0x62 ∷ 0x27 ∷ 0x5C ∷ w) ≡ Ok (suc (suc (suc (suc k))), b)
 unfolding byte_of
 escape_reads_byte w b k a g =
     let three : 3 + k ≡ suc (suc (suc k)) = omega arith in
     rw (ne_eqb (suc (suc (suc (length w)))) 2 (λ i. omega arith), a, three) (ends_reads (0x62 ∷ 0x27 ∷ 0x5C ∷ w) (suc (suc (suc k))) b g)
 
 -- a byte literal is read, with its length and its byte
-pub byte_reads : {s t : List ℕ} {b : ℕ} → ByteAt s b t → (n : ℕ) × (n ≤ length s) × (t ≡ drop n s) × (byte_of s ≡ ReadByte n b)
+pub byte_reads : {s t : List ℕ} {b : ℕ} → ByteAt s b t → (n : ℕ) × (n ≤ length s) × (t ≡ drop n s) × (byte_of s ≡ Ok (n, b))
 byte_reads (itself {b} {t} h ne) = (4, omega arith, refl, plain_reads b t (omega arith) ne)
 byte_reads (escaped {b} {s} {t} x) =
     let r = escape_reads x in

@@ -1,4 +1,6 @@
 -- A char is read exactly where one stands, and so is a byte literal. Assumes nothing.
+use Rattle.std.proofs.Common.{Ok, Err}
+use Rattle.text.specs.Refusals.{Told}
 use Prim.Native.Nat.{ℕ, suc, zero, ◌+◌, ◌<◌, ◌≤◌}
 use native.Mathlib.Numerals.{add-one}
 use native.Mathlib.Omega.{arith}
@@ -20,8 +22,6 @@ use Rattle.quoted.specs.Literals.{CharAt, point_of}
 use Rattle.quoted.specs.Literals.CharAt.{escaped, itself}
 use Rattle.strings.proofs.Bounds.{no_quote}
 use Rattle.strings.specs.Chars.{by_char_escape, char_ends, char_of}
-use Rattle.strings.specs.declared.chars.CharAnswer.{CharAnswer}
-use Rattle.strings.specs.declared.chars.CharAnswer.TheVariants.{Read as ReadChar, Refused as NoChar}
 use Rattle.text.proofs.CharFronts.{code_ascii}
 use Rattle.text.proofs.Choices.{bool_cases, cond_cases, either}
 use Rattle.text.proofs.Lists.{head_at}
@@ -31,23 +31,23 @@ use Rattle.text.specs.Utf8.{Scalar, char_len, code_of, encode}
 -- ---- the closing quote
 
 -- a character is read where the closing quote stands behind it
-ends_reads : (s : List ℕ) (at code : ℕ) → get_or s at 0 ≡ 0x27 → char_ends s at code ≡ ReadChar (suc at) code
+ends_reads : (s : List ℕ) (at code : ℕ) → get_or s at 0 ≡ 0x27 → char_ends s at code ≡ Ok (suc at, code)
 unfolding char_ends
 ends_reads s at code e = rw (eq-eqb (get_or s at 0) 0x27 e, add-one at)
 
 -- and nowhere else
-ends_read : (s : List ℕ) (at code n c : ℕ) → char_ends s at code ≡ ReadChar n c → (get_or s at 0 ≡ 0x27) × (n ≡ at + 1) × (code ≡ c)
+ends_read : (s : List ℕ) (at code n c : ℕ) → char_ends s at code ≡ Ok (n, c) → (get_or s at 0 ≡ 0x27) × (n ≡ at + 1) × (code ≡ c)
 unfolding char_ends
 ends_read s at code n c =
-    cond_cases (λ (a : CharAnswer). a ≡ ReadChar n c → (get_or s at 0 ≡ 0x27) × (n ≡ at + 1) × (code ≡ c)) (eqb (get_or s at 0) 0x27) _ _
+    cond_cases (λ (a : Told (ℕ × ℕ)). a ≡ Ok (n, c) → (get_or s at 0 ≡ 0x27) × (n ≡ at + 1) × (code ≡ c)) (eqb (get_or s at 0) 0x27) _ _
     (λ q e. let i : at + 1 ≡ n = cc in let j : code ≡ c = cc in (eqb-true (get_or s at 0) 0x27 q, sym i, j))
     (λ q e. let z : ◌≡◌ {A = ℕ} 0 1 = cc in absurd (omega arith))
 
 -- ---- what is read stands there
 
 -- what is to be shown of an answer over s
-abbrev Stands : List ℕ → CharAnswer → Type 0
-Stands s a = (n c : ℕ) → a ≡ ReadChar n c → (n ≤ length s) × CharAt s c (drop n s)
+abbrev Stands : List ℕ → Told (ℕ × ℕ) → Type 0
+Stands s a = (n c : ℕ) → a ≡ Ok (n, c) → (n ≤ length s) × CharAt s c (drop n s)
 
 -- a character and the closing quote, of which the code point and the length are known
 whole_stands : (b c k : ℕ) (w : List ℕ) → (b ≡ 0x5C → ⊥) → Scalar c → b ∷ w ≡ encode c ++ drop (suc k) (b ∷ w) → drop (suc k) (b ∷ w) ≡ 0x27 ∷ drop (suc k + 1) (b ∷ w)
@@ -106,21 +106,21 @@ unfolding char_of
 char_stands [] n c e = let z : ◌≡◌ {A = ℕ} 0 1 = cc in absurd (omega arith)
 char_stands (a ∷ []) n c e =
     either (bool_cases (eqb a 0x27))
-    (λ p. let f : NoChar _ ≡ ReadChar n c = rw p at e in let z : ◌≡◌ {A = ℕ} 0 1 = cc in absurd (omega arith))
-    (λ p. let f : NoChar _ ≡ ReadChar n c = rw p at e in let z : ◌≡◌ {A = ℕ} 0 1 = cc in absurd (omega arith))
+    (λ p. let f : ◌≡◌ {A = Told (ℕ × ℕ)} (Err _) (Ok (n, c)) = rw p at e in let z : ◌≡◌ {A = ℕ} 0 1 = cc in absurd (omega arith))
+    (λ p. let f : ◌≡◌ {A = Told (ℕ × ℕ)} (Err _) (Ok (n, c)) = rw p at e in let z : ◌≡◌ {A = ℕ} 0 1 = cc in absurd (omega arith))
 char_stands (a ∷ b ∷ w) n c e = of_two a b w n c e
 
 -- ---- the other way round
 
 -- a character and the closing quote are read
-plain_reads : (w : List ℕ) (k c : ℕ) → 0 < length w → (get_or w 0 0 ≡ 0x5C → ⊥) → char_len w ≡ k → code_of w ≡ c → get_or w k 0 ≡ 0x27 → char_of (0x27 ∷ w) ≡ ReadChar (suc (suc k)) c
+plain_reads : (w : List ℕ) (k c : ℕ) → 0 < length w → (get_or w 0 0 ≡ 0x5C → ⊥) → char_len w ≡ k → code_of w ≡ c → get_or w k 0 ≡ 0x27 → char_of (0x27 ∷ w) ≡ Ok (suc (suc k), c)
 unfolding char_of
 plain_reads w k c h ne e f g =
     let one : 1 + k ≡ suc k = omega arith in
     simp (ne_eqb (suc (length w)) 1 (λ i. omega arith), ne_eqb (get_or w 0 0) 0x5C ne, e, f, one) (ends_reads (0x27 ∷ w) (suc k) c g)
 
 -- an escape and the closing quote are read
-escape_reads_char : (w : List ℕ) (v : Meant) (k : ℕ) → Says (escape_of Char w) v k → get_or w k 0 ≡ 0x27 → char_of (0x27 ∷ 0x5C ∷ w) ≡ ReadChar (suc (suc (suc k))) (point_of v)
+escape_reads_char : (w : List ℕ) (v : Meant) (k : ℕ) → Says (escape_of Char w) v k → get_or w k 0 ≡ 0x27 → char_of (0x27 ∷ 0x5C ∷ w) ≡ Ok (suc (suc (suc k)), point_of v)
 unfolding char_of
 escape_reads_char w (byte b) k a g =
     let two : 2 + k ≡ suc (suc k) = omega arith in
@@ -130,7 +130,7 @@ escape_reads_char w (point c) k a g =
     rw (ne_eqb (suc (suc (length w))) 1 (λ i. omega arith), a, two) (ends_reads (0x27 ∷ 0x5C ∷ w) (suc (suc k)) c g)
 
 -- a char is read, with its length and its code point
-pub char_reads : {s t : List ℕ} {c : ℕ} → CharAt s c t → (n : ℕ) × (n ≤ length s) × (t ≡ drop n s) × (char_of s ≡ ReadChar n c)
+pub char_reads : {s t : List ℕ} {c : ℕ} → CharAt s c t → (n : ℕ) × (n ≤ length s) × (t ≡ drop n s) × (char_of s ≡ Ok (n, c))
 char_reads (itself {c} {t} sc ne) =
     let s : List ℕ = encode c ++ 0x27 ∷ t in
     let k : ℕ = length (encode c) in

@@ -1,4 +1,5 @@
 -- Each piece of a body, put before a body, makes one: what stands in specs/Bodies.antt, from what the reader finds. Assumes nothing.
+use Rattle.std.proofs.Common.{Ok}
 use Prim.Native.Nat.{ℕ, suc, zero, ◌+◌, ◌≤◌}
 use native.Mathlib.Numerals.{add-one}
 use native.Mathlib.Omega.{arith}
@@ -23,7 +24,6 @@ use Rattle.strings.specs.Pieces.{Body, behind_backslash, body_of, by_escape, by_
 use Rattle.strings.specs.Pieces.Body.{closes, next, spoilt, unclosed}
 use Rattle.strings.specs.Quoted.{literal, measured}
 use Rattle.strings.specs.declared.literal.Literal.{Literal}
-use Rattle.strings.specs.declared.literal.LiteralAnswer.TheVariants.{Read}
 use Rattle.strings.specs.declared.pieces.Piece.{Piece}
 use Rattle.strings.specs.declared.pieces.Piece.TheVariants.{Backslash, Plain, Quote}
 use Rattle.strings.specs.declared.pieces.Piece.TheVariants as pieces
@@ -112,7 +112,7 @@ module _ (m : Mode) where
       (good_by (b ∷ t) (piece_of m (b ∷ t)) (sized m (b ∷ t) (omega arith)) (puts b t) (λ k p q. good_fuel fuel (drop k (b ∷ t)) (omega (arith, length-drop k (b ∷ t)))))
 
   -- a body that comes to a string is a body of the relation
-  good_read : (b : Body) (t : List ℕ) (start from at dec : ℕ) (esc : Bool) (l : Literal) → Good t b → measured b start from at dec esc ≡ Read l
+  good_read : (b : Body) (t : List ℕ) (start from at dec : ℕ) (esc : Bool) (l : Literal) → Good t b → measured b start from at dec esc ≡ Ok l
       → (n : ℕ) × (n ≤ length t) × (l.len ≡ at + n) × Inside m t (decoded_of b) (drop n t)
   unfolding measured decoded_of
   good_read closes t start from at dec esc l g e =
@@ -124,6 +124,6 @@ module _ (m : Mode) where
       (k + r.0, omega (arith, r.1, g.0, length-drop k t), omega (arith, r.2), g.1 (decoded_of rest) (drop (k + r.0) t) (subst (Inside m (drop k t) (decoded_of rest)) (drop-drop r.0 k t) r.3))
 
   -- what comes to a string stands there
-  pub body_inside : (t : List ℕ) (start from at dec : ℕ) (esc : Bool) (l : Literal) → measured (body_of m t) start from at dec esc ≡ Read l
+  pub body_inside : (t : List ℕ) (start from at dec : ℕ) (esc : Bool) (l : Literal) → measured (body_of m t) start from at dec esc ≡ Ok l
       → (n : ℕ) × (n ≤ length t) × (l.len ≡ at + n) × Inside m t (decoded_of (body_of m t)) (drop n t)
   body_inside t start from at dec esc l e = good_read (body_of m t) t start from at dec esc l (good_fuel (length t) t (omega arith)) e

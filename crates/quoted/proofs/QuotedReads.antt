@@ -1,5 +1,7 @@
 -- A quoted string is read exactly where a body and its closing quote stand, and decodes to what the body does: `quoted-inside`, `inside-quoted`. Assumes
 -- nothing.
+use Rattle.std.proofs.Common.{Ok}
+use Rattle.text.specs.Refusals.{Told}
 use Prim.Native.Nat.{ℕ, suc, ◌≤◌}
 use native.Mathlib.Omega.{arith}
 use mathlib.Core.Bool.{false}
@@ -19,8 +21,6 @@ use Rattle.strings.proofs.Wholes.{measured_read, whole_body}
 use Rattle.strings.specs.Pieces.{body_of, decoded_of, unquoted}
 use Rattle.strings.specs.Quoted.{measured, quoted_of}
 use Rattle.strings.specs.declared.literal.Literal.{Literal}
-use Rattle.strings.specs.declared.literal.LiteralAnswer.{LiteralAnswer}
-use Rattle.strings.specs.declared.literal.LiteralAnswer.TheVariants.{Read}
 use Rattle.text.proofs.Choices.{cond_cases}
 use Rattle.text.specs.Runs.{run}
 
@@ -33,7 +33,7 @@ pub record Stands (m : Mode) (start : ℕ) (s : List ℕ) (l : Literal) : Type 0
   pub count : l.decoded ≡ length (decoded_of (body_of m (drop start s)))
 
 -- by what its body comes to
-body_stands : (m : Mode) (start : ℕ) (s : List ℕ) (l : Literal) → start ≤ length s → measured (body_of m (drop start s)) start start start 0 false ≡ Read l → Stands m start s l
+body_stands : (m : Mode) (start : ℕ) (s : List ℕ) (l : Literal) → start ≤ length s → measured (body_of m (drop start s)) start start start 0 false ≡ Ok l → Stands m start s l
 body_stands m start s l h e =
     let r = body_inside m (drop start s) start start start 0 false l e in
     let k = measured_read (body_of m (drop start s)) (drop start s) start start start 0 false l (whole_body m (drop start s)) e in
@@ -42,10 +42,10 @@ body_stands m start s l h e =
     record { inside = subst (Inside m (drop start s) (decoded_of (body_of m (drop start s)))) q r.3; within = omega (arith, r.1, r.2); count = omega (arith, k.count) }
 
 -- what is read is a quoted string
-pub quoted_inside : (m : Mode) (start : ℕ) (s : List ℕ) (l : Literal) → quoted_of m start s ≡ Read l → Stands m start s l
+pub quoted_inside : (m : Mode) (start : ℕ) (s : List ℕ) (l : Literal) → quoted_of m start s ≡ Ok l → Stands m start s l
 unfolding quoted_of
 quoted_inside m start s l =
-    cond_cases (λ (a : LiteralAnswer). a ≡ Read l → Stands m start s l) (ltb (run unquoted (drop start s)) (length (drop start s))) _ _
+    cond_cases (λ (a : Told Literal). a ≡ Ok l → Stands m start s l) (ltb (run unquoted (drop start s)) (length (drop start s))) _ _
     (λ t e. body_stands m start s l (omega (arith, ltb-true (run unquoted (drop start s)) (length (drop start s)) t, length-drop start s)) e)
     (λ t e. let z : ◌≡◌ {A = ℕ} 0 1 = cc in absurd (omega arith))
 
@@ -54,7 +54,7 @@ quoted_inside m start s l =
 -- what is read where a body stands that decodes to d, and t behind it
 pub record Read-as (m : Mode) (start : ℕ) (s d t : List ℕ) : Type 0 where
   pub literal : Literal
-  pub read : quoted_of m start s ≡ Read literal
+  pub read : quoted_of m start s ≡ Ok literal
   pub decodes : decoded_of (body_of m (drop start s)) ≡ d
   pub behind : drop literal.len s ≡ t
   pub within : literal.len ≤ length s

@@ -1,4 +1,6 @@
 -- A raw string is read exactly where one stands, up to the first quote with its number of hashes: `raw-stands`, `raw-reads`. Assumes nothing.
+use Rattle.std.proofs.Common.{Ok}
+use Rattle.text.specs.Refusals.{Told}
 use Prim.Native.Nat.{ℕ, suc, ◌+◌, ◌-◌, ◌<◌, ◌≤◌}
 use native.Mathlib.Omega.{arith}
 use mathlib.Core.Bool.{false}
@@ -16,8 +18,6 @@ use Rattle.strings.proofs.RawLaws.{raw_read}
 use Rattle.strings.specs.Quoted.{literal}
 use Rattle.strings.specs.Raw.{hash, raw_contents, raw_end, raw_of}
 use Rattle.strings.specs.declared.literal.Literal.{Literal}
-use Rattle.strings.specs.declared.literal.LiteralAnswer.{LiteralAnswer}
-use Rattle.strings.specs.declared.literal.LiteralAnswer.TheVariants.{Read}
 use Rattle.text.proofs.Choices.{cond_cases}
 use Rattle.text.specs.Runs.{run}
 
@@ -60,14 +60,14 @@ raw_found start s h e q i =
     subst (Raw (drop start s) (raw_contents start s)) t r2
 
 -- what is read is a raw string
-pub raw_stands : (m : Mode) (start : ℕ) (s : List ℕ) (l : Literal) → raw_of m start s ≡ Read l → Raw (drop start s) (raw_contents start s) (drop l.len s)
+pub raw_stands : (m : Mode) (start : ℕ) (s : List ℕ) (l : Literal) → raw_of m start s ≡ Ok l → Raw (drop start s) (raw_contents start s) (drop l.len s)
 unfolding raw_of
 raw_stands m start s l =
     let h = run hash (drop start s) in
     let body = start + h + 1 in
     let k = raw_end h (drop body s) in
-    cond_cases (λ (a : LiteralAnswer). a ≡ Read l → Raw (drop start s) (raw_contents start s) (drop l.len s)) (eqb (get_or s (start + h) 0) 0x22) _ _
-    (λ q. cond_cases (λ (a : LiteralAnswer). a ≡ Read l → Raw (drop start s) (raw_contents start s) (drop l.len s)) (ltb (body + k) (length s)) _ _
+    cond_cases (λ (a : Told Literal). a ≡ Ok l → Raw (drop start s) (raw_contents start s) (drop l.len s)) (eqb (get_or s (start + h) 0) 0x22) _ _
+    (λ q. cond_cases (λ (a : Told Literal). a ≡ Ok l → Raw (drop start s) (raw_contents start s) (drop l.len s)) (ltb (body + k) (length s)) _ _
     (λ t e. let i : literal (body + k + 1 + h) body (body + k) (body + k - body) false ≡ l = cc in
     subst (λ (x : Literal). Raw (drop start s) (raw_contents start s) (drop x.len s)) i
     (raw_found start s h refl (eqb-true (get_or s (start + h) 0) 0x22 q) (ltb-true (body + k) (length s) t)))
@@ -79,7 +79,7 @@ raw_stands m start s l =
 -- what is read where a raw string with the contents d stands, and t behind it
 pub record Raw-as (m : Mode) (start : ℕ) (s d t : List ℕ) : Type 0 where
   pub told : Literal
-  pub read : raw_of m start s ≡ Read told
+  pub read : raw_of m start s ≡ Ok told
   pub contents : raw_contents start s ≡ d
   pub behind : drop told.len s ≡ t
   pub within : told.len ≤ length s

@@ -1,4 +1,5 @@
 -- A body comes to 13, for a reason at a place, exactly where specs/Wrong.antt's `WrongInside` holds of it: `body-told`, `body-wrong`. Assumes nothing.
+use Rattle.std.proofs.Common.{Err}
 use Prim.Native.Nat.{ℕ, suc, zero, ◌+◌, ◌-◌, ◌≤◌}
 use native.Mathlib.Numerals.{add-one}
 use native.Mathlib.Omega.{arith}
@@ -26,7 +27,6 @@ use Rattle.strings.proofs.PieceLaws.{Sized, body_end, body_step, sized}
 use Rattle.strings.specs.Pieces.{Body, behind_backslash, body_of, by_escape, by_piece, bytes_of, line_end, piece_of, plain}
 use Rattle.strings.specs.Pieces.Body.{closes, next, spoilt, unclosed}
 use Rattle.strings.specs.Quoted.{measured}
-use Rattle.strings.specs.declared.literal.LiteralAnswer.TheVariants.{Refused as NoString}
 use Rattle.strings.specs.declared.pieces.Decoded.{Decoded}
 use Rattle.strings.specs.declared.pieces.Decoded.TheVariants.{Nothing}
 use Rattle.strings.specs.declared.pieces.Piece.{Piece}
@@ -152,7 +152,7 @@ module _ (m : Mode) where
 
   -- a body that comes to 13 holds what is wrong
   bad_told : (b : Body) (t : List ℕ) (start from at dec : ℕ) (esc : Bool) (why : EscapeReason) (p : ℕ) → Bad t b
-      → measured b start from at dec esc ≡ NoString (invalid_escape why p) → Found t at why p
+      → measured b start from at dec esc ≡ Err (invalid_escape why p) → Found t at why p
   unfolding measured
   bad_told closes t start from at dec esc why p g e = let z : ◌≡◌ {A = ℕ} 0 1 = cc in absurd (omega arith)
   bad_told unclosed t start from at dec esc why p g e =
@@ -167,14 +167,14 @@ module _ (m : Mode) where
 
   -- what comes to 13 is wrong
   pub body_told : (t : List ℕ) (start from at dec : ℕ) (esc : Bool) (why : EscapeReason) (p : ℕ)
-      → measured (body_of m t) start from at dec esc ≡ NoString (invalid_escape why p) → (q : ℕ) × (at + q ≡ p) × WrongInside m t why q
+      → measured (body_of m t) start from at dec esc ≡ Err (invalid_escape why p) → (q : ℕ) × (at + q ≡ p) × WrongInside m t why q
   body_told t start from at dec esc why p e = bad_told (body_of m t) t start from at dec esc why p (bad_fuel (length t) t (omega arith)) e
 
   -- ---- and the other way round
 
   -- the body of t comes to 13, p behind where it stands
   abbrev pub Comes : List ℕ → EscapeReason → ℕ → Type 0
-  Comes t why p = (start from at dec : ℕ) (esc : Bool) → measured (body_of m t) start from at dec esc ≡ NoString (invalid_escape why (at + p))
+  Comes t why p = (start from at dec : ℕ) (esc : Bool) → measured (body_of m t) start from at dec esc ≡ Err (invalid_escape why (at + p))
 
   -- a wrong escape is the piece at the front
   wrong_front : (s : List ℕ) (r : Refusal) → escape_of m s ≡ Refused r → line_end s ≡ false → pieces.Refused (placed_behind 1 r) ≡ piece_of m (0x5C ∷ s)
@@ -195,7 +195,7 @@ module _ (m : Mode) where
   behind_comes s k d why p q e f c start from at dec esc =
       let far : at + suc k + p ≡ at + q = omega arith in
       ap (λ (x : Body). measured x start from at dec esc) (backslash_body m s k d e)
-      ∙ c start (at + suc k) (at + suc k) (dec + length (bytes_of d)) (esc || true) ∙ ap (λ (x : ℕ). NoString (invalid_escape why x)) far
+      ∙ c start (at + suc k) (at + suc k) (dec + length (bytes_of d)) (esc || true) ∙ ap (λ (x : ℕ). Err (invalid_escape why x)) far
 
   -- what is wrong comes to 13
   pub body_wrong : {t : List ℕ} {why : EscapeReason} {p : ℕ} → WrongInside m t why p → Comes t why p
@@ -203,7 +203,7 @@ module _ (m : Mode) where
   body_wrong (WrongInside.itself {why} {p} {b} {s} h i x) = λ start from at dec esc.
       (let far : at + 1 + p ≡ at + (1 + p) = omega arith in
       on_measured m b s h i (run plain s) refl start from at dec esc
-      ∙ body_wrong x start from (at + 1) (dec + 1) esc ∙ ap (λ (j : ℕ). NoString (invalid_escape why j)) far)
+      ∙ body_wrong x start from (at + 1) (dec + 1) esc ∙ ap (λ (j : ℕ). Err (invalid_escape why j)) far)
   body_wrong (WrongInside.escaped {why} {p} {v} {s} {u} y x) =
       let r = escape_reads y in
       let far : 1 + (length s - length u) + p ≡ suc r.0 + p = omega (arith, r.1, ap length r.2, length-drop r.0 s) in

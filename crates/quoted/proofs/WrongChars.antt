@@ -1,5 +1,7 @@
 -- A char is refused with 13, for a reason at a place, exactly where its escape is wrong so (`char-13`), and a byte literal too, or where its escape means a
 -- character by its code point (`byte-13`). Assumes nothing.
+use Rattle.std.proofs.Common.{Err}
+use Rattle.text.specs.Refusals.{Told}
 use Prim.Native.Nat.{ℕ, suc, ◌+◌, ◌-◌}
 use native.Mathlib.Omega.{arith}
 use mathlib.Core.Bool.{◌&&◌, false}
@@ -20,10 +22,6 @@ use Rattle.quoted.proofs.Thirteen.{unicode_told, unplaced}
 use Rattle.quoted.specs.Wrong.{WrongByte, WrongChar}
 use Rattle.strings.proofs.CharLaws.{byte_short}
 use Rattle.strings.specs.Chars.{by_byte_escape, by_char_escape, byte_ends, byte_of, char_ends, char_of}
-use Rattle.strings.specs.declared.chars.ByteAnswer.{ByteAnswer}
-use Rattle.strings.specs.declared.chars.ByteAnswer.TheVariants.{Refused as NoByte}
-use Rattle.strings.specs.declared.chars.CharAnswer.{CharAnswer}
-use Rattle.strings.specs.declared.chars.CharAnswer.TheVariants.{Refused as NoChar}
 use Rattle.text.proofs.Choices.{and_true, bool_cases, cond_cases, either}
 use Rattle.text.specs.Refusals.{eof, expected_byte_literal, expected_char, invalid_escape, placed_behind}
 use Rattle.text.specs.Utf8.{char_len, code_of}
@@ -34,11 +32,11 @@ use Rattle.text.specs.declared.refusal.Refusal.{Refusal}
 -- ---- chars: what is refused with 13 is wrong
 
 -- what is to be shown of an answer over s
-abbrev Tells-char : List ℕ → CharAnswer → Type 0
-Tells-char s a = (why : EscapeReason) (p : ℕ) → a ≡ NoChar (invalid_escape why p) → WrongChar s why p
+abbrev Tells-char : List ℕ → Told (ℕ × ℕ) → Type 0
+Tells-char s a = (why : EscapeReason) (p : ℕ) → a ≡ Err (invalid_escape why p) → WrongChar s why p
 
 -- of another refusal nothing is to be shown
-char_other : (s : List ℕ) (r : Refusal) → (r.number ≡ 13 → ⊥) → Tells-char s (NoChar r)
+char_other : (s : List ℕ) (r : Refusal) → (r.number ≡ 13 → ⊥) → Tells-char s (Err r)
 char_other s r n why p e = let q : r ≡ invalid_escape why p = cc in absurd (n (ap (λ (i : Refusal). i.number) q))
 
 -- nor where the closing quote is asked for
@@ -86,21 +84,21 @@ unfolding char_of
 char_behind w = rw (ne_eqb (suc (suc (length w))) 1 (λ i. omega arith))
 
 -- a wrong char is refused with 13
-char_wrong : {s : List ℕ} {why : EscapeReason} {p : ℕ} → WrongChar s why p → char_of s ≡ NoChar (invalid_escape why p)
+char_wrong : {s : List ℕ} {why : EscapeReason} {p : ℕ} → WrongChar s why p → char_of s ≡ Err (invalid_escape why p)
 char_wrong (WrongChar.escape {why} {p} {s} x) = char_behind s ∙ ap (by_char_escape (0x27 ∷ 0x5C ∷ s)) ((escape_13 Char s why p).1 x)
 
 -- a char is refused with 13, for a reason at a place, exactly where its escape is wrong so
-pub char_13 : (s : List ℕ) (why : EscapeReason) (p : ℕ) → (char_of s ≡ NoChar (invalid_escape why p)) ↔ WrongChar s why p
+pub char_13 : (s : List ℕ) (why : EscapeReason) (p : ℕ) → (char_of s ≡ Err (invalid_escape why p)) ↔ WrongChar s why p
 char_13 s why p = (λ e. char_tells s why p e, λ x. char_wrong x)
 
 -- ---- byte literals: what is refused with 13 is wrong
 
 -- what is to be shown of an answer over s
-abbrev Tells-byte : List ℕ → ByteAnswer → Type 0
-Tells-byte s a = (why : EscapeReason) (p : ℕ) → a ≡ NoByte (invalid_escape why p) → WrongByte s why p
+abbrev Tells-byte : List ℕ → Told (ℕ × ℕ) → Type 0
+Tells-byte s a = (why : EscapeReason) (p : ℕ) → a ≡ Err (invalid_escape why p) → WrongByte s why p
 
 -- of another refusal nothing is to be shown
-byte_other : (s : List ℕ) (a : ByteAnswer) (r : Refusal) → a ≡ NoByte r → (r.number ≡ 13 → ⊥) → Tells-byte s a
+byte_other : (s : List ℕ) (a : Told (ℕ × ℕ)) (r : Refusal) → a ≡ Err r → (r.number ≡ 13 → ⊥) → Tells-byte s a
 byte_other s a r h n why p e = let q : r ≡ invalid_escape why p = cc in absurd (n (ap (λ (i : Refusal). i.number) q))
 
 -- nor where the closing quote is asked for
@@ -144,7 +142,7 @@ byte_opened [] = byte_other (0x62 ∷ 0x27 ∷ []) (byte_of (0x62 ∷ 0x27 ∷ [
 byte_opened (a ∷ w) = byte_three a w
 
 -- no byte literal begins otherwise
-byte_unopened : (x y : ℕ) (w : List ℕ) → (eqb x 0x62 && eqb y 0x27) ≡ false → byte_of (x ∷ y ∷ w) ≡ NoByte (expected_byte_literal 0)
+byte_unopened : (x y : ℕ) (w : List ℕ) → (eqb x 0x62 && eqb y 0x27) ≡ false → byte_of (x ∷ y ∷ w) ≡ Err (expected_byte_literal 0)
 unfolding byte_of
 byte_unopened x y w e = rw e
 
@@ -165,13 +163,13 @@ unfolding byte_of
 byte_behind w = rw (ne_eqb (suc (suc (suc (length w)))) 2 (λ i. omega arith))
 
 -- a wrong byte literal is refused with 13
-byte_wrong : {s : List ℕ} {why : EscapeReason} {p : ℕ} → WrongByte s why p → byte_of s ≡ NoByte (invalid_escape why p)
+byte_wrong : {s : List ℕ} {why : EscapeReason} {p : ℕ} → WrongByte s why p → byte_of s ≡ Err (invalid_escape why p)
 byte_wrong (WrongByte.escape {why} {p} {s} x) = byte_behind s ∙ ap (by_byte_escape (0x62 ∷ 0x27 ∷ 0x5C ∷ s)) ((escape_13 Bytes s why p).1 x)
 byte_wrong (WrongByte.unicode {c} {s} {t} x) =
     let r = escape_reads x in
     let far : r.0 ≡ length s - length t = omega (arith, r.1, ap length r.2, length-drop r.0 s) in
-    byte_behind s ∙ ap (by_byte_escape (0x62 ∷ 0x27 ∷ 0x5C ∷ s)) r.3 ∙ ap (λ (i : ℕ). NoByte (invalid_escape UnicodeInByteLiteral (3 + i))) far
+    byte_behind s ∙ ap (by_byte_escape (0x62 ∷ 0x27 ∷ 0x5C ∷ s)) r.3 ∙ ap (λ (i : ℕ). Err (invalid_escape UnicodeInByteLiteral (3 + i))) far
 
 -- a byte literal is refused with 13, for a reason at a place, exactly where its escape is wrong so, or means a character by its code point
-pub byte_13 : (s : List ℕ) (why : EscapeReason) (p : ℕ) → (byte_of s ≡ NoByte (invalid_escape why p)) ↔ WrongByte s why p
+pub byte_13 : (s : List ℕ) (why : EscapeReason) (p : ℕ) → (byte_of s ≡ Err (invalid_escape why p)) ↔ WrongByte s why p
 byte_13 s why p = (λ e. byte_tells s why p e, λ x. byte_wrong x)

@@ -1,5 +1,8 @@
 -- A string is refused with 13, for a reason at a place, exactly where it holds an escape that is wrong so, and any quote stands behind the opening one
 -- (`string-13`); and so is a byte string (`byte-string-13`). Assumes nothing.
+use Rattle.std.proofs.Common.{Err}
+use Rattle.text.specs.Refusals.{Told}
+use Rattle.strings.specs.declared.literal.Literal.{Literal}
 use Prim.Native.Nat.{ℕ, ◌+◌}
 use native.Mathlib.Omega.{arith}
 use mathlib.Core.Bool.{false}
@@ -21,8 +24,6 @@ use Rattle.strings.specs.Pieces.{behind_backslash, body_from, body_of, line_end,
 use Rattle.strings.specs.Quoted.{measured, quoted_of}
 use Rattle.strings.specs.Raw.{hash, missing, raw_end, raw_of}
 use Rattle.strings.specs.Strings.{byte_string_of, string_of}
-use Rattle.strings.specs.declared.literal.LiteralAnswer.{LiteralAnswer}
-use Rattle.strings.specs.declared.literal.LiteralAnswer.TheVariants.{Refused}
 use Rattle.text.proofs.Choices.{bool_cases, cond_cases, either}
 use Rattle.text.specs.Refusals.{expected_byte_string, expected_string, expected_string_end, invalid_escape}
 use Rattle.text.specs.Runs.{run}
@@ -32,11 +33,11 @@ use Rattle.text.specs.declared.reason.EscapeReason.TheVariants.{UnknownLetter}
 use Rattle.text.specs.declared.refusal.Refusal.{Refusal}
 
 -- an answer is 13 for this reason at this place
-abbrev Is13 : LiteralAnswer → EscapeReason → ℕ → Type 0
-Is13 a why p = a ≡ Refused (invalid_escape why p)
+abbrev Is13 : Told Literal → EscapeReason → ℕ → Type 0
+Is13 a why p = a ≡ Err (invalid_escape why p)
 
 -- another refusal is not
-other : (r : Refusal) (why : EscapeReason) (p : ℕ) → (r.number ≡ 13 → ⊥) → Is13 (Refused r) why p → ⊥
+other : (r : Refusal) (why : EscapeReason) (p : ℕ) → (r.number ≡ 13 → ⊥) → Is13 (Err r) why p → ⊥
 other r why p n e = let q : r ≡ invalid_escape why p = cc in n (ap (λ (i : Refusal). i.number) q)
 
 -- ---- quoted and raw strings
@@ -50,7 +51,7 @@ quoted_told : (m : Mode) (start : ℕ) (s : List ℕ) (why : EscapeReason) (p : 
 unfolding quoted_of
 quoted_told m start s why p =
     let t = drop start s in
-    cond_cases (λ (a : LiteralAnswer). Is13 a why p → Found m start s why p) (ltb (run unquoted t) (length t)) _ _
+    cond_cases (λ (a : Told Literal). Is13 a why p → Found m start s why p) (ltb (run unquoted t) (length t)) _ _
     (λ h e. let r = body_told m t start start start 0 false why p e in
     (r.0, r.1, (0 + run unquoted t, at_quote t 0 (run unquoted t) refl (omega (arith, ltb-true (run unquoted t) (length t) h))), r.2))
     (λ h e. absurd (other (expected_string_end start) why p (λ i. omega (arith, i)) e))
@@ -72,8 +73,8 @@ unfolding raw_of
 raw_never m start s why p =
     let hashes = run hash (drop start s) in
     let body = start + hashes + 1 in
-    cond_cases (λ (a : LiteralAnswer). Is13 a why p → ⊥) (eqb (get_or s (start + hashes) 0) 0x22) _ _
-    (λ q. cond_cases (λ (a : LiteralAnswer). Is13 a why p → ⊥) (ltb (body + raw_end hashes (drop body s)) (length s)) _ _
+    cond_cases (λ (a : Told Literal). Is13 a why p → ⊥) (eqb (get_or s (start + hashes) 0) 0x22) _ _
+    (λ q. cond_cases (λ (a : Told Literal). Is13 a why p → ⊥) (ltb (body + raw_end hashes (drop body s)) (length s)) _ _
     (λ h e. let z : ◌≡◌ {A = ℕ} 0 1 = cc in omega arith)
     (λ h. other (expected_string_end body) why p (λ i. omega (arith, i))))
     (λ q. other (missing m (start + hashes)) why p (missing_other m (start + hashes)))
@@ -99,7 +100,7 @@ unfolding string_of
 string_wrong (WrongString.quoted {why} {p} {s} h x) = quoted_wrong Str 1 (0x22 ∷ s) why p h x
 
 -- a string is refused with 13, for a reason at a place, exactly where it is wrong so
-pub string_13 : (s : List ℕ) (why : EscapeReason) (p : ℕ) → (string_of s ≡ Refused (invalid_escape why p)) ↔ WrongString s why p
+pub string_13 : (s : List ℕ) (why : EscapeReason) (p : ℕ) → (string_of s ≡ Err (invalid_escape why p)) ↔ WrongString s why p
 string_13 s why p = (λ e. string_told s why p e, λ x. string_wrong x)
 
 -- ---- byte strings
@@ -117,7 +118,7 @@ behind_b b s why p e =
     (λ k. absurd (other (expected_byte_string 0) why p (λ i. omega (arith, i)) (rw (h, k) at e))))
 
 -- no byte string begins otherwise
-no_b : (a : ℕ) (s : List ℕ) → eqb a 0x62 ≡ false → byte_string_of (a ∷ s) ≡ Refused (expected_byte_string 0)
+no_b : (a : ℕ) (s : List ℕ) → eqb a 0x62 ≡ false → byte_string_of (a ∷ s) ≡ Err (expected_byte_string 0)
 unfolding byte_string_of
 no_b a s h = rw h
 
@@ -136,17 +137,17 @@ unfolding byte_string_of
 byte_string_wrong (WrongByteString.quoted {why} {p} {s} h x) = quoted_wrong Bytes 2 (0x62 ∷ 0x22 ∷ s) why p h x
 
 -- a byte string is refused with 13, for a reason at a place, exactly where it is wrong so
-pub byte_string_13 : (s : List ℕ) (why : EscapeReason) (p : ℕ) → (byte_string_of s ≡ Refused (invalid_escape why p)) ↔ WrongByteString s why p
+pub byte_string_13 : (s : List ℕ) (why : EscapeReason) (p : ℕ) → (byte_string_of s ≡ Err (invalid_escape why p)) ↔ WrongByteString s why p
 byte_string_13 s why p = (λ e. byte_string_told s why p e, λ x. byte_string_wrong x)
 
 -- ---- worked
 
 -- in `"\"\q` the quote that is escaped will do: the q is told of, behind it
-escaped_quote : string_of (0x22 ∷ 0x5C ∷ 0x22 ∷ 0x5C ∷ 0x71 ∷ []) ≡ Refused (invalid_escape UnknownLetter 5)
+escaped_quote : string_of (0x22 ∷ 0x5C ∷ 0x22 ∷ 0x5C ∷ 0x71 ∷ []) ≡ Err (invalid_escape UnknownLetter 5)
 unfolding string_of quoted_of measured body_of body_from piece_of behind_backslash line_end escape_of simple_of run unquoted char_len width_of
 escaped_quote = refl
 
 -- in `"\q` there is none: 17, behind the opening one
-no_quote_at_all : string_of (0x22 ∷ 0x5C ∷ 0x71 ∷ []) ≡ Refused (expected_string_end 1)
+no_quote_at_all : string_of (0x22 ∷ 0x5C ∷ 0x71 ∷ []) ≡ Err (expected_string_end 1)
 unfolding string_of quoted_of run unquoted
 no_quote_at_all = refl

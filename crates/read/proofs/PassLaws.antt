@@ -1,4 +1,5 @@
 -- A pass: what is left to read gives the whole. Assumes nothing.
+use Rattle.std.proofs.Common.{Ok, Err}
 use Prim.Native.Nat.{ℕ, suc, zero, ◌+◌, ◌-◌, ◌<◌, ◌≤◌}
 use native.Mathlib.Omega.{arith}
 use mathlib.Core.Bool.{Bool, true, false, cond}
@@ -15,7 +16,6 @@ use Rattle.rows.specs.declared.Entry.{Entry}
 use Rattle.text.specs.declared.refusal.Refusal.{Refusal}
 use Rattle.tokens.proofs.RonLaws.{kinds, laws}
 use Rattle.tokens.specs.Ron.{ron_token}
-use Rattle.read.specs.declared.scanned.Ending.TheVariants.{Broken, Complete}
 use Rattle.read.specs.declared.scanned.Scanned.{Scanned}
 use Rattle.read.specs.inner.Pass.{ending_of, passed_tape, scanned_from, scanned_on, told_by, up_to}
 
@@ -116,15 +116,15 @@ module _ (on : Bool) (n from : ℕ) (w : Reading) (tape₀ : List ℕ) where
         rows = sym (ap (λ (y : Reading). onto on i y tape) e ∙ g) ∙ left.rows ∙ onto_passed on n w tape₀ room;
       }
 
-      pub left_full : n ≤ i → Whole on n from w tape₀ (record { count = i; end = at; before = before; ending = Complete }) tape
+      pub left_full : n ≤ i → Whole on n from w tape₀ (record { count = i; end = at; before = before; ending = Ok tt }) tape
       unfolding up_to scanned_on
       left_full h = let z : n - i ≡ 0 = omega arith in ends complete _ (ap (λ (k : ℕ). up_to k r) z) refl (onto_complete on i tape)
 
-      pub left_complete : i < n → r ≡ complete → Whole on n from w tape₀ (record { count = i; end = at; before = before; ending = Complete }) tape
+      pub left_complete : i < n → r ≡ complete → Whole on n from w tape₀ (record { count = i; end = at; before = before; ending = Ok tt }) tape
       unfolding up_to scanned_on
       left_complete h q = let z : n - i ≡ suc (n - (i + 1)) = omega arith in ends complete _ (ap₂ up_to z q) refl (onto_complete on i tape)
 
-      pub left_broken : (d : Refusal) → i < n → r ≡ broken d → Whole on n from w tape₀ (record { count = i; end = at; before = before; ending = Broken d }) tape
+      pub left_broken : (d : Refusal) → i < n → r ≡ broken d → Whole on n from w tape₀ (record { count = i; end = at; before = before; ending = Err d }) tape
       unfolding up_to scanned_on
       left_broken d h q = let z : n - i ≡ suc (n - (i + 1)) = omega arith in ends (broken d) _ (ap₂ up_to z q) refl (onto_broken on i d tape)
 
@@ -147,11 +147,11 @@ pub scanned_is : (r : Reading) (count end before : ℕ)
 unfolding scanned_on entries end_of ending_of
 scanned_is complete count end before = numbers (omega arith)
   where
-    numbers : {a b : ℕ} → a ≡ b → ◌≡◌ {A = Scanned} (record { count = a; end = end; before = before; ending = Complete }) (record { count = b; end = end; before = before; ending = Complete })
+    numbers : {a b : ℕ} → a ≡ b → ◌≡◌ {A = Scanned} (record { count = a; end = end; before = before; ending = Ok tt }) (record { count = b; end = end; before = before; ending = Ok tt })
     numbers p = cc
 scanned_is (broken d) count end before = numbers (omega arith)
   where
-    numbers : {a b : ℕ} → a ≡ b → ◌≡◌ {A = Scanned} (record { count = a; end = end; before = before; ending = Broken d }) (record { count = b; end = end; before = before; ending = Broken d })
+    numbers : {a b : ℕ} → a ≡ b → ◌≡◌ {A = Scanned} (record { count = a; end = end; before = before; ending = Err d }) (record { count = b; end = end; before = before; ending = Err d })
     numbers p = cc
 scanned_is (entry e r) count end before = scanned_is r (count + 1) e.end end ∙ numbers (omega arith) (last (entries r))
   where

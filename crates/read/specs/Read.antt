@@ -1,18 +1,17 @@
 -- Read (document 01): "text into a tape, a lent slice of 32-bit numbers. Whitespace and comments make no entry. Order: 1, 2, .. then the refusals of
 -- reading in text order, .. and 22 last. A refused call writes nothing. An accepted read leaves the slice behind what it writes as it found it."
+use Rattle.std.specs.Prelude.{Ok, Err}
 use Rattle.std.specs.Prelude.{ℕ, cond, List, ltb, length}
-use Rattle.text.specs.Refusals.{Told, accepted, refused, no_room}
+use Rattle.text.specs.Refusals.{Told, no_room}
 use Rattle.text.specs.Judged.{judged_of, behind_judged}
 use Rattle.rows.specs.Rows.{room_of, laid}
 use Rattle.reading.specs.Readings.{Reading, read_from, counted, entries}
 use Rattle.tokens.specs.Ron.{ron_token}
-use Rattle.read.specs.declared.measure.ReadAnswer.{ReadAnswer}
-use Rattle.read.specs.declared.measure.ReadAnswer.TheVariants.{Accepted, Refused}
 
 -- The code's answer in the paper's words.
-abbrev pub told_read : ReadAnswer → Told ℕ
-told_read (Accepted n) = accepted n
-told_read (Refused r) = refused r
+abbrev pub told_read : Told ℕ → Told ℕ
+told_read (Ok n) = Ok n
+told_read (Err r) = Err r
 
 -- The reading of a text.
 abbrev pub reading_of : List ℕ → Reading
@@ -20,8 +19,8 @@ reading_of text = read_from ron_token text 0
 
 -- 22 where there are more entries than room.
 abbrev pub room_for : ℕ → Told ℕ → Told ℕ
-room_for room (accepted n) = cond (ltb room n) (refused no_room) (accepted n)
-room_for room (refused r) = refused r
+room_for room (Ok n) = cond (ltb room n) (Err no_room) (Ok n)
+room_for room (Err r) = Err r
 
 -- What a reading answers, given room for so many entries: 22 comes last.
 abbrev pub fitted : ℕ → Reading → Told ℕ
@@ -29,8 +28,8 @@ fitted room reading = room_for room (counted 0 reading)
 
 -- The tape behind an answer: the entries in front where it is accepted, else as it was.
 abbrev pub laid_by : Told ℕ → Reading → List ℕ → List ℕ
-laid_by (accepted n) reading tape = laid (entries reading) tape
-laid_by (refused r) reading tape = tape
+laid_by (Ok n) reading tape = laid (entries reading) tape
+laid_by (Err r) reading tape = tape
 
 -- What a read of a text answers over a tape of so many numbers.
 unfoldable pub read_answer : List ℕ → ℕ → Told ℕ

@@ -2,20 +2,11 @@
 ghost use Rattle.std.specs.Prelude.{◌≡◌, ◌≤◌, length};
 ghost use Rattle.reading.specs.Readings.{read_from, counted};
 ghost use Rattle.tokens.specs.Ron.{ron_token};
-ghost use Rattle.read.specs.Read.{told_read};
 ghost use Rattle.read.specs.inner.Pass.{scanned_from, told_by};
 
 use crate::pass::pass;
-use crate::scanned::{Ending, Scanned};
+use crate::scanned::Scanned;
 use text::Refusal;
-
-// What a read answers.
-#[derive(Clone, Copy)]
-pub enum ReadAnswer {
-    // The number of entries.
-    Accepted(usize),
-    Refused(Refusal),
-}
 
 // What a text holds; there are no more entries than bytes.
 pub fn scan(text: &[u8]) -> Scanned
@@ -28,20 +19,20 @@ pub fn scan(text: &[u8]) -> Scanned
 }
 
 // How many entries, or the refusal.
-fn answer(s: Scanned) -> ReadAnswer
-    ensures { told_read result ≡ told_by s.ending s.count }
+fn answer(s: Scanned) -> Result<usize, Refusal>
+    ensures { result ≡ told_by s.ending s.count }
 {
     let ending = s.ending;
     match ending {
-        Ending::Complete => ReadAnswer::Accepted(s.count),
-        Ending::Broken(refusal) => ReadAnswer::Refused(refusal),
+        Ok(()) => Ok(s.count),
+        Err(refusal) => Err(refusal),
     }
 }
 
 // How many entries a text has, or its refusal.
-pub fn measure(text: &[u8]) -> ReadAnswer
+pub fn measure(text: &[u8]) -> Result<usize, Refusal>
     requires { length text.now ≤ 65536 }
-    ensures { told_read result ≡ counted 0 (read_from ron_token text.now 0) }
+    ensures { result ≡ counted 0 (read_from ron_token text.now 0) }
 {
     answer(scan(text))
 }

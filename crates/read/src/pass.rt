@@ -7,7 +7,7 @@ ghost use Rattle.text.specs.Runs.{run};
 ghost use Rattle.tokens.specs.Ron.{ron_token};
 ghost use Rattle.read.specs.inner.Pass.{up_to, passed_tape, scanned_from};
 
-use crate::scanned::{Ending, Scanned, told};
+use crate::scanned::{Scanned, told};
 use comments::is_blank;
 use plain::blanks::count_blanks;
 use plain::forms::plain;
@@ -69,7 +69,7 @@ pub fn pass(text: &[u8], from: usize, tape: &mut [u32], n: usize, on: bool) -> S
     for i in 0..n {
         let front = behind_blanks(text, at);
         if text.len() <= front {
-            return told(i, at, before, Ending::Complete);
+            return told(i, at, before, Ok(()));
         }
         let p = plain(&text[front..]);
         if 0 < p.len {
@@ -88,12 +88,12 @@ pub fn pass(text: &[u8], from: usize, tape: &mut [u32], n: usize, on: bool) -> S
                 before = at;
                 at = end;
             }
-            Following::End => return told(i, at, before, Ending::Complete),
+            Following::End => return told(i, at, before, Ok(())),
             Following::Refused(refusal) => {
-                let ending = Ending::Broken(placed_behind(refusal, front));
+                let ending = Err(placed_behind(refusal, front));
                 return told(i, at, before, ending);
             }
         }
     }
-    told(n, at, before, Ending::Complete)
+    told(n, at, before, Ok(()))
 }

@@ -1,28 +1,28 @@
 // Both passes: what is refused writes nothing.
 ghost use Rattle.std.specs.Prelude.{◌≡◌, ◌≤◌, length};
 ghost use Rattle.rows.specs.Rows.{room_of};
-ghost use Rattle.read.specs.Read.{told_read, fitted, reading_of, laid_by};
+ghost use Rattle.read.specs.Read.{fitted, reading_of, laid_by};
 
 use crate::fill::fill;
-use crate::measure::{ReadAnswer, measure};
+use crate::measure::measure;
 use rows::row;
 use text::Refusal;
 
 // The entries of a text of at most 65,536 bytes into the tape; 22 last.
-pub fn read_text(text: &[u8], tape: &mut [u32]) -> ReadAnswer
+pub fn read_text(text: &[u8], tape: &mut [u32]) -> Result<usize, Refusal>
     requires { length text.now ≤ 65536 }
-    ensures { (told_read result ≡ fitted (room_of (length tape.old)) (reading_of text.now))
-        × (tape.new ≡ laid_by (told_read result) (reading_of text.now) tape.old) }
+    ensures { (result ≡ fitted (room_of (length tape.old)) (reading_of text.now))
+        × (tape.new ≡ laid_by (result) (reading_of text.now) tape.old) }
 {
     let measured = measure(text);
     match measured {
-        ReadAnswer::Refused(refusal) => ReadAnswer::Refused(refusal),
-        ReadAnswer::Accepted(n) => {
+        Err(refusal) => Err(refusal),
+        Ok(n) => {
             if row::room(&tape[..]) < n {
-                return ReadAnswer::Refused(Refusal::no_room());
+                return Err(Refusal::no_room());
             }
             fill(text, 0, tape, n);
-            ReadAnswer::Accepted(n)
+            Ok(n)
         }
     }
 }

@@ -1,4 +1,5 @@
 -- Entries in front of a reading, how many there are, and that they are in order. Assumes nothing.
+use Rattle.std.proofs.Common.{Ok, Err}
 use Prim.Native.Nat.{◌+◌, ℕ}
 use native.Mathlib.Omega.{arith}
 use mathlib.Core.Bool.{Bool, true}
@@ -15,7 +16,6 @@ use Rattle.reading.specs.Tokens.Answer.{token}
 use Rattle.rows.specs.Order.{in_order_from, orderly}
 use Rattle.rows.specs.declared.Entry.{Entry}
 use Rattle.text.specs.Classes.{within}
-use Rattle.text.specs.Refusals.Told.{accepted, refused}
 use Rattle.text.specs.declared.refusal.Refusal.{Refusal}
 
 pub ▸-append : (xs ys : List Entry) (r : Reading) → (xs ++ ys) ▸ r ≡ xs ▸ (ys ▸ r)
@@ -30,12 +30,12 @@ entries_complete (e ∷ es) = ap {B = List Entry} (λ (l : List Entry). e ∷ l)
 
 -- ---- the count of a complete reading
 
-pub counted_complete : (es : List Entry) (n : ℕ) → counted n (es ▸ complete) ≡ accepted (n + length es)
+pub counted_complete : (es : List Entry) (n : ℕ) → counted n (es ▸ complete) ≡ Ok (n + length es)
 unfolding counted
-counted_complete [] n = ap accepted (omega arith)
-counted_complete (e ∷ es) n = counted_complete es (n + 1) ∙ ap accepted (omega arith)
+counted_complete [] n = ap Ok (omega arith)
+counted_complete (e ∷ es) n = counted_complete es (n + 1) ∙ ap Ok (omega arith)
 
-pub counted_broken : (es : List Entry) (n : ℕ) (d : Refusal) → counted n (es ▸ broken d) ≡ refused d
+pub counted_broken : (es : List Entry) (n : ℕ) (d : Refusal) → counted n (es ▸ broken d) ≡ Err d
 unfolding counted
 counted_broken [] n d = refl
 counted_broken (e ∷ es) n d = counted_broken es (n + 1) d
@@ -45,7 +45,7 @@ pub record Complete (n m : ℕ) (r : Reading) : Type 0 where
   pub reading_is : r ≡ entries r ▸ complete
   pub count_is : n + length (entries r) ≡ m
 
-pub counted_accepted : (r : Reading) (n m : ℕ) → counted n r ≡ accepted m → Complete n m r
+pub counted_accepted : (r : Reading) (n m : ℕ) → counted n r ≡ Ok m → Complete n m r
 unfolding counted entries
 counted_accepted complete n m h = let z : n ≡ m = cc in record { reading_is = refl; count_is = omega arith }
 counted_accepted (broken d) n m h = let z : ◌≡◌ {A = ℕ} 0 1 = cc in absurd (omega arith)

@@ -1,8 +1,9 @@
 -- A reading: tokens with their places. Document 01: "kind, start, end, detail"; document 02, CR 6: a "fifth number", the gap; "places are byte offsets"; "the refusals of reading in text order". Room and
 -- limits are no part of a reading: what has to do with them stands around it.
+use Rattle.std.specs.Prelude.{Ok, Err}
 use Rattle.std.specs.Prelude.{ℕ, ◌+◌, List, [], ◌∷◌, drop}
 use Rattle.text.specs.declared.refusal.Refusal.{Refusal}
-use Rattle.text.specs.Refusals.{Told, accepted, refused, placed_behind}
+use Rattle.text.specs.Refusals.{Told, placed_behind}
 use Rattle.rows.specs.declared.Entry.{Entry}
 use Rattle.reading.specs.Tokens.{Answer, Token, reach, Tokens, done, fault, next, tokens}
 
@@ -44,8 +45,8 @@ entries (entry e r) = e ∷ entries r
 
 -- How many entries a complete reading has behind n others, or its refusal.
 unfoldable pub counted : ℕ → Reading → Told ℕ
-counted n complete = accepted n
-counted n (broken r) = refused r
+counted n complete = Ok n
+counted n (broken r) = Err r
 counted n (entry e r) = counted (n + 1) r
 
 -- Where the last of the entries ends, and `at` where there is none.

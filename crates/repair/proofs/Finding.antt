@@ -1,4 +1,6 @@
 -- What a repair finds lies within its text and tape, whatever the tape in order is. Assumes nothing.
+use Rattle.std.proofs.Common.{Ok}
+use Rattle.text.specs.Refusals.{Told}
 use Prim.Native.Nat.{◌*◌, ◌+◌, ◌-◌, ◌<◌, ◌≤◌, suc, zero, ℕ}
 use native.Mathlib.Omega.{arith}
 use mathlib.Core.Bool.{false, Bool, ◌&&◌, cond, true}
@@ -18,7 +20,6 @@ use Rattle.repair.proofs.Checks.{Fits}
 use Rattle.repair.proofs.Leading.{lead_at, lead_le}
 use Rattle.repair.specs.Repair.{ends_before, found_of, joins, kept_of, leading, moved_at, new_end, no_entry, resume_at, scan_of, seek_of}
 use Rattle.repair.specs.inner.Steps.{Movable, MovableRow, starts_before}
-use Rattle.repair.specs.declared.join.Scan.TheVariants.{Found}
 use Rattle.rows.proofs.OrderLaws.{in_order_first, in_order_rise, in_order_row}
 use Rattle.rows.proofs.RowLaws.{length_entries}
 use Rattle.rows.specs.Order.{in_order, in_order_from}
@@ -28,7 +29,6 @@ use Rattle.text.proofs.Choices.{and_true, either, lt_or_le}
 use Rattle.tokens.proofs.RonLaws.{kinds, laws}
 use Rattle.tokens.specs.Ron.{ron_token}
 use Rattle.repair.proofs.Rows.{entries_drop, entries_take}
-use Rattle.repair.specs.declared.join.Scan.{Scan}
 
 -- ---- readings
 
@@ -97,7 +97,7 @@ joins_true old b e g x k h =
       gaps = eqb-true y.gap g r.1;
     }
 
-pub found_bounds : (old : List Entry) (b e : ℕ) (r : Reading) (n m k : ℕ) → scan_of old b e n r ≡ Found m k → Bounds old b (n + length (entries r)) m k
+pub found_bounds : (old : List Entry) (b e : ℕ) (r : Reading) (n m k : ℕ) → scan_of old b e n r ≡ Ok (m, k) → Bounds old b (n + length (entries r)) m k
 unfolding scan_of entries
 found_bounds old b e complete n m k h =
     let u : n ≡ m = cc in
@@ -107,8 +107,8 @@ found_bounds old b e (broken d) n m k h = let z : ◌≡◌ {A = ℕ} 0 1 = cc i
 found_bounds old b e (entry x r) n m k h = go (joins old b e x.gap x.start (seek_of old b e x.start)) refl h (λ p. found_bounds old b e r (n + 1) m k p)
   where
     go : (t : Bool) → joins old b e x.gap x.start (seek_of old b e x.start) ≡ t
-        → cond t (Found n (seek_of old b e x.start)) (scan_of old b e (n + 1) r) ≡ Found m k
-        → (scan_of old b e (n + 1) r ≡ Found m k → Bounds old b (n + 1 + length (entries r)) m k) → Bounds old b (n + suc (length (entries r))) m k
+        → ◌≡◌ {A = Told (ℕ × ℕ)} (cond t (Ok (n, seek_of old b e x.start)) (scan_of old b e (n + 1) r)) (Ok (m, k))
+        → (scan_of old b e (n + 1) r ≡ Ok (m, k) → Bounds old b (n + 1 + length (entries r)) m k) → Bounds old b (n + suc (length (entries r))) m k
     go true j h f =
         let u : n ≡ m = cc in
         let v : seek_of old b e x.start ≡ k = cc in
@@ -148,7 +148,7 @@ module _ (t : List ℕ) (count o a b : ℕ) (text : List ℕ) (F : Fits t count 
   unfolding in_order
   kept_early j' h = omega (arith, kept_starts q b old 0 o (omega (arith, quiet_le, F.cuts.cut)) F.sorted)
 
-  module _ (m i : ℕ) (found : found_of (entries_of count t) (kept_of (entries_of count t) a text) b (new_end o b (length text)) text ≡ Found m i) where
+  module _ (m i : ℕ) (found : found_of (entries_of count t) (kept_of (entries_of count t) a text) b (new_end o b (length text)) text ≡ Ok (m, i)) where
     bounds : Bounds old b (0 + length (entries (read_from ron_token text (resume_at old j)))) m i
     bounds = found_bounds old b e (read_from ron_token text (resume_at old j)) 0 m i found
 
@@ -187,6 +187,6 @@ module _ (t : List ℕ) (count o a b : ℕ) (text : List ℕ) (F : Fits t count 
   pub from_is : (j' p : ℕ) → j' ≡ kept_of (entries_of count t) a text → p ≡ end_of 0 (entries_of j' t) → p ≡ resume_at (entries_of count t) (kept_of (entries_of count t) a text)
   from_is j' p ej ep = ep ∙ ap (λ (x : ℕ). end_of 0 (entries_of x t)) ej ∙ ap (end_of 0) (sym (entries_take count j t kept_le))
 
-  pub found_is : (p : ℕ) (s : Scan) → p ≡ resume_at (entries_of count t) (kept_of (entries_of count t) a text) → s ≡ scan_of (entries_of count t) b (new_end o b (length text)) 0 (read_from ron_token text p)
+  pub found_is : (p : ℕ) (s : Told (ℕ × ℕ)) → p ≡ resume_at (entries_of count t) (kept_of (entries_of count t) a text) → s ≡ scan_of (entries_of count t) b (new_end o b (length text)) 0 (read_from ron_token text p)
       → s ≡ found_of (entries_of count t) (kept_of (entries_of count t) a text) b (new_end o b (length text)) text
   found_is p s ep es = es ∙ ap (λ (x : ℕ). scan_of old b e 0 (read_from ron_token text x)) ep

@@ -1,4 +1,5 @@
 -- The ways out of a repair. Assumes nothing.
+use Rattle.std.proofs.Common.{Ok, Err}
 use Prim.Native.Nat.{◌*◌, ◌+◌, ◌-◌, ◌<◌, ◌≤◌, suc, zero, ℕ}
 use native.Mathlib.Omega.{arith}
 use mathlib.Core.Bool.{Bool, cond, true, false}
@@ -15,8 +16,6 @@ use Rattle.repair.proofs.Finding.{join_behind, join_le}
 use Rattle.repair.proofs.Rows.{entries_drop, entries_take}
 use Rattle.repair.specs.Repair.{Repaired, answer_by, cleared, entries_by, found_of, kept_of, moved_from, new_end, repair_answer_of, repair_fits, repair_tape_of, resume_at, tape_by}
 use Rattle.repair.specs.inner.Steps.{Movable, clipped, clipped_from, finish_answer, finish_tape}
-use Rattle.repair.specs.declared.join.Scan.{Scan}
-use Rattle.repair.specs.declared.join.Scan.TheVariants.{Found, Refused as Failed}
 use Rattle.repair.specs.declared.rewrite.Rest.{Rest}
 use Rattle.rows.proofs.OrderLaws.{in_order_drop, in_order_first, in_order_within}
 use Rattle.rows.specs.Order.{in_order, in_order_from}
@@ -26,18 +25,17 @@ use Rattle.text.proofs.Choices.{cond_cases}
 use Rattle.text.proofs.Lists.{tail_part}
 use Rattle.text.proofs.Stops.{behind, part}
 use Rattle.text.specs.Refusals.{no_room, not_in_order, Told}
-use Rattle.text.specs.Refusals.Told.{accepted, refused}
 use Rattle.text.specs.declared.refusal.Refusal.{Refusal}
 use Rattle.tokens.specs.Ron.{ron_token}
 
 -- ---- the last step
 
 module _ (t : List ℕ) (j : ℕ) (text : List ℕ) (rest : Rest) where
-  pub finish_full : room_of (length t) < j + rest.n + rest.m → (refused no_room ≡ finish_answer (room_of (length t)) j rest) × (t ≡ finish_tape t j text rest)
+  pub finish_full : room_of (length t) < j + rest.n + rest.m → (Err no_room ≡ finish_answer (room_of (length t)) j rest) × (t ≡ finish_tape t j text rest)
   finish_full h = (rw (lt-ltb (room_of (length t)) (j + rest.n + rest.m) h), rw (lt-ltb (room_of (length t)) (j + rest.n + rest.m) h))
 
   pub finish-answer : j + rest.n + rest.m ≤ room_of (length t)
-      → accepted (record { count = j + rest.n + rest.m; before = j; behind = rest.m }) ≡ finish_answer (room_of (length t)) j rest
+      → Ok (record { count = j + rest.n + rest.m; before = j; behind = rest.m }) ≡ finish_answer (room_of (length t)) j rest
   finish-answer h = rw (le-ltb (room_of (length t)) (j + rest.n + rest.m) h)
 
   -- what the lent part comes to
@@ -92,26 +90,26 @@ module _ (t : List ℕ) (count o a b : ℕ) (text : List ℕ) where
   abbrev pub Outcome : Told Repaired → List ℕ → Type 0
   Outcome r t' = (r ≡ repair_answer_of t count o a b text) × (t' ≡ repair_tape_of t count o a b text)
 
-  refuses : (r : Refusal) → repair_answer_of t count o a b text ≡ refused r → Outcome (refused r) t
+  refuses : (r : Refusal) → repair_answer_of t count o a b text ≡ Err r → Outcome (Err r) t
   unfolding repair_tape_of
   refuses r h = (sym h, sym (ap (λ (x : Told Repaired). tape_by x (found_of old j b e text) t count j b e text) h))
 
-  pub out_unfit : repair_fits t count o a b (length text) ≡ false → Outcome (refused not_in_order) t
+  pub out_unfit : repair_fits t count o a b (length text) ≡ false → Outcome (Err not_in_order) t
   unfolding repair_answer_of
-  out_unfit h = refuses not_in_order (ap (λ (c : Bool). cond c (answer_by (room_of (length t)) count j (found_of old j b e text)) (refused not_in_order)) h)
+  out_unfit h = refuses not_in_order (ap (λ (c : Bool). cond c (answer_by (room_of (length t)) count j (found_of old j b e text)) (Err not_in_order)) h)
 
   module _ (ok : repair_fits t count o a b (length text) ≡ true) where
     abbrev F : Fits t count o a b (length text)
     F = fits_true t count o a b (length text) ok
 
-    by_found : (s : Scan) → found_of old j b e text ≡ s → repair_answer_of t count o a b text ≡ answer_by (room_of (length t)) count j s
+    by_found : (s : Told (ℕ × ℕ)) → found_of old j b e text ≡ s → repair_answer_of t count o a b text ≡ answer_by (room_of (length t)) count j s
     unfolding repair_answer_of
-    by_found s h = ap (λ (c : Bool). cond c (answer_by (room_of (length t)) count j (found_of old j b e text)) (refused not_in_order)) ok ∙ ap (answer_by (room_of (length t)) count j) h
+    by_found s h = ap (λ (c : Bool). cond c (answer_by (room_of (length t)) count j (found_of old j b e text)) (Err not_in_order)) ok ∙ ap (answer_by (room_of (length t)) count j) h
 
-    pub out_refused : (r : Refusal) → found_of (entries_of count t) (kept_of (entries_of count t) a text) b (new_end o b (length text)) text ≡ Failed r → Outcome (refused r) t
-    out_refused r h = refuses r (by_found (Failed r) h)
+    pub out_refused : (r : Refusal) → found_of (entries_of count t) (kept_of (entries_of count t) a text) b (new_end o b (length text)) text ≡ Err r → Outcome (Err r) t
+    out_refused r h = refuses r (by_found (Err r) h)
 
-    module _ (m i : ℕ) (h : found_of (entries_of count t) (kept_of (entries_of count t) a text) b (new_end o b (length text)) text ≡ Found m i) (short : length text ≤ 65536) where
+    module _ (m i : ℕ) (h : found_of (entries_of count t) (kept_of (entries_of count t) a text) b (new_end o b (length text)) text ≡ Ok (m, i)) (short : length text ≤ 65536) where
       abbrev together : ℕ
       together = j + m + (count - i)
 
@@ -124,13 +122,13 @@ module _ (t : List ℕ) (count o a b : ℕ) (text : List ℕ) where
 
       tape_full : ltb (room_of (length t)) together ≡ true → repair_tape_of t count o a b text ≡ t
       unfolding repair_tape_of
-      tape_full g = ap (λ (x : Told Repaired). tape_by x (found_of old j b e text) t count j b e text) (by_found (Found m i) h ∙ ap (λ (c : Bool). cond c (refused no_room) (accepted (record { count = together; before = j; behind = count - i }))) g)
+      tape_full g = ap (λ (x : Told Repaired). tape_by x (found_of old j b e text) t count j b e text) (by_found (Ok (m, i)) h ∙ ap (λ (c : Bool). cond c (Err no_room) (Ok (record { count = together; before = j; behind = count - i }))) g)
 
       tape_done : ltb (room_of (length t)) together ≡ false → repair_tape_of t count o a b text ≡ lies (entries_by old j m i b e text)
       unfolding repair_tape_of
       tape_done g =
-          ap (λ (x : Told Repaired). tape_by x (found_of old j b e text) t count j b e text) (by_found (Found m i) h ∙ ap (λ (c : Bool). cond c (refused no_room) (accepted (record { count = together; before = j; behind = count - i }))) g)
-          ∙ ap (λ (s : Scan). tape_by (accepted (record { count = together; before = j; behind = count - i })) s t count j b e text) h
+          ap (λ (x : Told Repaired). tape_by x (found_of old j b e text) t count j b e text) (by_found (Ok (m, i)) h ∙ ap (λ (c : Bool). cond c (Err no_room) (Ok (record { count = together; before = j; behind = count - i }))) g)
+          ∙ ap (λ (s : Told (ℕ × ℕ)). tape_by (Ok (record { count = together; before = j; behind = count - i })) s t count j b e text) h
 
       moved_same : map (clipped_from b e) (drop i old) ≡ map (moved_from b e) (drop i old)
       unfolding in_order
@@ -160,7 +158,7 @@ module _ (t : List ℕ) (count o a b : ℕ) (text : List ℕ) where
 
       pub out_found : (p : ℕ) → p ≡ resume_at (entries_of count t) (kept_of (entries_of count t) a text) → (r : Told Repaired) (t' : List ℕ)
           → (r ≡ finish_answer (room_of (length t)) (kept_of (entries_of count t) a text) (rest_of p)) × (t' ≡ finish_tape t (kept_of (entries_of count t) a text) text (rest_of p)) → Outcome r t'
-      out_found p ep r t' w = (w.0 ∙ sym (by_found (Found m i) h), w.1 ∙ tape_same p ep)
+      out_found p ep r t' w = (w.0 ∙ sym (by_found (Ok (m, i)) h), w.1 ∙ tape_same p ep)
 
       -- the same in the values that the code has
       abbrev pub rest_at : ℕ → ℕ → Rest

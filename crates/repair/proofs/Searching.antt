@@ -1,4 +1,5 @@
 -- The search over the old entries, and the new reading up to the join. Assumes nothing.
+use Rattle.std.proofs.Common.{Ok, Err}
 use Prim.Native.Nat.{◌+◌, ◌-◌, ◌<◌, ◌≤◌, ℕ}
 use native.Mathlib.Omega.{arith}
 use mathlib.Core.Bool.{Bool, cond, false, true}
@@ -12,7 +13,6 @@ use Rattle.reading.specs.Readings.Reading.{broken, complete, entry}
 use Rattle.repair.proofs.Leading.{lead_le, lead_more, lead_same, lead_skip}
 use Rattle.repair.specs.Repair.{joins, leading, moved_before, no_entry, scan_of, seek_of}
 use Rattle.repair.specs.inner.Steps.{met_of, seek_from, starts_before}
-use Rattle.repair.specs.declared.join.Scan.TheVariants.{Found, Refused}
 use Rattle.repair.specs.declared.seeking.Met.TheVariants.{At, Next}
 use Rattle.rows.specs.declared.Entry.{Entry}
 use Rattle.text.proofs.Choices.{either, lt_or_le}
@@ -108,18 +108,18 @@ module _ (old : List Entry) (b e : ℕ) where
 
   pub scan_on : (n i k : ℕ) (x : Entry) (r : Reading) → met_of old b e i x.gap x.start ≡ Next k → scan_of old b e n (entry x r) ≡ scan_of old b e (n + 1) r
   unfolding scan_of
-  scan_on n i k x r m = ap (λ (c : Bool). cond c (Found n (seek_of old b e x.start)) (scan_of old b e (n + 1) r)) (met_next i x.gap x.start k m).0
+  scan_on n i k x r m = ap (λ (c : Bool). cond c (Ok (n, seek_of old b e x.start)) (scan_of old b e (n + 1) r)) (met_next i x.gap x.start k m).0
 
-  pub scan_at : (n i k : ℕ) (x : Entry) (r : Reading) → met_of old b e i x.gap x.start ≡ At k → scan_of old b e n (entry x r) ≡ Found n k
+  pub scan_at : (n i k : ℕ) (x : Entry) (r : Reading) → met_of old b e i x.gap x.start ≡ At k → scan_of old b e n (entry x r) ≡ Ok (n, k)
   unfolding scan_of
   scan_at n i k x r m =
       let j = met_at i x.gap x.start k m in
-      ap (λ (c : Bool). cond c (Found n (seek_of old b e x.start)) (scan_of old b e (n + 1) r)) j.0 ∙ ap (Found n) j.1
+      ap (λ (c : Bool). cond c (Ok (n, seek_of old b e x.start)) (scan_of old b e (n + 1) r)) j.0 ∙ ap (λ (y : ℕ). Ok (n, y)) j.1
 
-  pub scan_end : (n : ℕ) → scan_of old b e n complete ≡ Found n (length old)
+  pub scan_end : (n : ℕ) → scan_of old b e n complete ≡ Ok (n, length old)
   unfolding scan_of
   scan_end n = refl
 
-  pub scan_broken : (n : ℕ) (d : Refusal) → scan_of old b e n (broken d) ≡ Refused d
+  pub scan_broken : (n : ℕ) (d : Refusal) → scan_of old b e n (broken d) ≡ Err d
   unfolding scan_of
   scan_broken n d = refl

@@ -2,11 +2,10 @@
 -- entries of any tape in order; that these steps come to a fresh reading, where the tape is the old text's, is a theorem. "23: unless a ≤ b ≤ old length, new
 -- length + b ≥ old length + a, the count fits the slice, .." and the tape is in order. "Accepted, the slice holds the new entries, zeros up to the old
 -- count, and beyond it what stood there." Throughout, o is the old length, n the new one, and e the end of the new bytes.
+use Rattle.std.specs.Prelude.{Ok, Err}
 use Rattle.std.specs.Prelude.{ℕ, suc, ◌+◌, ◌-◌, ◌*◌, Bool, cond, ◌&&◌, List, [], ◌∷◌, ◌++◌, map, ltb, leb, eqb, length, take, drop, get_or, replicate}
-use Rattle.text.specs.Refusals.{Told, accepted, refused, no_room, not_in_order}
+use Rattle.text.specs.Refusals.{Told, no_room, not_in_order}
 use Rattle.text.specs.Judged.{judged_of, behind_judged}
-use Rattle.text.specs.declared.judge.Judged.{Judged}
-use Rattle.text.specs.declared.judge.Judged.TheVariants as judged
 use Rattle.rows.specs.Rows.{width, room_of, entries_of, laid}
 use Rattle.rows.specs.Order.{in_order}
 use Rattle.rows.specs.declared.Entry.{Entry}
@@ -14,10 +13,6 @@ use Rattle.reading.specs.Owed.{quiet_byte}
 use Rattle.reading.specs.Kept.{last_quiet}
 use Rattle.reading.specs.Readings.{Reading, complete, broken, entry, read_from, entries, end_of}
 use Rattle.tokens.specs.Ron.{ron_token}
-use Rattle.repair.specs.declared.join.Scan.{Scan}
-use Rattle.repair.specs.declared.join.Scan.TheVariants as scan
-use Rattle.repair.specs.declared.repairer.RepairAnswer.{RepairAnswer}
-use Rattle.repair.specs.declared.repairer.RepairAnswer.TheVariants as answer
 
 -- ---- 23
 
@@ -72,10 +67,10 @@ joins old b e g x k = let y = get_or old k no_entry in leb e x && (ltb k (length
 
 -- The new reading behind n entries, up to the first entry that joins: how many stand before it, and the old entry's number, which is the count where none
 -- joins.
-unfoldable pub scan_of : List Entry → ℕ → ℕ → ℕ → Reading → Scan
-scan_of old b e n complete = scan.Found n (length old)
-scan_of old b e n (broken r) = scan.Refused r
-scan_of old b e n (entry x r) = let k = seek_of old b e x.start in let on = scan_of old b e (n + 1) r in cond (joins old b e x.gap x.start k) (scan.Found n k) on
+unfoldable pub scan_of : List Entry → ℕ → ℕ → ℕ → Reading → Told (ℕ × ℕ)
+scan_of old b e n complete = Ok (n, length old)
+scan_of old b e n (broken r) = Err r
+scan_of old b e n (entry x r) = let k = seek_of old b e x.start in let on = scan_of old b e (n + 1) r in cond (joins old b e x.gap x.start k) (Ok (n, k)) on
 
 -- ---- the answer
 
@@ -86,22 +81,22 @@ pub record Repaired : Type 0 where
   pub behind : ℕ
 
 -- The code's answer in the paper's words.
-abbrev pub told_repair : RepairAnswer → Told Repaired
-told_repair (answer.Repaired count before behind) = accepted (record { count = count; before = before; behind = behind })
-told_repair (answer.Refused r) = refused r
+abbrev pub told_repair : Told (ℕ × ℕ × ℕ) → Told Repaired
+told_repair (Ok (count, before, behind)) = Ok (record { count = count; before = before; behind = behind })
+told_repair (Err r) = Err r
 
 -- The place behind the first j entries, where the new reading goes on.
 abbrev pub resume_at : List Entry → ℕ → ℕ
 resume_at old j = end_of 0 (take j old)
 
 -- What is found in the new text behind the first j old entries.
-abbrev pub found_of : List Entry → ℕ → ℕ → ℕ → List ℕ → Scan
+abbrev pub found_of : List Entry → ℕ → ℕ → ℕ → List ℕ → Told (ℕ × ℕ)
 found_of old j b e text = scan_of old b e 0 (read_from ron_token text (resume_at old j))
 
 -- j entries kept, m new ones, and of the old ones those from i on: 22 where there is no room for them.
-abbrev pub answer_by : ℕ → ℕ → ℕ → Scan → Told Repaired
-answer_by room count j (scan.Refused r) = refused r
-answer_by room count j (scan.Found m i) = let total = j + m + (count - i) in cond (ltb room total) (refused no_room) (accepted (record { count = total; before = j; behind = count - i }))
+abbrev pub answer_by : ℕ → ℕ → ℕ → Told (ℕ × ℕ) → Told Repaired
+answer_by room count j (Err r) = Err r
+answer_by room count j (Ok (m, i)) = let total = j + m + (count - i) in cond (ltb room total) (Err no_room) (Ok (record { count = total; before = j; behind = count - i }))
 
 -- What a repair of a text that was judged already answers.
 unfoldable pub repair_answer_of : List ℕ → ℕ → ℕ → ℕ → ℕ → List ℕ → Told Repaired
@@ -109,7 +104,7 @@ repair_answer_of tape count o a b text =
     let old = entries_of count tape in
     let j = kept_of old a text in
     let given = answer_by (room_of (length tape)) count j (found_of old j b (new_end o b (length text)) text) in
-    cond (repair_fits tape count o a b (length text)) given (refused not_in_order)
+    cond (repair_fits tape count o a b (length text)) given (Err not_in_order)
 
 -- ---- the tape
 
@@ -126,10 +121,10 @@ abbrev pub entries_by : List Entry → ℕ → ℕ → ℕ → ℕ → ℕ → L
 entries_by old j m i b e text = take j old ++ (take m (entries (read_from ron_token text (resume_at old j))) ++ map (moved_from b e) (drop i old))
 
 -- The tape behind an answer.
-abbrev pub tape_by : Told Repaired → Scan → List ℕ → ℕ → ℕ → ℕ → ℕ → List ℕ → List ℕ
-tape_by (refused r) s tape count j b e text = tape
-tape_by (accepted r) (scan.Refused d) tape count j b e text = tape
-tape_by (accepted r) (scan.Found m i) tape count j b e text = laid (entries_by (entries_of count tape) j m i b e text) (cleared count tape)
+abbrev pub tape_by : Told Repaired → Told (ℕ × ℕ) → List ℕ → ℕ → ℕ → ℕ → ℕ → List ℕ → List ℕ
+tape_by (Err r) s tape count j b e text = tape
+tape_by (Ok r) (Err d) tape count j b e text = tape
+tape_by (Ok r) (Ok (m, i)) tape count j b e text = laid (entries_by (entries_of count tape) j m i b e text) (cleared count tape)
 
 -- The tape after a repair.
 unfoldable pub repair_tape_of : List ℕ → ℕ → ℕ → ℕ → ℕ → List ℕ → List ℕ
@@ -146,9 +141,9 @@ unfoldable pub repair_of : List ℕ → ℕ → ℕ → ℕ → ℕ → List ℕ
 repair_of tape count o a b text = behind_judged (judged_of text) (repair_answer_of tape count o a b text)
 
 -- A tape stays as it was where the text is refused.
-abbrev pub unless_refused : Judged → List ℕ → List ℕ → List ℕ
-unless_refused judged.Fit tape after = after
-unless_refused (judged.Refused r) tape after = tape
+abbrev pub unless_refused : Told Unit → List ℕ → List ℕ → List ℕ
+unless_refused (Ok tt) tape after = after
+unless_refused (Err r) tape after = tape
 
 -- What the tape holds behind a repair.
 unfoldable pub repaired_tape : List ℕ → ℕ → ℕ → ℕ → ℕ → List ℕ → List ℕ

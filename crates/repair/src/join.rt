@@ -11,14 +11,6 @@ use text::Refusal;
 use text::refusal::placed_behind;
 use tokens::following::{Following, next_token};
 
-// Where the two meet, or what the new text is refused with before.
-#[derive(Clone, Copy)]
-pub enum Scan {
-    // How many new entries stand before the join, and the number of the old entry there.
-    Found(usize, usize),
-    Refused(Refusal),
-}
-
 // The new reading from a place on, up to the entry where it joins; the search over the old entries only goes forward, and it begins
 // behind the first j, none of which can be joined: they start before b.
 pub fn find_join(
@@ -29,7 +21,7 @@ pub fn find_join(
     j: usize,
     b: usize,
     e: usize,
-) -> Scan
+) -> Result<(usize, usize), Refusal>
     requires { (length text.now ≤ 65536) × (from ≤ length text.now) × (count ≤ room_of (length tape.now))
         × (length text.now - e + b < 2 ^ 64) × (j ≤ leading (starts_before b) (entries_of count tape.now)) }
     ensures { result ≡ scan_of (entries_of count tape.now) b e 0 (read_from ron_token text.now from) }
@@ -45,7 +37,7 @@ pub fn find_join(
                 let met = meet(tape, count, i, g, start, b, e);
                 match met {
                     Met::At(k) => {
-                        return Scan::Found(n, k);
+                        return Ok((n, k));
                     }
                     Met::Next(k) => {
                         i = k;
@@ -55,12 +47,12 @@ pub fn find_join(
                 }
             }
             Following::End => {
-                return Scan::Found(n, count);
+                return Ok((n, count));
             }
             Following::Refused(refusal) => {
-                return Scan::Refused(placed_behind(refusal, at));
+                return Err(placed_behind(refusal, at));
             }
         }
     }
-    Scan::Found(n, count)
+    Ok((n, count))
 }

@@ -7,23 +7,20 @@ ghost use Rattle.repair.specs.Repair.{told_repair, repair_answer_of, repair_tape
 ghost use Rattle.repair.specs.inner.Steps.{Movable, finish_answer, finish_tape};
 
 use crate::check::repair_fits;
-use crate::join::{Scan, find_join};
+use crate::join::find_join;
 use crate::quiet_end::last_quiet;
 use crate::rewrite::{Rest, rewrite};
 use crate::seeking::{ends_before, resume_at};
 use rows::row;
 use text::Refusal;
 
-// What a repair comes to; refused, it leaves the tape as it was.
-#[derive(Clone, Copy)]
-pub enum RepairAnswer {
-    // How many entries the tape holds now, and how many were kept before and behind.
-    Repaired(usize, usize, usize),
-    Refused(Refusal),
-}
-
 // The first j entries kept, the rest written anew; 22 last.
-fn finish(tape: &mut [u32], j: usize, text: &[u8], rest: Rest) -> RepairAnswer
+fn finish(
+    tape: &mut [u32],
+    j: usize,
+    text: &[u8],
+    rest: Rest,
+) -> Result<(usize, usize, usize), Refusal>
     requires { (length text.now ≤ 65536) × (rest.from ≤ length text.now)
         × (rest.n ≤ length (entries (read_from ron_token text.now rest.from))) × (j + rest.f + rest.m ≤ room_of (length tape.old))
         × (rest.n ≤ 65536) × Movable rest.b rest.e (entries_of rest.m (drop (width * (j + rest.f)) tape.old)) }
@@ -32,10 +29,10 @@ fn finish(tape: &mut [u32], j: usize, text: &[u8], rest: Rest) -> RepairAnswer
 {
     let total = j + rest.n + rest.m;
     if row::room(&tape[..]) < total {
-        return RepairAnswer::Refused(Refusal::no_room());
+        return Err(Refusal::no_room());
     }
     rewrite(&mut tape[row::begins(j)..], text, rest);
-    RepairAnswer::Repaired(total, j, rest.m)
+    Ok((total, j, rest.m))
 }
 
 // The tape of an old text, in which the bytes from a to b were replaced, made that of the new text, which has at most 65,536 bytes.
@@ -46,13 +43,13 @@ pub fn repair_text(
     a: usize,
     b: usize,
     text: &[u8],
-) -> RepairAnswer
+) -> Result<(usize, usize, usize), Refusal>
     requires { length text.now ≤ 65536 }
     ensures { (told_repair result ≡ repair_answer_of tape.old count old_len a b text.now)
         × (tape.new ≡ repair_tape_of tape.old count old_len a b text.now) }
 {
     if !repair_fits(&tape[..], count, old_len, a, b, text.len()) {
-        return RepairAnswer::Refused(Refusal::not_in_order());
+        return Err(Refusal::not_in_order());
     }
     let e = text.len() - (old_len - b);
     let q = last_quiet(&text[0..a]);
@@ -60,8 +57,8 @@ pub fn repair_text(
     let from = resume_at(&tape[..], j);
     let found = find_join(text, from, &tape[..], count, j, b, e);
     match found {
-        Scan::Refused(refusal) => RepairAnswer::Refused(refusal),
-        Scan::Found(n, i) => {
+        Err(refusal) => Err(refusal),
+        Ok((n, i)) => {
             let f = i - j;
             let m = count - i;
             let rest = Rest {

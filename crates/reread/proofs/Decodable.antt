@@ -1,4 +1,5 @@
 -- Every string of an accepted read can be decoded: its entry is found, lies where a character begins, and reads again as it was read. Assumes nothing.
+use Rattle.std.proofs.Common.{Ok, Err}
 use Prim.Native.Nat.{ℕ, ◌+◌, ◌<◌, ◌≤◌}
 use native.Mathlib.Omega.{arith}
 use mathlib.Core.Bool.{Bool, true, false}
@@ -9,15 +10,12 @@ use lib.ListN.{length, drop}
 use borrow.Author.Tests.{le-ltb, lt-leb, lt-ltb}
 use Rattle.text.proofs.Choices.{bool_cases, either}
 use Rattle.text.specs.Judged.{judged_of}
-use Rattle.text.specs.Refusals.{Told, accepted, no_room, refused}
-use Rattle.text.specs.declared.judge.Judged.TheVariants.{Fit}
+use Rattle.text.specs.Refusals.{Told, no_room}
 use Rattle.rows.specs.Rows.{entry_at, room_of}
 use Rattle.rows.specs.declared.Entry.{Entry}
 use Rattle.strings.specs.declared.literal.Literal.{Literal}
-use Rattle.strings.specs.declared.literal.LiteralAnswer.TheVariants.{Read}
 use Rattle.entries.specs.Contents.{Span, contents_in, decoded_in}
 use Rattle.entries.specs.Named.{by_kind, inside_of, named_of}
-use Rattle.entries.specs.declared.named.Named.TheVariants.{At}
 use Rattle.read.specs.Read.{read_answer, read_tape, room_for}
 use Rattle.repair.specs.Repair.{Repaired, repair_of, repaired_tape}
 use Rattle.mending.proofs.Again.{Held, after_read, after_repair}
@@ -30,7 +28,7 @@ use Rattle.reread.specs.Strings.{Handed, IsString}
 use Rattle.reread.proofs.EntryTokens.{accepted_fit, row_token}
 use Rattle.reread.proofs.TokenKinds.{Reads, entry_fits, entry_string, kind_of, reread}
 
-by-kind : (bytes : Bool) (kind place : ℕ) → kind ≡ kind_of bytes → by_kind kind place ≡ At bytes place
+by-kind : (bytes : Bool) (kind place : ℕ) → kind ≡ kind_of bytes → by_kind kind place ≡ Ok (bytes, place)
 unfolding by_kind
 by-kind false kind place e = rw e
 by-kind true kind place e = rw e
@@ -41,12 +39,12 @@ string_reread true kind e = ap reread e
 
 -- ---- over a tape that holds the reading of a text, as `read` and `repair` leave it
 
-module _ (text tape : List ℕ) (count k : ℕ) (fit : judged_of text ≡ Fit) (held : Held text tape count) (i : k < count) where
+module _ (text tape : List ℕ) (count k : ℕ) (fit : judged_of text ≡ Ok tt) (held : Held text tape count) (i : k < count) where
   module _ (bytes : Bool) (kind : (entry_at tape k).kind ≡ kind_of bytes) where
     here : Reads bytes (drop (entry_at tape k).start text) (entry_at tape k).detail
     here = entry_string text (entry_at tape k) (row_token text tape count k held i) bytes kind
 
-    named : named_of text tape count k ≡ At bytes (entry_at tape k).start
+    named : named_of text tape count k ≡ Ok (bytes, (entry_at tape k).start)
     unfolding named_of inside_of
     named =
         let e : Entry = entry_at tape k in
@@ -58,28 +56,28 @@ module _ (text tape : List ℕ) (count k : ℕ) (fit : judged_of text ≡ Fit) (
         )
         (by-kind bytes e.kind e.start kind)
 
-    decoding : (room : ℕ) → decoded_answer text tape count k room ≡ room_for room (accepted (entry_at tape k).detail)
+    decoding : (room : ℕ) → decoded_answer text tape count k room ≡ room_for room (Ok (entry_at tape k).detail)
     decoding room =
         let e : Entry = entry_at tape k in
         let r = here in
         decoded_named text tape count k bytes e.start fit named room
         ∙ ap (decoded_in e.start room) r.read
-        ∙ ap (λ (n : ℕ). room_for room (accepted n)) r.decoded
+        ∙ ap (λ (n : ℕ). room_for room (Ok n)) r.decoded
 
     part : Handed text tape count k
     part =
         let e : Entry = entry_at tape k in
         let l : Literal = here.this in
         let s : Span = record { start = e.start + l.start; end = e.start + l.end } in
-        let q : contents_of text tape count k ≡ contents_in e.start (Read l) =
+        let q : contents_of text tape count k ≡ contents_in e.start (Ok l) =
         contents_named text tape count k bytes e.start fit named ∙ ap (contents_in e.start) here.read in
         either (bool_cases l.escaped) (λ x. inl (q ∙ rw x)) λ x.
-        let a : contents_of text tape count k ≡ accepted s = q ∙ rw x in
-        let d : decoded_answer text tape count k e.detail ≡ accepted e.detail = decoding e.detail ∙ rw (le-ltb e.detail e.detail (omega arith)) in
+        let a : contents_of text tape count k ≡ Ok s = q ∙ rw x in
+        let d : decoded_answer text tape count k e.detail ≡ Ok e.detail = decoding e.detail ∙ rw (le-ltb e.detail e.detail (omega arith)) in
         inr (s, a, ap (λ (t : Told Span). length (part_of text t)) (sym a) ∙ ap length (part_decoded text tape count k s a) ∙ decoded_length text tape count k e.detail e.detail d)
 
   -- decoding a string takes as many bytes of room as its detail says: with less it is 22, and else it is accepted
-  pub held_decoded : IsString (entry_at tape k) → (room : ℕ) → decoded_answer text tape count k room ≡ room_for room (accepted (entry_at tape k).detail)
+  pub held_decoded : IsString (entry_at tape k) → (room : ℕ) → decoded_answer text tape count k room ≡ room_for room (Ok (entry_at tape k).detail)
   held_decoded (inl kind) room = decoding false kind room
   held_decoded (inr kind) room = decoding true kind room
 
@@ -90,15 +88,15 @@ module _ (text tape : List ℕ) (count k : ℕ) (fit : judged_of text ≡ Fit) (
 
 -- ---- over the tape that an accepted read leaves
 
-module _ (text tape : List ℕ) (count k : ℕ) (e : read_answer text (length tape) ≡ accepted count) (i : k < count) (is : IsString (entry_at (read_tape text tape) k)) where
-  decoded_read : (room : ℕ) → decoded_answer text (read_tape text tape) count k room ≡ room_for room (accepted (entry_at (read_tape text tape) k).detail)
+module _ (text tape : List ℕ) (count k : ℕ) (e : read_answer text (length tape) ≡ Ok count) (i : k < count) (is : IsString (entry_at (read_tape text tape) k)) where
+  decoded_read : (room : ℕ) → decoded_answer text (read_tape text tape) count k room ≡ room_for room (Ok (entry_at (read_tape text tape) k).detail)
   decoded_read room = held_decoded text (read_tape text tape) count k (accepted_fit text (length tape) count e) (after_read text tape count e) i is room
 
   pub read_decoded : (room : ℕ) → (entry_at (read_tape text tape) k).detail ≤ room
-      → decoded_answer text (read_tape text tape) count k room ≡ accepted (entry_at (read_tape text tape) k).detail
+      → decoded_answer text (read_tape text tape) count k room ≡ Ok (entry_at (read_tape text tape) k).detail
   read_decoded room h = decoded_read room ∙ rw (le-ltb room (entry_at (read_tape text tape) k).detail h)
 
-  pub read_too_long : (room : ℕ) → room < (entry_at (read_tape text tape) k).detail → decoded_answer text (read_tape text tape) count k room ≡ refused no_room
+  pub read_too_long : (room : ℕ) → room < (entry_at (read_tape text tape) k).detail → decoded_answer text (read_tape text tape) count k room ≡ Err no_room
   read_too_long room h = decoded_read room ∙ rw (lt-ltb room (entry_at (read_tape text tape) k).detail h)
 
   pub read_contents : Handed text (read_tape text tape) count k
@@ -106,14 +104,14 @@ module _ (text tape : List ℕ) (count k : ℕ) (e : read_answer text (length ta
 
 -- ---- and over the one that an accepted repair leaves
 
-kept_accepted : (before behind : ℕ) (x : Told ℕ) (p : Repaired) → with_kept before behind x ≡ accepted p → x ≡ accepted p.count
-kept_accepted before behind (accepted n) p h =
+kept_accepted : (before behind : ℕ) (x : Told ℕ) (p : Repaired) → with_kept before behind x ≡ Ok p → x ≡ Ok p.count
+kept_accepted before behind (Ok n) p h =
     let q : record { count = n; before = before; behind = behind } ≡ p = cc in
-    ap (λ (r : Repaired). accepted r.count) q
-kept_accepted before behind (refused r) p h = let z : ◌≡◌ {A = ℕ} 0 1 = cc in absurd (omega arith)
+    ap (λ (r : Repaired). Ok r.count) q
+kept_accepted before behind (Err r) p h = let z : ◌≡◌ {A = ℕ} 0 1 = cc in absurd (omega arith)
 
-module _ (old tape : List ℕ) (count a b e : ℕ) (new : List ℕ) (O : OldText old tape count a b e new) (p : Repaired) (h : repair_of tape count (length old) a b new ≡ accepted p) where
-  as_read : read_answer new (length tape) ≡ accepted p.count
+module _ (old tape : List ℕ) (count a b e : ℕ) (new : List ℕ) (O : OldText old tape count a b e new) (p : Repaired) (h : repair_of tape count (length old) a b new ≡ Ok p) where
+  as_read : read_answer new (length tape) ≡ Ok p.count
   unfolding fresh_call
   as_read = kept_accepted _ _ (read_answer new (length tape)) p (sym (demand3_call old tape count a b e new O).0 ∙ h)
 
@@ -123,7 +121,7 @@ module _ (old tape : List ℕ) (count a b e : ℕ) (new : List ℕ) (O : OldText
 
   pub repair_decoded : (k room : ℕ) → k < p.count → IsString (entry_at (repaired_tape tape count (length old) a b new) k)
       → (entry_at (repaired_tape tape count (length old) a b new) k).detail ≤ room
-      → decoded_answer new (repaired_tape tape count (length old) a b new) p.count k room ≡ accepted (entry_at (repaired_tape tape count (length old) a b new) k).detail
+      → decoded_answer new (repaired_tape tape count (length old) a b new) p.count k room ≡ Ok (entry_at (repaired_tape tape count (length old) a b new) k).detail
   repair_decoded k room i is l =
       let t : List ℕ = repaired_tape tape count (length old) a b new in
       held_decoded new t p.count k (accepted_fit new (length tape) p.count as_read) repair_held i is room

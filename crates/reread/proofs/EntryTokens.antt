@@ -1,4 +1,6 @@
 -- An entry of a complete reading is a token of the text, read at the entry's start; and what a call at that place asks first. Assumes nothing.
+use Rattle.std.proofs.Common.{Ok, Err}
+use Rattle.text.specs.Refusals.{Told}
 use Prim.Native.Nat.{ℕ, zero, suc, ◌+◌, ◌<◌, ◌≤◌}
 use native.Mathlib.Omega.{arith}
 use mathlib.Core.Bool.{true, false}
@@ -9,9 +11,6 @@ use borrow.Author.Tests.{le-leb}
 use Rattle.text.proofs.Lists.{head_at}
 use Rattle.text.specs.Classes.{within}
 use Rattle.text.specs.Judged.{judged_of, place_fits}
-use Rattle.text.specs.Refusals.{accepted, refused}
-use Rattle.text.specs.declared.judge.Judged.{Judged}
-use Rattle.text.specs.declared.judge.Judged.TheVariants.{Fit, Refused as NotFit}
 use Rattle.rows.proofs.RowLaws.{entries_at, length_entries}
 use Rattle.rows.specs.Rows.{entries_of, entry_at}
 use Rattle.rows.specs.declared.Entry.{Entry}
@@ -63,12 +62,12 @@ row_token text tape count k held i =
 -- ---- what the calls ask first
 
 -- an accepted read is of a text that is fit
-pub accepted_fit : (text : List ℕ) (numbers n : ℕ) → read_answer text numbers ≡ accepted n → judged_of text ≡ Fit
+pub accepted_fit : (text : List ℕ) (numbers n : ℕ) → read_answer text numbers ≡ Ok n → judged_of text ≡ Ok tt
 accepted_fit text numbers n h = go (judged_of text) refl
   where
-    go : (j : Judged) → judged_of text ≡ j → judged_of text ≡ Fit
-    go Fit e = e
-    go (NotFit r) e = let z : refused r ≡ accepted n = sym (read_refused text numbers r e) ∙ h in let y : ◌≡◌ {A = ℕ} 0 1 = cc in absurd (omega arith)
+    go : (j : Told Unit) → judged_of text ≡ j → judged_of text ≡ Ok tt
+    go (Ok tt) e = e
+    go (Err r) e = let z : ◌≡◌ {A = Told _} (Err r) (Ok n) = sym (read_refused text numbers r e) ∙ h in let y : ◌≡◌ {A = ℕ} 0 1 = cc in absurd (omega arith)
 
 -- a place within the text where a byte stands that is inside no character
 pub place-fits : (text : List ℕ) (p : ℕ) → p ≤ length text → within 0x80 0xBF (get_or (drop p text) 0 0) ≡ false → place_fits text p ≡ true

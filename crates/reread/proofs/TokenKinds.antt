@@ -1,4 +1,7 @@
 -- What a token is by its kind: 11 an integer, 14 a string, 15 a byte string; what its detail says is read again at its start. Assumes nothing.
+use Rattle.std.proofs.Common.{Ok, Err}
+use Rattle.text.specs.Refusals.{Told}
+use Rattle.tokens.specs.declared.lexeme.Lexeme.{Lexeme}
 use Prim.Native.Nat.{ℕ, ◌≤◌, ◌<◌}
 use native.Mathlib.Omega.{arith}
 use mathlib.Core.Bool.{Bool, true, false, ◌||◌}
@@ -12,8 +15,6 @@ use Rattle.text.proofs.ClassLaws.{within_true}
 use Rattle.text.specs.Classes.{within}
 use Rattle.text.specs.Judged.{place_fits}
 use Rattle.attributes.specs.Attributes.{attribute_of}
-use Rattle.attributes.specs.declared.AttributeAnswer.TheVariants as attribute
-use Rattle.attributes.specs.declared.AttributeAnswer.{AttributeAnswer}
 use Rattle.integers.specs.Width.{code_of}
 use Rattle.integers.specs.declared.width.Width.TheVariants.{U8}
 use Rattle.names.specs.Classify.{word_of}
@@ -24,21 +25,13 @@ use Rattle.numbers.specs.declared.Number.TheVariants as number
 use Rattle.numbers.specs.declared.Number.{Number}
 use Rattle.strings.specs.Chars.{byte_of, char_of}
 use Rattle.strings.specs.Strings.{byte_string_of, string_of}
-use Rattle.strings.specs.declared.chars.ByteAnswer.TheVariants as byte
-use Rattle.strings.specs.declared.chars.ByteAnswer.{ByteAnswer}
-use Rattle.strings.specs.declared.chars.CharAnswer.TheVariants as char
-use Rattle.strings.specs.declared.chars.CharAnswer.{CharAnswer}
 use Rattle.strings.specs.declared.literal.Literal.{Literal}
-use Rattle.strings.specs.declared.literal.LiteralAnswer.TheVariants as literal
-use Rattle.strings.specs.declared.literal.LiteralAnswer.{LiteralAnswer}
 use Rattle.entries.specs.Named.{literal_of}
 use Rattle.rows.specs.declared.Entry.{Entry}
 use Rattle.tokens.proofs.ShapeLaws.{Marked, shape_marked, shape_at}
 use Rattle.tokens.specs.Lexemes.{lexeme, lexeme_of, number_lexeme}
 use Rattle.tokens.specs.Shapes.{mark_kind, shape_of, starts_number}
 use Rattle.tokens.specs.Token.{by_shape, of_attribute, of_byte, of_byte_string, of_char, of_string, of_word, token_of}
-use Rattle.tokens.specs.declared.lexeme.LexemeAnswer.TheVariants.{Read, Refused}
-use Rattle.tokens.specs.declared.lexeme.LexemeAnswer.{LexemeAnswer}
 use Rattle.tokens.specs.declared.shape.Shape.TheVariants as shape
 use Rattle.tokens.specs.declared.shape.Shape.{Shape}
 use Rattle.reread.proofs.EntryTokens.{EntryToken, place-fits}
@@ -54,13 +47,13 @@ kind_of true = 15
 -- the string or byte string at the front of s reads, and decodes to n bytes
 pub record Reads (bytes : Bool) (s : List ℕ) (n : ℕ) : Type 0 where
   pub this : Literal
-  pub read : literal_of bytes s ≡ literal.Read this
+  pub read : literal_of bytes s ≡ Ok this
   pub decoded : this.decoded ≡ n
 
 -- a lexeme of kind 14 or 15 is the string at the front of s and its detail the decoded length; one of kind 11 is an integer and its detail the width
-abbrev Says : List ℕ → LexemeAnswer → Type 0
-Says s (Read l) = ((bytes : Bool) → l.kind ≡ kind_of bytes → Reads bytes s l.detail) × (l.kind ≡ 11 → Again s l.len l.detail)
-Says s (Refused r) = Unit
+abbrev Says : List ℕ → Told Lexeme → Type 0
+Says s (Ok l) = ((bytes : Bool) → l.kind ≡ kind_of bytes → Reads bytes s l.detail) × (l.kind ≡ 11 → Again s l.len l.detail)
+Says s (Err r) = Unit
 
 -- these kinds
 abbrev pub reread : ℕ → Bool
@@ -79,21 +72,21 @@ other {s} {len} {detail} kind f = (by, λ e. clash (sym (ap reread e) ∙ f))
 
 -- ---- by the kind of a token
 
-of-string : (s : List ℕ) (a : LiteralAnswer) → string_of s ≡ a → Says s (lexeme_of (of_string a))
-of-string s (literal.Read l) e = (by, λ k. absurd (omega arith))
+of-string : (s : List ℕ) (a : Told Literal) → string_of s ≡ a → Says s (lexeme_of (of_string a))
+of-string s (Ok l) e = (by, λ k. absurd (omega arith))
   where
     by : (bytes : Bool) → 14 ≡ kind_of bytes → Reads bytes s l.decoded
     by false k = record { this = l; read = e; decoded = refl }
     by true k = absurd (omega arith)
-of-string s (literal.Refused r) e = tt
+of-string s (Err r) e = tt
 
-of-byte-string : (s : List ℕ) (a : LiteralAnswer) → byte_string_of s ≡ a → Says s (lexeme_of (of_byte_string a))
-of-byte-string s (literal.Read l) e = (by, λ k. absurd (omega arith))
+of-byte-string : (s : List ℕ) (a : Told Literal) → byte_string_of s ≡ a → Says s (lexeme_of (of_byte_string a))
+of-byte-string s (Ok l) e = (by, λ k. absurd (omega arith))
   where
     by : (bytes : Bool) → 15 ≡ kind_of bytes → Reads bytes s l.decoded
     by false k = absurd (omega arith)
     by true k = record { this = l; read = e; decoded = refl }
-of-byte-string s (literal.Refused r) e = tt
+of-byte-string s (Err r) e = tt
 
 -- an integer is no string
 integer_says : (s : List ℕ) (len detail : ℕ) → Again s len detail → ((bytes : Bool) → 11 ≡ kind_of bytes → Reads bytes s detail) × (◌≡◌ {A = ℕ} 11 11 → Again s len detail)
@@ -108,9 +101,9 @@ of_number s (number.Int w n) e = integer_says s n (code_of w) (number_again s w 
 of_number s (number.Float f) e = other 12 refl
 of_number s (number.Refused r) e = tt
 
-of-byte : (s : List ℕ) (a : ByteAnswer) → byte_of s ≡ a → Says s (lexeme_of (of_byte a))
-of-byte s (byte.Read n c) e = integer_says s n (code_of U8) (byte_again s n c e)
-of-byte s (byte.Refused r) e = tt
+of-byte : (s : List ℕ) (a : Told (ℕ × ℕ)) → byte_of s ≡ a → Says s (lexeme_of (of_byte a))
+of-byte s (Ok (n, c)) e = integer_says s n (code_of U8) (byte_again s n c e)
+of-byte s (Err r) e = tt
 
 of-word : (s : List ℕ) (a : Word) → Says s (lexeme_of (of_word a))
 of-word s (word.Plain n) = other 9 refl
@@ -118,13 +111,13 @@ of-word s (word.Raw n) = other 10 refl
 of-word s (word.Float n suffix) = other 12 refl
 of-word s (word.Refused r) = tt
 
-of-char : (s : List ℕ) (a : CharAnswer) → Says s (lexeme_of (of_char a))
-of-char s (char.Read n c) = other 13 refl
-of-char s (char.Refused r) = tt
+of-char : (s : List ℕ) (a : Told (ℕ × ℕ)) → Says s (lexeme_of (of_char a))
+of-char s (Ok (n, c)) = other 13 refl
+of-char s (Err r) = tt
 
-of-attribute : (s : List ℕ) (a : AttributeAnswer) → Says s (lexeme_of (of_attribute a))
-of-attribute s (attribute.Read n e) = other 16 refl
-of-attribute s (attribute.Refused r) = tt
+of-attribute : (s : List ℕ) (a : Told (ℕ × ℕ)) → Says s (lexeme_of (of_attribute a))
+of-attribute s (Ok (n, e)) = other 16 refl
+of-attribute s (Err r) = tt
 
 mark_other : (kind : ℕ) → kind ≤ 8 → reread kind ≡ false
 mark_other kind h = rw (ne_eqb kind 11 (λ e. omega arith), ne_eqb kind 14 (λ e. omega arith), ne_eqb kind 15 (λ e. omega arith))
@@ -182,9 +175,9 @@ shape_high a b c h =
       lt-ltb 0x39 a (omega arith),
     )
 
-abbrev kind_in : LexemeAnswer → ℕ
-kind_in (Read l) = l.kind
-kind_in (Refused r) = 0
+abbrev kind_in : Told Lexeme → ℕ
+kind_in (Ok l) = l.kind
+kind_in (Err r) = 0
 
 word_other : (a : Word) → reread (kind_in (lexeme_of (of_word a))) ≡ false
 word_other (word.Plain n) = refl

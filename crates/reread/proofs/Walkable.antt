@@ -1,11 +1,11 @@
 -- The tape that an accepted read leaves is in order within the text, so that `walk` never answers 23 of its order. Assumes nothing.
+use Rattle.std.proofs.Common.{Ok}
 use Prim.Native.Nat.{ℕ, ◌+◌}
 use native.Mathlib.Omega.{arith}
 use mathlib.Core.Bool.{true}
 use mathlib.Core.List.{List}
 use mathlib.Core.Path.{◌≡◌, subst}
 use lib.ListN.{length}
-use Rattle.text.specs.Refusals.{accepted}
 use Rattle.rows.specs.Order.{in_order, in_order_from}
 use Rattle.rows.specs.Rows.{entries_of}
 use Rattle.rows.specs.declared.Entry.{Entry}
@@ -17,7 +17,7 @@ use Rattle.tokens.specs.Ron.{ron_token}
 use Rattle.read.specs.Read.{read_answer, read_tape}
 use Rattle.mending.proofs.Again.{after_read}
 
-pub read_walkable : (text tape : List ℕ) (n : ℕ) → read_answer text (length tape) ≡ accepted n → in_order (entries_of n (read_tape text tape)) (length text) ≡ true
+pub read_walkable : (text tape : List ℕ) (n : ℕ) → read_answer text (length tape) ≡ Ok n → in_order (entries_of n (read_tape text tape)) (length text) ≡ true
 unfolding in_order
 read_walkable text tape n e =
     let es : List Entry = entries_of n (read_tape text tape) in

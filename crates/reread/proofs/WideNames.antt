@@ -1,4 +1,5 @@
 -- What a reading makes of a character above U+007F that stands behind a gap (CR 5): a name where it starts one, else 5 at its place. Assumes nothing.
+use Rattle.std.proofs.Common.{Ok, Err}
 use Prim.Native.Nat.{ℕ, ◌+◌, ◌≤◌, ◌<◌}
 use native.Mathlib.Omega.{arith}
 use mathlib.Core.Bool.{Bool, true, false}
@@ -8,9 +9,8 @@ use lib.ListN.{drop, get_or, length, length-append, length-drop}
 use borrow.Author.Tests.{le-ltb, lt-ltb, ne_eqb}
 use Rattle.text.proofs.Utf8Agree.{char_encode, char_pos}
 use Rattle.text.specs.Judged.{judged_of}
-use Rattle.text.specs.Refusals.{refused, unexpected_char}
+use Rattle.text.specs.Refusals.{unexpected_char}
 use Rattle.text.specs.Utf8.{Scalar, encode}
-use Rattle.text.specs.declared.judge.Judged.TheVariants.{Fit}
 use Rattle.xid.specs.Xid.{xid_start}
 use Rattle.comments.specs.Gaps.{gap_of}
 use Rattle.comments.specs.declared.gap.Gap.TheVariants.{Clear}
@@ -82,6 +82,6 @@ module _ (c : ℕ) (t : List ℕ) (scalar : Scalar c) (wide : 0x80 ≤ c) where
         (w.0, w.2, from_token ron_token quiet_byte laws text at _ (first_is ∙ ap (λ x. lexeme_behind g (lexeme_of (of_word x))) w.1))
 
     -- and so the call, behind the entries before
-    pub read_nothing : (es : List Entry) (numbers : ℕ) → judged_of text ≡ Fit → reading_of text ≡ es ▸ read_from ron_token text at → xid_start c ≡ false → read_answer text numbers ≡ refused (unexpected_char (at + g))
+    pub read_nothing : (es : List Entry) (numbers : ℕ) → judged_of text ≡ Ok tt → reading_of text ≡ es ▸ read_from ron_token text at → xid_start c ≡ false → read_answer text numbers ≡ Err (unexpected_char (at + g))
     unfolding read_answer
     read_nothing es numbers fit whole e = rw (fit, whole, starts_nothing e, counted_broken es 0 (unexpected_char (at + g)))

@@ -4,7 +4,7 @@
 use lines::out;
 use lines::out::STDOUT_FILENO;
 use text::utf8;
-use text::utf8::{EncodeAnswer, Utf8Answer};
+use text::utf8::EncodeAnswer;
 
 // A code point as the document writes it.
 fn point(o: &mut [u8], at: usize, c: u32) -> usize {
@@ -46,10 +46,10 @@ fn characters(s: &[u8], o: &mut [u8], at: usize) -> usize {
     a
 }
 
-fn verdict(judged: Utf8Answer, o: &mut [u8], at: usize) -> usize {
+fn verdict(judged: Option<usize>, o: &mut [u8], at: usize) -> usize {
     match judged {
-        Utf8Answer::Good => out::bytes(o, at, b"good"),
-        Utf8Answer::BadAt(p) => {
+        None => out::bytes(o, at, b"good"),
+        Some(p) => {
             let a = out::bytes(o, at, b"bad at");
             out::word(o, a, p as u64)
         }

@@ -1,52 +1,48 @@
 -- The calls `contents` and `decoded` by their cases, and the part within the text. Assumes nothing.
+use Rattle.std.proofs.Common.{Ok, Err}
 use Prim.Native.Nat.{ℕ}
 use mathlib.Core.Path.{◌≡◌, refl, subst, sym}
 use mathlib.Core.Bool.{Bool}
 use mathlib.Core.List.{List}
 use lib.ListN.{length, drop}
 use Rattle.text.specs.Refusals.{Told}
-use Rattle.text.specs.Refusals.Told.{refused}
 use Rattle.text.specs.Judged.{judged_of, behind_judged}
 use Rattle.text.specs.declared.refusal.Refusal.{Refusal}
-use Rattle.text.specs.declared.judge.Judged.{Judged}
-use Rattle.text.specs.declared.judge.Judged.TheVariants.{Fit, Refused}
-use Rattle.entries.specs.declared.named.Named.TheVariants.{At}
-use Rattle.entries.specs.declared.named.Named.TheVariants as named
 use Rattle.entries.specs.Named.{named_of, literal_of, literal_decoded}
 use Rattle.entries.specs.Contents.{Span, contents_in, decoded_in, written_by}
 use Rattle.entries.proofs.NamedLaws.{Inside, contents_inside, named_within}
 use Rattle.sarridok.specs.Contents.{contents_of, decoded_answer, decoded_out}
 
-judged_inside : (text : List ℕ) (j : Judged) (own : Told Span) → Inside text own → Inside text (behind_judged j own)
-judged_inside text Fit own h = h
-judged_inside text (Refused r) own h = tt
+judged_inside : (text : List ℕ) (j : Told Unit) (own : Told Span) → Inside text own → Inside text (behind_judged j own)
+judged_inside text (Ok tt) own h = h
+judged_inside text (Err r) own h = tt
 
 module _ (text tape : List ℕ) (count entry : ℕ) where
   -- ---- 1 and 2
 
-  module _ (r : Refusal) (e : judged_of text ≡ Refused r) where
-    pub contents_unjudged : contents_of text tape count entry ≡ refused r
+  module _ (r : Refusal) (e : judged_of text ≡ Err r) where
+    pub contents_unjudged : contents_of text tape count entry ≡ Err r
     unfolding contents_of
     contents_unjudged = rw e
 
-    pub decoded_unjudged : (room : ℕ) → decoded_answer text tape count entry room ≡ refused r
+    pub decoded_unjudged : (room : ℕ) → decoded_answer text tape count entry room ≡ Err r
     unfolding decoded_answer
     decoded_unjudged room = rw e
 
   -- ---- 28, 23 and 27
 
-  module _ (r : Refusal) (e : judged_of text ≡ Fit) (n : named_of text tape count entry ≡ named.Refused r) where
-    pub contents_unnamed : contents_of text tape count entry ≡ refused r
+  module _ (r : Refusal) (e : judged_of text ≡ Ok tt) (n : named_of text tape count entry ≡ Err r) where
+    pub contents_unnamed : contents_of text tape count entry ≡ Err r
     unfolding contents_of
     contents_unnamed = rw (e, n)
 
-    pub decoded_unnamed : (room : ℕ) → decoded_answer text tape count entry room ≡ refused r
+    pub decoded_unnamed : (room : ℕ) → decoded_answer text tape count entry room ≡ Err r
     unfolding decoded_answer
     decoded_unnamed room = rw (e, n)
 
   -- ---- a string
 
-  module _ (bytes : Bool) (place : ℕ) (e : judged_of text ≡ Fit) (n : named_of text tape count entry ≡ At bytes place) where
+  module _ (bytes : Bool) (place : ℕ) (e : judged_of text ≡ Ok tt) (n : named_of text tape count entry ≡ Ok (bytes, place)) where
     pub contents_named : contents_of text tape count entry ≡ contents_in place (literal_of bytes (drop place text))
     unfolding contents_of
     contents_named = rw (e, n)
@@ -62,7 +58,7 @@ module _ (text tape : List ℕ) (count entry : ℕ) where
     out_named out t a = rw (decoded_named (length out), sym a, n)
 
   -- a refused decoding writes nothing
-  pub out_refused : (out : List ℕ) (r : Refusal) → decoded_answer text tape count entry (length out) ≡ refused r → decoded_out text tape count entry out ≡ out
+  pub out_refused : (out : List ℕ) (r : Refusal) → decoded_answer text tape count entry (length out) ≡ Err r → decoded_out text tape count entry out ≡ out
   unfolding decoded_out
   out_refused out r e = rw e
 

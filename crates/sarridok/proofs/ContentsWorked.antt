@@ -1,9 +1,9 @@
 -- Worked contents, computed from the definitions. Assumes nothing.
+use Rattle.std.proofs.Common.{Ok, Err}
 use Prim.Native.Nat.{ℕ}
 use mathlib.Core.List.{List, [], ◌∷◌}
 use mathlib.Core.Path.{◌≡◌, refl}
 use Rattle.text.specs.Refusals.{holds_escape, no_room, not_in_order, other_kind, unfit}
-use Rattle.text.specs.Refusals.Told.{accepted, refused}
 use Rattle.text.specs.Judged.{judged_of, place_fits}
 use Rattle.text.specs.Classes.{continuation_blank, within}
 use Rattle.text.specs.Runs.{run}
@@ -28,15 +28,15 @@ abbrev tape : List ℕ
 tape = 3 ∷ 0 ∷ 1 ∷ 0 ∷ 0 ∷ 14 ∷ 1 ∷ 4 ∷ 1 ∷ 0 ∷ 4 ∷ 4 ∷ 5 ∷ 0 ∷ 0 ∷ []
 
 -- its second entry has the contents 2 to 3, which are `a`
-plain-string : contents_of list tape 3 1 ≡ accepted (span 2 3)
+plain-string : contents_of list tape 3 1 ≡ Ok (span 2 3)
 unfolding contents_of judged_of utf8_of utf8_from char_len width_of behind_three behind_four second_byte within place_fits named_of inside_of by_kind entry_at string_of quoted_of unquoted run measured body_of body_from piece_of plain
 plain-string = refl
 
-its_part : part_of list (accepted (span 2 3)) ≡ 0x61 ∷ []
+its_part : part_of list (Ok (span 2 3)) ≡ 0x61 ∷ []
 its_part = refl
 
 -- its first is 27
-bracket : contents_of list tape 3 0 ≡ refused other_kind
+bracket : contents_of list tape 3 0 ≡ Err other_kind
 unfolding contents_of judged_of utf8_of utf8_from char_len width_of behind_three behind_four second_byte within place_fits named_of inside_of by_kind entry_at
 bracket = refl
 
@@ -48,12 +48,12 @@ abbrev row : List ℕ
 row = 14 ∷ 0 ∷ 10 ∷ 2 ∷ 7 ∷ []
 
 -- its contents hold an escape
-held : contents_of escaped row 1 0 ≡ refused holds_escape
+held : contents_of escaped row 1 0 ≡ Err holds_escape
 unfolding contents_of judged_of utf8_of utf8_from char_len width_of behind_three behind_four second_byte within place_fits named_of inside_of by_kind entry_at string_of quoted_of unquoted run measured body_of body_from piece_of behind_backslash line_end continuation_blank plain escape_of hex_escape two_digits second_digit next_byte more_bytes unicode_escape digits_of close_of hex_of simple_of code_of code_of4 scalar encode
 held = refl
 
 -- it decodes to C3 A9, and the third byte of the buffer stays
-two_bytes : decoded_answer escaped row 1 0 3 ≡ accepted 2
+two_bytes : decoded_answer escaped row 1 0 3 ≡ Ok 2
 unfolding decoded_answer judged_of utf8_of utf8_from char_len width_of behind_three behind_four second_byte within place_fits named_of inside_of by_kind entry_at string_of quoted_of unquoted run measured body_of body_from piece_of behind_backslash line_end continuation_blank plain escape_of hex_escape two_digits second_digit next_byte more_bytes unicode_escape digits_of close_of hex_of simple_of code_of code_of4 scalar encode
 two_bytes = refl
 
@@ -62,19 +62,19 @@ unfolding decoded_out string_decoded decoded_of decoded_answer judged_of utf8_of
 written = refl
 
 -- a buffer of one byte is too small, and stays
-no-room : decoded_answer escaped row 1 0 1 ≡ refused no_room
+no-room : decoded_answer escaped row 1 0 1 ≡ Err no_room
 unfolding decoded_answer judged_of utf8_of utf8_from char_len width_of behind_three behind_four second_byte within place_fits named_of inside_of by_kind entry_at string_of quoted_of unquoted run measured body_of body_from piece_of behind_backslash line_end continuation_blank plain escape_of hex_escape two_digits second_digit next_byte more_bytes unicode_escape digits_of close_of hex_of simple_of code_of code_of4 scalar encode
 no-room = refl
 
 -- over `""`: a start past the end is 28 though the count does not fit; an entry outside the slice is 23; one not below the count is 28
-past_the_end : contents_of (0x22 ∷ 0x22 ∷ []) (14 ∷ 3 ∷ 2 ∷ 0 ∷ 0 ∷ []) 2 0 ≡ refused unfit
+past_the_end : contents_of (0x22 ∷ 0x22 ∷ []) (14 ∷ 3 ∷ 2 ∷ 0 ∷ 0 ∷ []) 2 0 ≡ Err unfit
 unfolding contents_of judged_of utf8_of utf8_from char_len width_of behind_three behind_four second_byte within place_fits named_of inside_of by_kind entry_at
 past_the_end = refl
 
-outside : contents_of (0x22 ∷ 0x22 ∷ []) (14 ∷ 3 ∷ []) 1 0 ≡ refused not_in_order
+outside : contents_of (0x22 ∷ 0x22 ∷ []) (14 ∷ 3 ∷ []) 1 0 ≡ Err not_in_order
 unfolding contents_of judged_of utf8_of utf8_from char_len width_of behind_three behind_four second_byte within place_fits named_of inside_of by_kind entry_at
 outside = refl
 
-no_entry : contents_of (0x22 ∷ 0x22 ∷ []) [] 0 0 ≡ refused unfit
+no_entry : contents_of (0x22 ∷ 0x22 ∷ []) [] 0 0 ≡ Err unfit
 unfolding contents_of judged_of utf8_of utf8_from char_len width_of behind_three behind_four second_byte within place_fits named_of inside_of by_kind entry_at
 no_entry = refl

@@ -1,4 +1,5 @@
 -- The call `integers`, way by way: what its front and its items make of the whole answer and of the buffers. Assumes nothing.
+use Rattle.std.proofs.Common.{Ok, Err}
 use Prim.Native.Nat.{ℕ, ◌≤◌, ◌<◌}
 use mathlib.Core.Bool.{◌||◌}
 use mathlib.Core.List.{List}
@@ -9,9 +10,8 @@ use borrow.Author.Tests.{le-ltb, lt-ltb}
 use native.Mathlib.Omega.{arith}
 use Rattle.text.proofs.Choices.{or_true}
 use Rattle.text.specs.Judged.{judged_of}
-use Rattle.text.specs.Refusals.{Told, accepted, refused, no_room, not_in_order}
+use Rattle.text.specs.Refusals.{Told, no_room, not_in_order}
 use Rattle.text.specs.declared.refusal.Refusal.{Refusal}
-use Rattle.text.specs.declared.judge.Judged.TheVariants as judged
 use Rattle.rows.specs.Rows.{room_of}
 use Rattle.sarridok.specs.Integers.{Coded, codes_after, done, filled, in_room, integers_of, items_from, magnitudes_after}
 use Rattle.sarridok.specs.inner.Items.{verdict_of}
@@ -21,13 +21,13 @@ use Rattle.sarridok.proofs.ItemLaws.{all_read, values_of}
 
 module _ (text tape : List ℕ) (count : ℕ) (items : List ℕ) (m c : ℕ) where
   -- 1 and 2
-  pub by_judged : (r : Refusal) → judged_of text ≡ judged.Refused r → integers_of text tape count items m c ≡ refused r
+  pub by_judged : (r : Refusal) → judged_of text ≡ Err r → integers_of text tape count items m c ≡ Err r
   unfolding integers_of
   by_judged r e = rw e
 
-  module _ (fit : judged_of text ≡ judged.Fit) where
+  module _ (fit : judged_of text ≡ Ok tt) where
     -- 23
-    pub by-count : room_of (length tape) < count → integers_of text tape count items m c ≡ refused not_in_order
+    pub by-count : room_of (length tape) < count → integers_of text tape count items m c ≡ Err not_in_order
     unfolding integers_of
     by-count h = rw (fit, lt-ltb (room_of (length tape)) count h)
 
@@ -37,22 +37,22 @@ module _ (text tape : List ℕ) (count : ℕ) (items : List ℕ) (m c : ℕ) whe
       unfolding integers_of
       by_items = rw (fit, le-ltb (room_of (length tape)) count fits)
 
-      pub by-item : (r : Refusal) → verdict_of (items_from text tape count items 0) ≡ judged.Refused r → integers_of text tape count items m c ≡ refused r
+      pub by-item : (r : Refusal) → verdict_of (items_from text tape count items 0) ≡ Err r → integers_of text tape count items m c ≡ Err r
       by-item r e = by_items ∙ refusing (items_from text tape count items 0) e
         where
-          refusing : (t : Told (List Coded)) → verdict_of t ≡ judged.Refused r → in_room (length items) m c t ≡ refused r
-          refusing (accepted cs) h = let z : ◌≡◌ {A = ℕ} 0 1 = cc in absurd (omega arith)
-          refusing (refused q) h = let same : q ≡ r = cc in ap refused same
+          refusing : (t : Told (List Coded)) → verdict_of t ≡ Err r → in_room (length items) m c t ≡ Err r
+          refusing (Ok cs) h = let z : ◌≡◌ {A = ℕ} 0 1 = cc in absurd (omega arith)
+          refusing (Err q) h = let same : q ≡ r = cc in ap Err same
 
-      module _ (read : verdict_of (items_from text tape count items 0) ≡ judged.Fit) where
+      module _ (read : verdict_of (items_from text tape count items 0) ≡ Ok tt) where
         -- all items read: as they are, or 22
-        asked : integers_of text tape count items m c ≡ in_room (length items) m c (accepted (values_of (items_from text tape count items 0)))
+        asked : integers_of text tape count items m c ≡ in_room (length items) m c (Ok (values_of (items_from text tape count items 0)))
         asked = by_items ∙ ap (in_room (length items) m c) (all_read (items_from text tape count items 0) read)
 
-        pub by_magnitudes : m < length items → integers_of text tape count items m c ≡ refused no_room
+        pub by_magnitudes : m < length items → integers_of text tape count items m c ≡ Err no_room
         by_magnitudes h = asked ∙ rw (lt-ltb m (length items) h)
 
-        pub by_codes : c < length items → integers_of text tape count items m c ≡ refused no_room
+        pub by_codes : c < length items → integers_of text tape count items m c ≡ Err no_room
         by_codes h = asked ∙ rw (lt-ltb c (length items) h, or_true (ltb m (length items)))
 
         pub by-room : length items ≤ m → length items ≤ c → integers_of text tape count items m c ≡ items_from text tape count items 0
@@ -62,16 +62,16 @@ module _ (text tape : List ℕ) (count : ℕ) (items : List ℕ) (m c : ℕ) whe
 
 module _ (text tape : List ℕ) (count : ℕ) (items ms cs : List ℕ) where
   -- a refused call leaves both as they were
-  pub all_refused : (r : Refusal) → integers_of text tape count items (length ms) (length cs) ≡ refused r
-      → (refused r ≡ done (integers_of text tape count items (length ms) (length cs)))
+  pub all_refused : (r : Refusal) → integers_of text tape count items (length ms) (length cs) ≡ Err r
+      → (Err r ≡ done (integers_of text tape count items (length ms) (length cs)))
       × ((ms ≡ magnitudes_after text tape count items ms cs) × (cs ≡ codes_after text tape count items ms cs))
   unfolding magnitudes_after codes_after
   all_refused r e = rw e (refl, (refl, refl))
 
   -- and one whose items are written has written them
-  pub all_written : (t : Told (List Coded)) (ms' cs' : List ℕ) → verdict_of t ≡ judged.Fit → integers_of text tape count items (length ms) (length cs) ≡ t
+  pub all_written : (t : Told (List Coded)) (ms' cs' : List ℕ) → verdict_of t ≡ Ok tt → integers_of text tape count items (length ms) (length cs) ≡ t
       → ms' ≡ filled (λ (v : Coded). v.magnitude) t ms → cs' ≡ filled (λ (v : Coded). v.code) t cs
-      → (accepted tt ≡ done (integers_of text tape count items (length ms) (length cs)))
+      → (Ok tt ≡ done (integers_of text tape count items (length ms) (length cs)))
       × ((ms' ≡ magnitudes_after text tape count items ms cs) × (cs' ≡ codes_after text tape count items ms cs))
   unfolding magnitudes_after codes_after
   all_written t ms' cs' read e f g = rw e (sym (ap done (all_read t read)), (f, g))

@@ -1,4 +1,5 @@
 -- The items of a list of integers: one by one, and what all of them come to. Assumes nothing.
+use Rattle.std.proofs.Common.{Ok, Err}
 use Prim.Native.Nat.{ℕ, zero, suc, ◌+◌, ◌≤◌, ◌<◌}
 use native.Mathlib.Nat.{add-zero}
 use native.Mathlib.Numerals.{add-one}
@@ -16,10 +17,9 @@ use Rattle.text.proofs.JudgeLaws.{front_fit}
 use Rattle.text.proofs.Lists.{front}
 use Rattle.text.specs.Classes.{within}
 use Rattle.text.specs.Judged.{judged_of, place_fits}
-use Rattle.text.specs.Refusals.{Told, accepted, refused, at_place, other_kind, unfit}
+use Rattle.text.specs.Refusals.{Told, at_place, other_kind, unfit}
 use Rattle.text.specs.Utf8.{In}
 use Rattle.text.specs.declared.refusal.Refusal.{Refusal}
-use Rattle.text.specs.declared.judge.Judged.TheVariants as judged
 use Rattle.integers.proofs.WidthRows.{width_of}
 use Rattle.integers.specs.Width.{code_of, limit_at, limit_of, row, width_at}
 use Rattle.integers.specs.declared.width.Width.{Width}
@@ -48,21 +48,21 @@ unfolding limit_at
 same_limit width = ap (λ (w : Width). limit_of (row w).signed (row w).bits false) (width_of (width_at width))
 
 pub short_item : (width k v n : ℕ) (s : List ℕ) → short_of width s ≡ Value v n
-    → accepted (record { magnitude = v; code = width }) ≡ at_item k (coded_in width (integer_at (width_at width) s))
+    → Ok (record { magnitude = v; code = width }) ≡ at_item k (coded_in width (integer_at (width_at width) s))
 short_item width k v n s e = rw (short_read (width_at width) width (same_limit width) s v n e, add-zero width)
 
 -- the integer that an entry names
 module _ (text : List ℕ) (e : Entry) (k : ℕ) where
-  pub entry_unfit : place_fits text e.start ≡ false → refused (at_place unfit k) ≡ at_item k (entry_integer text e)
+  pub entry_unfit : place_fits text e.start ≡ false → Err (at_place unfit k) ≡ at_item k (entry_integer text e)
   unfolding entry_integer
   entry_unfit h = rw h
 
   module _ (fits : place_fits text e.start ≡ true) where
-    pub entry_other : names_integer e ≡ false → refused (at_place other_kind k) ≡ at_item k (entry_integer text e)
+    pub entry_other : names_integer e ≡ false → Err (at_place other_kind k) ≡ at_item k (entry_integer text e)
     unfolding entry_integer
     entry_other h = rw (fits, h)
 
-    pub entry_reads : judged_of text ≡ judged.Fit → names_integer e ≡ true
+    pub entry_reads : judged_of text ≡ Ok tt → names_integer e ≡ true
         → at_item k (coded_in e.detail (integer_at (width_at e.detail) (drop e.start text))) ≡ at_item k (entry_integer text e)
     unfolding entry_integer integer_of
     entry_reads fit h =
@@ -75,7 +75,7 @@ pub names_width : (e : Entry) → names_integer e ≡ true → In 1 8 e.detail
 names_width e h = within_true 1 8 e.detail (and_true (eqb e.kind 11) (within 1 8 e.detail) h).1
 
 module _ (text tape : List ℕ) (count item k : ℕ) where
-  pub item_unfit : count ≤ item → refused (at_place unfit k) ≡ at_item k (item_of text tape count item)
+  pub item_unfit : count ≤ item → Err (at_place unfit k) ≡ at_item k (item_of text tape count item)
   unfolding item_of
   item_unfit h = rw (le-ltb item count h)
 
@@ -84,27 +84,27 @@ module _ (text tape : List ℕ) (count item k : ℕ) where
   item_inside h = rw (lt-ltb item count h)
 
 -- nothing is both
-pub apart : {A : Type 0} (a : A) (r : Refusal) → accepted a ≡ refused r → ⊥
+pub apart : {A : Type 0} (a : A) (r : Refusal) → ◌≡◌ {A = Told _} (Ok a) (Err r) → ⊥
 apart a r e = let z : ◌≡◌ {A = ℕ} 0 1 = cc in omega arith
 
 -- an item that is refused refuses all
-pub stops : (k : ℕ) (t : Told Coded) (rest : Told (List Coded)) (r : Refusal) → refused r ≡ at_item k t → before k t rest ≡ refused r
-stops k (accepted c) rest r e = absurd (apart c r (sym e))
-stops k (refused q) rest r e = let same : r ≡ at_place q k = cc in ap refused (sym same)
+pub stops : (k : ℕ) (t : Told Coded) (rest : Told (List Coded)) (r : Refusal) → Err r ≡ at_item k t → before k t rest ≡ Err r
+stops k (Ok c) rest r e = absurd (apart c r (sym e))
+stops k (Err q) rest r e = let same : r ≡ at_place q k = cc in ap Err (sym same)
 
 -- one that reads leaves the verdict to those behind it
-verdict_behind : (k : ℕ) (c : Coded) (rest : Told (List Coded)) → verdict_of (before k (accepted c) rest) ≡ verdict_of rest
-verdict_behind k c (accepted cs) = refl
-verdict_behind k c (refused r) = refl
+verdict_behind : (k : ℕ) (c : Coded) (rest : Told (List Coded)) → verdict_of (before k (Ok c) rest) ≡ verdict_of rest
+verdict_behind k c (Ok cs) = refl
+verdict_behind k c (Err r) = refl
 
-pub passes : (k : ℕ) (t : Told Coded) (rest : Told (List Coded)) (c : Coded) → accepted c ≡ at_item k t → verdict_of (before k t rest) ≡ verdict_of rest
-passes k (accepted d) rest c e = verdict_behind k d rest
-passes k (refused q) rest c e = absurd (apart c (at_place q k) e)
+pub passes : (k : ℕ) (t : Told Coded) (rest : Told (List Coded)) (c : Coded) → Ok c ≡ at_item k t → verdict_of (before k t rest) ≡ verdict_of rest
+passes k (Ok d) rest c e = verdict_behind k d rest
+passes k (Err q) rest c e = absurd (apart c (at_place q k) e)
 
 -- an item is accepted as it is
-pub reads_as : (k : ℕ) (t : Told Coded) (c : Coded) → accepted c ≡ at_item k t → t ≡ accepted c
-reads_as k (accepted d) c e = sym e
-reads_as k (refused q) c e = absurd (apart c (at_place q k) e)
+pub reads_as : (k : ℕ) (t : Told Coded) (c : Coded) → Ok c ≡ at_item k t → t ≡ Ok c
+reads_as k (Ok d) c e = sym e
+reads_as k (Err q) c e = absurd (apart c (at_place q k) e)
 
 -- ---- the list from item k on
 
@@ -116,15 +116,15 @@ module _ (text tape : List ℕ) (count : ℕ) where
   items_next items k h = ap (λ (l : List ℕ). items_from text tape count l k) (front items k h)
 
   -- past the last all have read
-  pub items_end : (items : List ℕ) (k : ℕ) → length items ≤ k → verdict_of (items_from text tape count (drop k items) k) ≡ judged.Fit
+  pub items_end : (items : List ℕ) (k : ℕ) → length items ≤ k → verdict_of (items_from text tape count (drop k items) k) ≡ Ok tt
   unfolding items_from
   items_end items k h = ap (λ (l : List ℕ). verdict_of (items_from text tape count l k)) (drop_of_length-le items h)
 
-  pub judge_stops : (items : List ℕ) (k : ℕ) (r : Refusal) → k < length items → refused r ≡ at_item k (item_of text tape count (get_or items k 0))
-      → verdict_of (items_from text tape count (drop k items) k) ≡ judged.Refused r
+  pub judge_stops : (items : List ℕ) (k : ℕ) (r : Refusal) → k < length items → Err r ≡ at_item k (item_of text tape count (get_or items k 0))
+      → verdict_of (items_from text tape count (drop k items) k) ≡ Err r
   judge_stops items k r h e = ap verdict_of (items_next items k h ∙ stops k (item_of text tape count (get_or items k 0)) _ r e)
 
-  pub judge_passes : (items : List ℕ) (k : ℕ) (c : Coded) → k < length items → accepted c ≡ at_item k (item_of text tape count (get_or items k 0))
+  pub judge_passes : (items : List ℕ) (k : ℕ) (c : Coded) → k < length items → Ok c ≡ at_item k (item_of text tape count (get_or items k 0))
       → verdict_of (items_from text tape count (drop k items) k) ≡ verdict_of (items_from text tape count (drop (k + 1) items) (k + 1))
   judge_passes items k c h e = ap verdict_of (items_next items k h) ∙ passes k (item_of text tape count (get_or items k 0)) _ c e
 
@@ -132,12 +132,12 @@ module _ (text tape : List ℕ) (count : ℕ) where
 
 -- what is written for them, where all read
 abbrev pub values_of : Told (List Coded) → List Coded
-values_of (accepted cs) = cs
-values_of (refused r) = []
+values_of (Ok cs) = cs
+values_of (Err r) = []
 
-pub all_read : (t : Told (List Coded)) → verdict_of t ≡ judged.Fit → t ≡ accepted (values_of t)
-all_read (accepted cs) e = refl
-all_read (refused r) e = let z : ◌≡◌ {A = ℕ} 0 1 = cc in absurd (omega arith)
+pub all_read : (t : Told (List Coded)) → verdict_of t ≡ Ok tt → t ≡ Ok (values_of t)
+all_read (Ok cs) e = refl
+all_read (Err r) e = let z : ◌≡◌ {A = ℕ} 0 1 = cc in absurd (omega arith)
 
 -- what stands for an item that is not there
 abbrev pub no_item : Coded
@@ -147,26 +147,26 @@ no_item = record { magnitude = 0; code = 0 }
 record Begun (t : Told Coded) (rest : Told (List Coded)) (cs : List Coded) : Type 0 where
   first : Coded
   more : List Coded
-  reads : t ≡ accepted first
-  behind : rest ≡ accepted more
+  reads : t ≡ Ok first
+  behind : rest ≡ Ok more
   whole : cs ≡ first ∷ more
 
-begun : (k : ℕ) (t : Told Coded) (rest : Told (List Coded)) (cs : List Coded) → before k t rest ≡ accepted cs → Begun t rest cs
-begun k (accepted c) (accepted ds) cs e = record { first = c; more = ds; reads = refl; behind = refl; whole = (let q : c ∷ ds ≡ cs = cc in sym q) }
-begun k (accepted c) (refused r) cs e = absurd (apart cs r (sym e))
-begun k (refused r) rest cs e = absurd (apart cs (at_place r k) (sym e))
+begun : (k : ℕ) (t : Told Coded) (rest : Told (List Coded)) (cs : List Coded) → before k t rest ≡ Ok cs → Begun t rest cs
+begun k (Ok c) (Ok ds) cs e = record { first = c; more = ds; reads = refl; behind = refl; whole = (let q : c ∷ ds ≡ cs = cc in sym q) }
+begun k (Ok c) (Err r) cs e = absurd (apart cs r (sym e))
+begun k (Err r) rest cs e = absurd (apart cs (at_place r k) (sym e))
 
 module _ (text tape : List ℕ) (count : ℕ) where
   -- of the first item and of those behind it
-  at_each : (i : ℕ) (is : List ℕ) (c : Coded) (cs : List Coded) → item_of text tape count i ≡ accepted c
-      → ((j : ℕ) → j < length is → item_of text tape count (get_or is j 0) ≡ accepted (get_or cs j no_item))
-      → (j : ℕ) → j < suc (length is) → item_of text tape count (get_or (i ∷ is) j 0) ≡ accepted (get_or (c ∷ cs) j no_item)
+  at_each : (i : ℕ) (is : List ℕ) (c : Coded) (cs : List Coded) → item_of text tape count i ≡ Ok c
+      → ((j : ℕ) → j < length is → item_of text tape count (get_or is j 0) ≡ Ok (get_or cs j no_item))
+      → (j : ℕ) → j < suc (length is) → item_of text tape count (get_or (i ∷ is) j 0) ≡ Ok (get_or (c ∷ cs) j no_item)
   at_each i is c cs e f zero h = e
   at_each i is c cs e f (suc j) h = f j (omega (arith, h))
 
   -- the list is accepted with as many values as it has items, and each item with its own
-  pub each_read : (items : List ℕ) (k : ℕ) (cs : List Coded) → items_from text tape count items k ≡ accepted cs
-      → (length cs ≡ length items) × ((j : ℕ) → j < length items → item_of text tape count (get_or items j 0) ≡ accepted (get_or cs j no_item))
+  pub each_read : (items : List ℕ) (k : ℕ) (cs : List Coded) → items_from text tape count items k ≡ Ok cs
+      → (length cs ≡ length items) × ((j : ℕ) → j < length items → item_of text tape count (get_or items j 0) ≡ Ok (get_or cs j no_item))
   unfolding items_from
   each_read [] k cs e = let q : [] ≡ cs = cc in (ap length (sym q), λ j h. absurd (omega arith))
   each_read (i ∷ is) k cs e =
@@ -191,26 +191,26 @@ part_at part [] k h = absurd (omega arith)
 part_at part (c ∷ cs) zero h = refl
 part_at part (c ∷ cs) (suc k) h = part_at part cs k (omega (arith, h))
 
-module _ (text tape : List ℕ) (count : ℕ) (items : List ℕ) (fit : verdict_of (items_from text tape count items 0) ≡ judged.Fit) where
+module _ (text tape : List ℕ) (count : ℕ) (items : List ℕ) (fit : verdict_of (items_from text tape count items 0) ≡ Ok tt) where
   values : List Coded
   values = values_of (items_from text tape count items 0)
 
-  all : (length values ≡ length items) × ((j : ℕ) → j < length items → item_of text tape count (get_or items j 0) ≡ accepted (get_or values j no_item))
+  all : (length values ≡ length items) × ((j : ℕ) → j < length items → item_of text tape count (get_or items j 0) ≡ Ok (get_or values j no_item))
   unfolding values
   all = each_read text tape count items 0 (values_of (items_from text tape count items 0)) (all_read (items_from text tape count items 0) fit)
 
   -- no item is refused any more
-  pub never_refused : (k : ℕ) (r : Refusal) → k < length items → refused r ≡ at_item k (item_of text tape count (get_or items k 0)) → ⊥
+  pub never_refused : (k : ℕ) (r : Refusal) → k < length items → Err r ≡ at_item k (item_of text tape count (get_or items k 0)) → ⊥
   never_refused k r h e = apart _ r (sym (e ∙ ap (at_item k) (all.1 k h)))
 
   -- one number of item k goes behind those of the items before it
   pub turn : (part : Coded → ℕ) (k : ℕ) (d out : List ℕ) (c : Coded) → k < length items → length items ≤ length d
-      → accepted c ≡ at_item k (item_of text tape count (get_or items k 0))
+      → Ok c ≡ at_item k (item_of text tape count (get_or items k 0))
       → out ≡ take k (map part (values_of (items_from text tape count items 0))) ++ drop k d
       → set out k (part c) ≡ take (k + 1) (map part (values_of (items_from text tape count items 0))) ++ drop (k + 1) d
   unfolding values
   turn part k d out c h room e before =
-      let is : c ≡ get_or values k no_item = let q : accepted c ≡ accepted (get_or values k no_item) = e ∙ ap (at_item k) (all.1 k h) in cc in
+      let is : c ≡ get_or values k no_item = let q : ◌≡◌ {A = Told _} (Ok c) (Ok (get_or values k no_item)) = e ∙ ap (at_item k) (all.1 k h) in cc in
       let long : length (map part values) ≡ length items = length-map values part ∙ all.0 in
       ap (λ (l : List ℕ). set l k (part c)) before
       ∙ ap (λ (x : ℕ). set (take k (map part values) ++ drop k d) k x) (ap part is ∙ sym (part_at part values k (omega (arith, all.0))))

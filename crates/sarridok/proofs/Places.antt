@@ -1,4 +1,6 @@
 -- The places of a typed read lie within the text. Assumes nothing.
+use Rattle.std.proofs.Common.{Ok, Err}
+use Rattle.text.specs.Refusals.{Told}
 use Prim.Native.Nat.{ℕ, ◌+◌, ◌^◌, ◌<◌, ◌≤◌}
 use native.Mathlib.Omega.{arith}
 use mathlib.Core.Bool.{not}
@@ -13,14 +15,12 @@ use Rattle.integers.specs.declared.integer.Integer.{Integer}
 use Rattle.integers.specs.declared.integer.Integer.TheVariants as integer
 use Rattle.integers.proofs.Bounded.{TypedBounded, typed_bounded}
 use Rattle.strings.specs.Chars.{byte_of}
-use Rattle.strings.specs.declared.chars.ByteAnswer.{ByteAnswer}
-use Rattle.strings.specs.declared.chars.ByteAnswer.TheVariants as byte
 use Rattle.strings.proofs.Bounds.{Bounded-byte, byte_bounded}
 use Rattle.sarridok.specs.Typed.{byte_as, integer_at, Fitting}
 
-byte-as : (width : Width) (b : ByteAnswer) (s : List ℕ) → Bounded-byte s b → TypedBounded (length s) (byte_as width b)
-byte-as width (byte.Read len b) s h = either (bool_cases (not (eqb (code_of width) 5))) (λ a. rw a tt) (λ a. rw a (omega arith, h.1))
-byte-as width (byte.Refused r) s h = h
+byte-as : (width : Width) (b : Told (ℕ × ℕ)) (s : List ℕ) → Bounded-byte s b → TypedBounded (length s) (byte_as width b)
+byte-as width (Ok (len, b)) s h = either (bool_cases (not (eqb (code_of width) 5))) (λ a. rw a tt) (λ a. rw a (omega arith, h.1))
+byte-as width (Err r) s h = h
 
 pub at_bounded : (width : Width) (s : List ℕ) → TypedBounded (length s) (integer_at width s)
 unfolding integer_at

@@ -1,23 +1,21 @@
 -- Two answers that meet the promise of `walk` are equal, and so are the links they leave. Assumes nothing.
+use Rattle.std.proofs.Common.{Ok, Err}
 use Prim.Native.Nat.{ℕ}
 use mathlib.Core.List.{List}
 use mathlib.Core.Path.{◌∙◌, ◌≡◌, ap, refl, sym}
 use Rattle.text.specs.Refusals.{Told}
-use Rattle.text.specs.Refusals.Told.{accepted, refused}
-use Rattle.sarridok.specs.Walked.{told_walk, walk_of, links_after}
-use Rattle.sarridok.specs.declared.walk_call.WalkAnswer.{WalkAnswer}
-use Rattle.sarridok.specs.declared.walk_call.WalkAnswer.TheVariants as answer
+use Rattle.sarridok.specs.Walked.{walk_of, links_after}
 
-meant : Told Unit → WalkAnswer
-meant (accepted t) = answer.Walked
-meant (refused r) = answer.Refused r
+meant : Told Unit → Told Unit
+meant (Ok t) = Ok tt
+meant (Err r) = Err r
 
-meant_told : (a : WalkAnswer) → meant (told_walk a) ≡ a
+meant_told : (a : Told Unit) → meant (a) ≡ a
 unfolding meant
-meant_told answer.Walked = refl
-meant_told (answer.Refused r) = refl
+meant_told (Ok tt) = refl
+meant_told (Err r) = refl
 
-pub walk_determined : (text tape : List ℕ) (count limit links : ℕ) (a b : WalkAnswer) → told_walk a ≡ walk_of text tape count limit links → told_walk b ≡ walk_of text tape count limit links → a ≡ b
+pub walk_determined : (text tape : List ℕ) (count limit links : ℕ) (a b : Told Unit) → a ≡ walk_of text tape count limit links → b ≡ walk_of text tape count limit links → a ≡ b
 walk_determined text tape count limit links a b p q = sym (meant_told a) ∙ ap meant (p ∙ sym q) ∙ meant_told b
 
 pub links_determined : (text tape : List ℕ) (count limit : ℕ) (out a b : List ℕ) → a ≡ links_after text tape count limit out → b ≡ links_after text tape count limit out → a ≡ b

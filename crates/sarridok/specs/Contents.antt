@@ -1,11 +1,10 @@
 -- The calls `contents` and `decoded` (document 01): "Contents of a string or byte string entry: the bytes inside as a part of the caller's text where
 -- nothing was escaped; decoded into a lent buffer in every case." Order of refusals: 1, 2, 28, 23, 27, then those of reading, then 29 (contents only), and
 -- 22 last (decoded only).
+use Rattle.std.specs.Prelude.{Ok, Err, Bool}
 use Rattle.std.specs.Prelude.{ℕ, ◌-◌, List, [], length, take, drop}
-use Rattle.text.specs.Refusals.{Told, accepted, refused}
+use Rattle.text.specs.Refusals.{Told}
 use Rattle.text.specs.Judged.{judged_of, behind_judged}
-use Rattle.entries.specs.declared.named.Named.{Named}
-use Rattle.entries.specs.declared.named.Named.TheVariants.{At, Refused}
 use Rattle.entries.specs.Named.{named_of, literal_of, literal_decoded}
 use Rattle.entries.specs.Contents.{Span, by_named, contents_in, decoded_in, written_by}
 
@@ -16,8 +15,8 @@ contents_of text tape count entry =
 
 -- Those bytes of the text; none on a refusal.
 abbrev pub part_of : List ℕ → Told Span → List ℕ
-part_of text (accepted s) = take (s.end - s.start) (drop s.start text)
-part_of text (refused r) = []
+part_of text (Ok s) = take (s.end - s.start) (drop s.start text)
+part_of text (Err r) = []
 
 -- The whole answer of `decoded`, over a buffer of so many bytes.
 unfoldable pub decoded_answer : List ℕ → List ℕ → ℕ → ℕ → ℕ → Told ℕ
@@ -25,9 +24,9 @@ decoded_answer text tape count entry room =
     behind_judged (judged_of text) (by_named (named_of text tape count entry) (λ bytes place. decoded_in place room (literal_of bytes (drop place text))))
 
 -- The bytes that the string which an entry names decodes to.
-abbrev pub named_bytes : List ℕ → Named → List ℕ
-named_bytes text (At bytes place) = literal_decoded bytes (drop place text)
-named_bytes text (Refused r) = []
+abbrev pub named_bytes : List ℕ → Told (Bool × ℕ) → List ℕ
+named_bytes text (Ok (bytes, place)) = literal_decoded bytes (drop place text)
+named_bytes text (Err r) = []
 
 -- The buffer afterwards.
 unfoldable pub decoded_out : List ℕ → List ℕ → ℕ → ℕ → List ℕ → List ℕ

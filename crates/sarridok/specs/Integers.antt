@@ -2,17 +2,16 @@
 -- value is below zero. Each is read in its entry's width; a width outside 1 to 8 is 27. The answers are those of single calls in list order. The first item refused
 -- refuses the whole call, with the item's number as the place. Refusals: 1, 2; 23 where the count doesn't fit the tape; 28, 27 and those of reading by item; then
 -- 22 if either buffer is shorter than the list." Document 01: "27: entry or suffix of another kind."
+use Rattle.std.specs.Prelude.{Ok, Err}
 use Rattle.std.specs.Prelude.{ℕ, ◌+◌, Bool, cond, ◌&&◌, ◌||◌, List, [], ◌∷◌, ◌++◌, map, ltb, eqb, length, drop}
 use Rattle.text.specs.Classes.{within}
 use Rattle.text.specs.Judged.{judged_of, behind_judged, place_fits}
-use Rattle.text.specs.Refusals.{Told, accepted, refused, at_place, unfit, other_kind, not_in_order, no_room}
+use Rattle.text.specs.Refusals.{Told, at_place, unfit, other_kind, not_in_order, no_room}
 use Rattle.integers.specs.Width.{width_at}
 use Rattle.integers.specs.declared.integer.Value.{Value}
 use Rattle.rows.specs.Rows.{room_of, entry_at}
 use Rattle.rows.specs.declared.Entry.{Entry}
 use Rattle.sarridok.specs.Typed.{Typed, integer_of}
-use Rattle.sarridok.specs.declared.integers_call.IntegersAnswer.{IntegersAnswer}
-use Rattle.sarridok.specs.declared.integers_call.IntegersAnswer.TheVariants as answer
 
 -- What is written for an item: "the magnitude and a code".
 pub record Coded : Type 0 where
@@ -25,8 +24,8 @@ code_for width v = width + cond v.minus 16 0
 
 -- The answer of a single call in a width, as it is written.
 abbrev pub coded_as : ℕ → Told Typed → Told Coded
-coded_as width (accepted t) = accepted (record { magnitude = t.number.magnitude; code = code_for width t.number })
-coded_as width (refused r) = refused r
+coded_as width (Ok t) = Ok (record { magnitude = t.number.magnitude; code = code_for width t.number })
+coded_as width (Err r) = Err r
 
 -- The entry is an integer's: of kind 11, with a width of 1 to 8.
 abbrev pub names_integer : Entry → Bool
@@ -36,50 +35,50 @@ names_integer e = eqb e.kind 11 && within 1 8 e.detail
 unfoldable pub entry_integer : List ℕ → Entry → Told Coded
 entry_integer text e =
     cond (place_fits text e.start)
-    (cond (names_integer e) (coded_as e.detail (integer_of text e.start (width_at e.detail))) (refused other_kind))
-    (refused unfit)
+    (cond (names_integer e) (coded_as e.detail (integer_of text e.start (width_at e.detail))) (Err other_kind))
+    (Err unfit)
 
 -- An item of the list: 28 where its entry number is not below the count.
 unfoldable pub item_of : (text tape : List ℕ) (count item : ℕ) → Told Coded
-item_of text tape count item = cond (ltb item count) (entry_integer text (entry_at tape item)) (refused unfit)
+item_of text tape count item = cond (ltb item count) (entry_integer text (entry_at tape item)) (Err unfit)
 
 -- An item's answer before those of the items behind it: refused, it "refuses the whole call, with the item's number as the place".
 abbrev pub before : ℕ → Told Coded → Told (List Coded) → Told (List Coded)
-before k (accepted c) (accepted cs) = accepted (c ∷ cs)
-before k (accepted c) (refused r) = refused r
-before k (refused r) rest = refused (at_place r k)
+before k (Ok c) (Ok cs) = Ok (c ∷ cs)
+before k (Ok c) (Err r) = Err r
+before k (Err r) rest = Err (at_place r k)
 
 -- The items of a list, the first of which has the number k: "The answers are those of single calls in list order."
 unfoldable pub items_from : (text tape : List ℕ) (count : ℕ) → List ℕ → ℕ → Told (List Coded)
-items_from text tape count [] k = accepted []
+items_from text tape count [] k = Ok []
 items_from text tape count (i ∷ is) k = let rest = items_from text tape count is (k + 1) in before k (item_of text tape count i) rest
 
 -- "Then 22 if either buffer is shorter than the list."
 abbrev pub in_room : (items magnitudes codes : ℕ) → Told (List Coded) → Told (List Coded)
-in_room items magnitudes codes (accepted cs) = cond (ltb magnitudes items || ltb codes items) (refused no_room) (accepted cs)
-in_room items magnitudes codes (refused r) = refused r
+in_room items magnitudes codes (Ok cs) = cond (ltb magnitudes items || ltb codes items) (Err no_room) (Ok cs)
+in_room items magnitudes codes (Err r) = Err r
 
 -- The whole answer, for buffers of so many numbers and bytes: what is written for each item, or a refusal.
 unfoldable pub integers_of : (text tape : List ℕ) (count : ℕ) (items : List ℕ) (magnitudes codes : ℕ) → Told (List Coded)
 integers_of text tape count items magnitudes codes =
     behind_judged (judged_of text)
-    (cond (ltb (room_of (length tape)) count) (refused not_in_order)
+    (cond (ltb (room_of (length tape)) count) (Err not_in_order)
     (in_room (length items) magnitudes codes (items_from text tape count items 0)))
 
 -- That all is written, or the refusal.
 abbrev pub done : Told (List Coded) → Told Unit
-done (accepted cs) = accepted tt
-done (refused r) = refused r
+done (Ok cs) = Ok tt
+done (Err r) = Err r
 
 -- The paper's answer for each case of the code's.
-abbrev pub told_integers : IntegersAnswer → Told Unit
-told_integers answer.Written = accepted tt
-told_integers (answer.Refused r) = refused r
+abbrev pub told_integers : Told Unit → Told Unit
+told_integers (Ok tt) = Ok tt
+told_integers (Err r) = Err r
 
 -- A buffer behind such an answer: one number of each item at its front, and behind them what stood there; as it was on a refusal.
 abbrev pub filled : (Coded → ℕ) → Told (List Coded) → List ℕ → List ℕ
-filled part (accepted cs) out = map part cs ++ drop (length cs) out
-filled part (refused r) out = out
+filled part (Ok cs) out = map part cs ++ drop (length cs) out
+filled part (Err r) out = out
 
 -- The magnitudes afterwards,
 unfoldable pub magnitudes_after : (text tape : List ℕ) (count : ℕ) (items magnitudes codes : List ℕ) → List ℕ

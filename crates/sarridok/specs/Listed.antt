@@ -1,9 +1,9 @@
 -- What an answer of `integers` means (document 02, CR 7), item by item: "Each is read in its entry's width .. The answers are those of single calls in list order.
 -- The first item refused refuses the whole call, with the item's number as the place."
+use Rattle.std.specs.Prelude.{Ok, Err}
 use Rattle.std.specs.Prelude.{ℕ, ◌+◌, ◌≤◌, ◌<◌, true, false, List, ◌⊎◌, ◌≡◌, ℤ, pos, length, get_or, ◌≤ℤ◌, ◌<ℤ◌}
 use Rattle.text.specs.Judged.{judged_of, place_fits}
-use Rattle.text.specs.Refusals.{Told, accepted, refused, at_place, unfit, other_kind, not_in_order, no_room}
-use Rattle.text.specs.declared.judge.Judged.TheVariants as judged
+use Rattle.text.specs.Refusals.{Told, at_place, unfit, other_kind, not_in_order, no_room}
 use Rattle.text.specs.declared.refusal.Refusal.{Refusal}
 use Rattle.integers.specs.Width.{width_at}
 use Rattle.rows.specs.Rows.{room_of, entry_at}
@@ -23,7 +23,7 @@ Tells width z code = ((pos 0 ≤ℤ z) × (code ≡ width)) ⊎ ((z <ℤ pos 0) 
 pub record Written (text : List ℕ) (e : Entry) (c : Coded) : Type 0 where
   pub names : names_integer e ≡ true
   pub typed : Typed
-  pub reads : single text e ≡ accepted typed
+  pub reads : single text e ≡ Ok typed
   pub magnitude : c.magnitude ≡ typed.number.magnitude
   pub code : Tells e.detail (signed_number typed.number) c.code
 
@@ -38,7 +38,7 @@ pub data ItemRefused (text tape : List ℕ) (count i : ℕ) : Refusal → Type 0
   no_place : i < count → place_fits text (entry_at tape i).start ≡ false → ItemRefused text tape count i unfit
   no_integer : i < count → place_fits text (entry_at tape i).start ≡ true → names_integer (entry_at tape i) ≡ false → ItemRefused text tape count i other_kind
   unread : {r : Refusal} → i < count → place_fits text (entry_at tape i).start ≡ true → names_integer (entry_at tape i) ≡ true
-      → single text (entry_at tape i) ≡ refused r → ItemRefused text tape count i r
+      → single text (entry_at tape i) ≡ Err r → ItemRefused text tape count i r
 
 -- A list reads as these values: as many as it has items, each its own.
 pub record ListReads (text tape : List ℕ) (count : ℕ) (items : List ℕ) (cs : List Coded) : Type 0 where
@@ -53,12 +53,12 @@ pub record FirstRefused (text tape : List ℕ) (count : ℕ) (items : List ℕ) 
 
 -- What the call asks before any item: a text that may be read, and a count that fits the tape.
 abbrev pub Entered : (text tape : List ℕ) (count : ℕ) → Type 0
-Entered text tape count = (judged_of text ≡ judged.Fit) × (count ≤ room_of (length tape))
+Entered text tape count = (judged_of text ≡ Ok tt) × (count ≤ room_of (length tape))
 
 -- The call refuses: by its text, by its count, by its first item that is refused, or where all read and a buffer is shorter than the list.
 pub data ListRefused (text tape : List ℕ) (count : ℕ) (items : List ℕ) (m c : ℕ) : Refusal → Type 0 where
-  by_text : {r : Refusal} → judged_of text ≡ judged.Refused r → ListRefused text tape count items m c r
-  by_count : judged_of text ≡ judged.Fit → room_of (length tape) < count → ListRefused text tape count items m c not_in_order
+  by_text : {r : Refusal} → judged_of text ≡ Err r → ListRefused text tape count items m c r
+  by_count : judged_of text ≡ Ok tt → room_of (length tape) < count → ListRefused text tape count items m c not_in_order
   by_item : (k : ℕ) (r : Refusal) → Entered text tape count → FirstRefused text tape count items k r → ListRefused text tape count items m c (at_place r k)
   by_room : (cs : List Coded) → Entered text tape count → ListReads text tape count items cs → (m < length items) ⊎ (c < length items)
       → ListRefused text tape count items m c no_room

@@ -1,7 +1,7 @@
 -- What an accepted walk means (document 01, module 10; document 02, CR 2; refusals 1, 2, 28, 23 and 22): "Links join opening and closing bracket; any other entry links to itself."
+use Rattle.std.specs.Prelude.{Ok}
 use Rattle.std.specs.Prelude.{ℕ, ◌≤◌, true, List, ◌++◌, ◌≡◌, drop, length}
 use Rattle.text.specs.Judged.{judged_of}
-use Rattle.text.specs.declared.judge.Judged.TheVariants.{Fit}
 use Rattle.rows.specs.Order.{in_order}
 use Rattle.rows.specs.Rows.{entries_of, room_of}
 use Rattle.grammar.specs.Kinds.{kinds_of}
@@ -12,7 +12,7 @@ use Rattle.fields.specs.Apart.{Distinct}
 -- A walk goes past its front: the text may be read, the limit is at most 128, the count fits the tape, whose entries are in order within the text and whose raw
 -- names are raw, and there are links enough.
 pub record Passed (text tape : List ℕ) (count limit links : ℕ) : Type 0 where
-  pub fit : judged_of text ≡ Fit
+  pub fit : judged_of text ≡ Ok tt
   pub shallow : limit ≤ 128
   pub fits : count ≤ room_of (length tape)
   pub ordered : in_order (entries_of count tape) (length text) ≡ true

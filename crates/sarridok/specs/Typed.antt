@@ -1,8 +1,9 @@
 -- The call `integer` (document 01): "Typed integer at a place, in one of eight widths." Order of refusals: 1, 2, 28, then those of reading, then 27 for a
 -- suffix once the digits have read. "A typed read answers the value and the place behind it; with another suffix it is 27 (its place 0 is an exception to
 -- equality), and a byte literal is u8."
+use Rattle.std.specs.Prelude.{Ok, Err}
 use Rattle.std.specs.Prelude.{ℕ, ◌+◌, ◌^◌, ◌<◌, List, [], ◌∷◌, false, cond, not, drop, eqb, ℤ}
-use Rattle.text.specs.Refusals.{Told, accepted, refused, placed_behind, other_kind}
+use Rattle.text.specs.Refusals.{Told, placed_behind, other_kind}
 use Rattle.text.specs.Judged.{place_fits, behind_front}
 use Rattle.text.specs.Words.{starts_with}
 use Rattle.integers.specs.Width.{code_of}
@@ -13,10 +14,6 @@ use Rattle.integers.specs.declared.integer.Value.{Value}
 use Rattle.integers.specs.declared.integer.Integer.{Integer}
 use Rattle.integers.specs.declared.integer.Integer.TheVariants as integer
 use Rattle.strings.specs.Chars.{byte_of}
-use Rattle.strings.specs.declared.chars.ByteAnswer.{ByteAnswer}
-use Rattle.strings.specs.declared.chars.ByteAnswer.TheVariants as byte
-use Rattle.sarridok.specs.declared.integer_call.IntegerAnswer.{IntegerAnswer}
-use Rattle.sarridok.specs.declared.integer_call.IntegerAnswer.TheVariants as answer
 
 -- What a typed read accepts: a number, and the place behind it.
 pub record Typed : Type 0 where
@@ -28,24 +25,24 @@ abbrev pub signed_number : Value → ℤ
 signed_number v = signed_of v.minus v.magnitude
 
 -- The paper's answer for each case of the code's.
-abbrev pub told_integer : IntegerAnswer → Told Typed
-told_integer (answer.Value v end) = accepted (record { number = v; end = end })
-told_integer (answer.Refused r) = refused r
+abbrev pub told_integer : Told (Value × ℕ) → Told Typed
+told_integer (Ok (v, end)) = Ok (record { number = v; end = end })
+told_integer (Err r) = Err r
 
 -- A byte literal is u8, and for any other width of another kind.
-abbrev pub byte_as : Width → ByteAnswer → Integer
-byte_as width (byte.Read len b) = cond (not (eqb (code_of width) 5)) integer.OtherSuffix (integer.Read (record { minus = false; magnitude = b }) len)
-byte_as width (byte.Refused r) = integer.Refused r
+abbrev pub byte_as : Width → Told (ℕ × ℕ) → Integer
+byte_as width (Ok (len, b)) = cond (not (eqb (code_of width) 5)) integer.OtherSuffix (integer.Read (record { minus = false; magnitude = b }) len)
+byte_as width (Err r) = integer.Refused r
 
 -- The integer at the front of a part: a byte literal where `b'` stands there.
 unfoldable pub integer_at : Width → List ℕ → Integer
 integer_at width s = cond (starts_with (0x62 ∷ 0x27 ∷ []) s) (byte_as width (byte_of s)) (typed_of width s)
 
 -- The same, seen from the front of the text; 27 stands at 0.
-abbrev pub placed_at : ℕ → Integer → IntegerAnswer
-placed_at place (integer.Read v end) = answer.Value v (place + end)
-placed_at place integer.OtherSuffix = answer.Refused other_kind
-placed_at place (integer.Refused r) = answer.Refused (placed_behind place r)
+abbrev pub placed_at : ℕ → Integer → Told (Value × ℕ)
+placed_at place (integer.Read v end) = Ok (v, place + end)
+placed_at place integer.OtherSuffix = Err other_kind
+placed_at place (integer.Refused r) = Err (placed_behind place r)
 
 -- Its places are numbers of 64 bits there.
 abbrev pub Fitting : ℕ → Integer → Type 0

@@ -3,40 +3,37 @@
 -- Order of refusals: 1 and 2; 28 for a limit above 128; 23 "unless .. the count fits the slice, kinds are 1 to 16, each start is below its end, no entry starts
 -- before the former's end, and the last ends within" the text, and its raw names are; 22 where the links are fewer than the entries; then 24, 25, 26 and 31.
 -- "A refused call writes nothing .. An accepted .. walk .. leaves the slice behind what it writes as it found it."
+use Rattle.std.specs.Prelude.{Ok, Err}
 use Rattle.std.specs.Prelude.{ℕ, cond, ◌&&◌, List, ltb, length}
 use Rattle.text.specs.Judged.{judged_of, behind_judged}
-use Rattle.text.specs.Refusals.{Told, accepted, refused, unfit, not_in_order, no_room}
+use Rattle.text.specs.Refusals.{Told, unfit, not_in_order, no_room}
 use Rattle.rows.specs.Rows.{room_of, entries_of}
 use Rattle.rows.specs.Order.{in_order}
 use Rattle.rows.specs.declared.Entry.{Entry}
 use Rattle.grammar.specs.Kinds.{kinds_of}
 use Rattle.grammar.specs.Walk.{linked_of}
-use Rattle.grammar.specs.declared.ends.Verdict.{Verdict}
-use Rattle.grammar.specs.declared.ends.Verdict.TheVariants as verdict
 use Rattle.fields.specs.Names.{name_at, raws_fit}
 use Rattle.fields.specs.Fields.{named_walk}
-use Rattle.sarridok.specs.declared.walk_call.WalkAnswer.{WalkAnswer}
-use Rattle.sarridok.specs.declared.walk_call.WalkAnswer.TheVariants as answer
 
 -- The paper's answer for each case of the code's.
-abbrev pub told_walk : WalkAnswer → Told Unit
-told_walk answer.Walked = accepted tt
-told_walk (answer.Refused r) = refused r
+abbrev pub told_walk : Told Unit → Told Unit
+told_walk (Ok tt) = Ok tt
+told_walk (Err r) = Err r
 
 -- The grammar's verdict as an answer.
-abbrev pub judged : Verdict → Told Unit
-judged verdict.Accepted = accepted tt
-judged (verdict.Refused r) = refused r
+abbrev pub judged : Told Unit → Told Unit
+judged (Ok tt) = Ok tt
+judged (Err r) = Err r
 
 -- What is asked before any entry is judged, in its order; behind it stands the walk's own answer.
 unfoldable pub behind_walk_front : List ℕ → List ℕ → ℕ → ℕ → ℕ → Told Unit → Told Unit
 behind_walk_front text tape count limit links on =
     behind_judged (judged_of text)
-    (cond (ltb 128 limit) (refused unfit)
-    (cond (ltb (room_of (length tape)) count) (refused not_in_order)
+    (cond (ltb 128 limit) (Err unfit)
+    (cond (ltb (room_of (length tape)) count) (Err not_in_order)
     (cond (in_order (entries_of count tape) (length text) && raws_fit text (entries_of count tape))
-    (cond (ltb links count) (refused no_room) on)
-    (refused not_in_order))))
+    (cond (ltb links count) (Err no_room) on)
+    (Err not_in_order))))
 
 -- The whole answer, for so many links.
 unfoldable pub walk_of : List ℕ → List ℕ → ℕ → ℕ → ℕ → Told Unit
@@ -45,8 +42,8 @@ walk_of text tape count limit links =
 
 -- The links behind such an answer: those of the entries, or what stood there.
 abbrev pub left_by : Told Unit → List Entry → List ℕ → List ℕ
-left_by (accepted t) es out = linked_of (kinds_of es) out
-left_by (refused r) es out = out
+left_by (Ok t) es out = linked_of (kinds_of es) out
+left_by (Err r) es out = out
 
 -- The links afterwards.
 unfoldable pub links_after : List ℕ → List ℕ → ℕ → ℕ → List ℕ → List ℕ

@@ -5,21 +5,26 @@ ghost use Rattle.sarridok.specs.Contents.{contents_of, part_of};
 
 use entries::named::find_named;
 use entries::view::contents_at;
-use entries::{ContentsAnswer, Named};
-use text::judge::{Judged, judge};
+use text::Refusal;
+use text::judge::judge;
 
 // Where the bytes inside stand in the text, if nothing was escaped: else 29.
-pub fn contents(text: &[u8], tape: &[u32], count: usize, entry: usize) -> ContentsAnswer
+pub fn contents(
+    text: &[u8],
+    tape: &[u32],
+    count: usize,
+    entry: usize,
+) -> Result<(usize, usize), Refusal>
     ensures { told_contents result ≡ contents_of text.now tape.now count entry }
 {
     let judged = judge(text);
-    if let Judged::Refused(refusal) = judged {
-        return ContentsAnswer::Refused(refusal);
+    if let Err(refusal) = judged {
+        return Err(refusal);
     }
     let named = find_named(text, tape, count, entry);
     match named {
-        Named::At(bytes, place) => contents_at(text, bytes, place),
-        Named::Refused(refusal) => ContentsAnswer::Refused(refusal),
+        Ok((bytes, place)) => contents_at(text, bytes, place),
+        Err(refusal) => Err(refusal),
     }
 }
 
@@ -29,7 +34,7 @@ pub fn contents_part<'a>(text: &'a [u8], tape: &[u32], count: usize, entry: usiz
 {
     let answer = contents(text, tape, count, entry);
     match answer {
-        ContentsAnswer::Part(start, end) => &text[start..end],
-        ContentsAnswer::Refused(_) => &text[0..0],
+        Ok((start, end)) => &text[start..end],
+        Err(_) => &text[0..0],
     }
 }

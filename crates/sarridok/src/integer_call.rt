@@ -7,24 +7,17 @@ use integers::integer::typed;
 use integers::width::code_of;
 use integers::{Integer, Value, Width};
 use plain_numbers::short::{Short, short_integer};
-use strings::chars::{ByteAnswer, byte_literal};
+use strings::chars::byte_literal;
 use text::Refusal;
-use text::judge::{Judged, judge, place_fits};
+use text::judge::{judge, place_fits};
 use text::refusal::placed_behind;
 
-// The number and the place behind it, or a refusal.
-#[derive(Clone, Copy)]
-pub enum IntegerAnswer {
-    Value(Value, usize),
-    Refused(Refusal),
-}
-
 // A byte literal is u8, and for any other width of another kind.
-fn byte_as(byte: ByteAnswer, width: Width) -> Integer
+fn byte_as(byte: Result<(usize, u8), Refusal>, width: Width) -> Integer
     ensures { result ≡ byte_as width byte }
 {
     match byte {
-        ByteAnswer::Read { len, byte } => {
+        Ok((len, byte)) => {
             if code_of(width) != 5 {
                 return Integer::OtherSuffix;
             }
@@ -34,7 +27,7 @@ fn byte_as(byte: ByteAnswer, width: Width) -> Integer
             };
             Integer::Read(value, len)
         }
-        ByteAnswer::Refused(refusal) => Integer::Refused(refusal),
+        Err(refusal) => Integer::Refused(refusal),
     }
 }
 
@@ -66,27 +59,27 @@ fn number_at(s: &[u8], width: Width) -> Integer
 }
 
 // The same, seen from the front of the text; 27 stands at 0.
-fn placed(read: Integer, place: usize) -> IntegerAnswer
+fn placed(read: Integer, place: usize) -> Result<(Value, usize), Refusal>
     requires { Fitting place read }
     ensures { result ≡ placed_at place read }
 {
     match read {
-        Integer::Read(value, end) => IntegerAnswer::Value(value, place + end),
-        Integer::OtherSuffix => IntegerAnswer::Refused(Refusal::other_kind()),
-        Integer::Refused(refusal) => IntegerAnswer::Refused(placed_behind(refusal, place)),
+        Integer::Read(value, end) => Ok((value, place + end)),
+        Integer::OtherSuffix => Err(Refusal::other_kind()),
+        Integer::Refused(refusal) => Err(placed_behind(refusal, place)),
     }
 }
 
 // The integer at the place, in the width asked for; 27 where its suffix names another.
-pub fn integer(text: &[u8], place: usize, width: Width) -> IntegerAnswer
+pub fn integer(text: &[u8], place: usize, width: Width) -> Result<(Value, usize), Refusal>
     ensures { told_integer result ≡ integer_of text.now place width }
 {
     let judged = judge(text);
-    if let Judged::Refused(refusal) = judged {
-        return IntegerAnswer::Refused(refusal);
+    if let Err(refusal) = judged {
+        return Err(refusal);
     }
     if !place_fits(text, place) {
-        return IntegerAnswer::Refused(Refusal::unfit());
+        return Err(Refusal::unfit());
     }
     placed(number_at(&text[place..], width), place)
 }

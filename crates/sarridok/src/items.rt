@@ -1,8 +1,8 @@
 // The items of a list of integers: one of them, and all, first judged and then written.
+ghost use Rattle.std.specs.Prelude.{Ok};
 ghost use Rattle.std.specs.Prelude.{cond, ◌≡◌, ◌+◌, ◌≤◌, drop, length};
 ghost use Rattle.text.specs.Judged.{judged_of};
 ghost use Rattle.text.specs.Refusals.{at_place};
-ghost use Rattle.text.specs.declared.judge.Judged.TheVariants.{Fit};
 ghost use Rattle.integers.specs.Width.{width_at};
 ghost use Rattle.rows.specs.Rows.{room_of};
 ghost use Rattle.sarridok.specs.Typed.{integer_at};
@@ -15,14 +15,7 @@ use integers::width::width_at;
 use plain_numbers::short::{Short, short_integer};
 use rows::{Entry, kinds, row};
 use text::Refusal;
-use text::judge::{Judged, place_fits};
-
-// What is written for an item, its magnitude and code; or its refusal, at the item's number.
-#[derive(Clone, Copy)]
-pub enum Item {
-    Number(u64, u8),
-    Refused(Refusal),
-}
+use text::judge::place_fits;
 
 // The same refusal at an item's number.
 fn at_item(refusal: Refusal, k: usize) -> Refusal
@@ -47,28 +40,28 @@ fn code_for(width: u8, minus: bool) -> u8
 }
 
 // What was read, as item k.
-fn coded(read: Integer, width: u8, k: usize) -> Item
+fn coded(read: Integer, width: u8, k: usize) -> Result<(u64, u8), Refusal>
     requires { width ≤ 8 }
     ensures { told_item result ≡ at_item k (coded_in width read) }
 {
     match read {
         Integer::Read(value, _) => {
             let code = code_for(width, value.minus);
-            Item::Number(value.magnitude, code)
+            Ok((value.magnitude, code))
         }
-        Integer::OtherSuffix => Item::Refused(at_item(Refusal::other_kind(), k)),
-        Integer::Refused(refusal) => Item::Refused(at_item(refusal, k)),
+        Integer::OtherSuffix => Err(at_item(Refusal::other_kind(), k)),
+        Integer::Refused(refusal) => Err(at_item(refusal, k)),
     }
 }
 
 // The integer at the front of a part, as item k; a short one without the general reader.
-fn integer_in(s: &[u8], width: u8, k: usize) -> Item
+fn integer_in(s: &[u8], width: u8, k: usize) -> Result<(u64, u8), Refusal>
     requires { width ≤ 8 }
     ensures { told_item result ≡ at_item k (coded_in width (integer_at (width_at width) s.now)) }
 {
     let short = short_integer(s, width);
     match short {
-        Short::Value(magnitude, _) => Item::Number(magnitude, width),
+        Short::Value(magnitude, _) => Ok((magnitude, width)),
         Short::Other => coded(integer_at(s, width_at(width)), width, k),
     }
 }
@@ -90,44 +83,50 @@ fn names_integer(e: Entry) -> bool
 }
 
 // The integer that an entry names, in its own width, as item k.
-fn entry_integer(text: &[u8], e: Entry, k: usize) -> Item
-    requires { judged_of text.now ≡ Fit }
+fn entry_integer(text: &[u8], e: Entry, k: usize) -> Result<(u64, u8), Refusal>
+    requires { judged_of text.now ≡ Ok tt }
     ensures { told_item result ≡ at_item k (entry_integer text.now e) }
 {
     let start = e.start as usize;
     if !place_fits(text, start) {
-        return Item::Refused(at_item(Refusal::unfit(), k));
+        return Err(at_item(Refusal::unfit(), k));
     }
     if !names_integer(e) {
-        return Item::Refused(at_item(Refusal::other_kind(), k));
+        return Err(at_item(Refusal::other_kind(), k));
     }
     integer_in(&text[start..], e.detail as u8, k)
 }
 
 // Item k of a list, an entry number.
-fn item_at(text: &[u8], tape: &[u32], count: usize, number: u32, k: usize) -> Item
-    requires { (judged_of text.now ≡ Fit) × (count ≤ room_of (length tape.now)) }
+fn item_at(
+    text: &[u8],
+    tape: &[u32],
+    count: usize,
+    number: u32,
+    k: usize,
+) -> Result<(u64, u8), Refusal>
+    requires { (judged_of text.now ≡ Ok tt) × (count ≤ room_of (length tape.now)) }
     ensures { told_item result ≡ at_item k (item_of text.now tape.now count number) }
 {
     let i = number as usize;
     if count <= i {
-        return Item::Refused(at_item(Refusal::unfit(), k));
+        return Err(at_item(Refusal::unfit(), k));
     }
     entry_integer(text, row::entry(tape, i), k)
 }
 
 // The refusal of the first item that has one.
-pub fn judge_items(text: &[u8], tape: &[u32], count: usize, items: &[u32]) -> Judged
-    requires { (judged_of text.now ≡ Fit) × (count ≤ room_of (length tape.now)) }
+pub fn judge_items(text: &[u8], tape: &[u32], count: usize, items: &[u32]) -> Result<(), Refusal>
+    requires { (judged_of text.now ≡ Ok tt) × (count ≤ room_of (length tape.now)) }
     ensures { result ≡ verdict_of (items_from text.now tape.now count items.now 0) }
 {
     for (k, number) in items.iter().enumerate() {
         let judged = item_at(text, tape, count, *number, k);
-        if let Item::Refused(refusal) = judged {
-            return Judged::Refused(refusal);
+        if let Err(refusal) = judged {
+            return Err(refusal);
         }
     }
-    Judged::Fit
+    Ok(())
 }
 
 // Every item's magnitude and code, once it is known that all read.
@@ -139,8 +138,8 @@ pub fn write_items(
     magnitudes: &mut [u64],
     codes: &mut [u8],
 )
-    requires { (judged_of text.now ≡ Fit) × (count ≤ room_of (length tape.now))
-        × (verdict_of (items_from text.now tape.now count items.now 0) ≡ Fit)
+    requires { (judged_of text.now ≡ Ok tt) × (count ≤ room_of (length tape.now))
+        × (verdict_of (items_from text.now tape.now count items.now 0) ≡ Ok tt)
         × (length items.now ≤ length magnitudes.old) × (length items.now ≤ length codes.old) }
     ensures magnitudes { magnitudes.new ≡ filled (λ (c : Coded). c.magnitude)
         (items_from text.now tape.now count items.now 0) magnitudes.old }
@@ -149,7 +148,7 @@ pub fn write_items(
 {
     for (k, number) in items.iter().enumerate() {
         let read = item_at(text, tape, count, *number, k);
-        let Item::Number(magnitude, code) = read else {
+        let Ok((magnitude, code)) = read else {
             return;
         };
         magnitudes[k] = magnitude;

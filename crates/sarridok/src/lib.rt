@@ -5,6 +5,8 @@
 // answers which meet a promise are equal. One page with all promises is proofs/Promises.antt of crate promises; docs/PROMISES.md has them in words.
 #![tactic(auto)]
 
+use text::Refusal;
+
 mod contents_call;
 mod decoded_call;
 mod integer_call;
@@ -17,22 +19,19 @@ mod struct_kind_call;
 mod walk_call;
 
 pub use contents_call::{contents, contents_part};
-pub use cursor::{ParserCursor, Step};
+pub use cursor::ParserCursor;
 pub use decoded_call::decoded;
-pub use entries::{ContentsAnswer, DecodedAnswer};
 pub use gaps::Open;
-pub use integer_call::{IntegerAnswer, integer};
+pub use integer_call::integer;
 pub use integers::{Value, Width};
-pub use integers_call::{IntegersAnswer, integers};
+pub use integers_call::integers;
 pub use pieces::finish::finish;
 pub use pieces::piece::piece;
 pub use pieces::state::{Arrival, Arrived, Ended, begin};
-pub use read::measure::ReadAnswer;
 pub use read_call::read;
-pub use repair::repairer::RepairAnswer;
 pub use repair_call::repair;
 pub use skip_call::skip;
 pub use struct_kind_call::struct_kind;
-pub use structs::{NewtypeMode, StructAnswer, StructType, TupleMode};
+pub use structs::{NewtypeMode, StructType, TupleMode};
 pub use text::Refusal;
-pub use walk_call::{WalkAnswer, walk};
+pub use walk_call::walk;

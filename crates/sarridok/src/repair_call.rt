@@ -2,8 +2,9 @@
 ghost use Rattle.std.specs.Prelude.{◌≡◌};
 ghost use Rattle.repair.specs.Repair.{told_repair, repair_of, repaired_tape};
 
-use repair::repairer::{RepairAnswer, repair_text};
-use text::judge::{Judged, judge};
+use repair::repairer::repair_text;
+use text::Refusal;
+use text::judge::judge;
 
 // The old text had `old_len` bytes, and its bytes from a to b were replaced.
 pub fn repair(
@@ -13,13 +14,13 @@ pub fn repair(
     a: usize,
     b: usize,
     text: &[u8],
-) -> RepairAnswer
+) -> Result<(usize, usize, usize), Refusal>
     ensures { (told_repair result ≡ repair_of tape.old count old_len a b text.now)
         × (tape.new ≡ repaired_tape tape.old count old_len a b text.now) }
 {
     let judged = judge(text);
-    if let Judged::Refused(refusal) = judged {
-        return RepairAnswer::Refused(refusal);
+    if let Err(refusal) = judged {
+        return Err(refusal);
     }
     repair_text(tape, count, old_len, a, b, text)
 }

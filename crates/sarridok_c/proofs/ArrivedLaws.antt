@@ -1,4 +1,5 @@
 -- A text that arrives, over lent numbers: the cases of the definitions. Assumes nothing.
+use Rattle.std.proofs.Common.{Ok, Err, Some, None, Option}
 use Prim.Native.Nat.{ℕ, ◌<◌, ◌≤◌}
 use native.Mathlib.Omega.{arith}
 use mathlib.Core.Bool.{Bool, true, false, cond}
@@ -17,9 +18,7 @@ use Rattle.pieces.specs.declared.state.Ended.TheVariants as ended
 use Rattle.rows.specs.Rows.{room_of}
 use Rattle.stored.proofs.StoreLaws.{stored_short}
 use Rattle.stored.specs.Numbers.{state_of, stored_in}
-use Rattle.stored.specs.declared.states.Stored.{Stored}
-use Rattle.stored.specs.declared.states.Stored.TheVariants as stored
-use Rattle.text.specs.Refusals.{Told, accepted, refused, no_room, not_in_order}
+use Rattle.text.specs.Refusals.{Told, no_room, not_in_order}
 use Rattle.text.specs.declared.refusal.Refusal.{Refusal}
 use Rattle.sarridok_c.specs.Arrivals.{begin_numbered, finish_by, finish_numbered, lent_state, outcome_count, outcome_word, piece_by, piece_numbered, rest_count, rest_word, state_after}
 use Rattle.sarridok_c.specs.Packed.{lent_after, packed, refusal_word}
@@ -28,7 +27,7 @@ use Rattle.sarridok_c.specs.inner.Answered.{arrived_count, arrived_state, arrive
 
 -- ---- the state
 
-pub lent_short : (s : List ℕ) → length s < 10 → stored.Unfit ≡ lent_state s
+pub lent_short : (s : List ℕ) → length s < 10 → None ≡ lent_state s
 unfolding lent_state
 lent_short s h = rw (lt-leb 10 (length s) h)
 
@@ -56,16 +55,16 @@ module _ (o : Outcome) where
 
 -- what is answered and written for a piece is what the definition says
 pub piece_word : (t : Told Outcome) → arrived_word (arrived_of t) ≡ packed outcome_word t
-piece_word (accepted o) = given_word o (eqb o.next.refusal.number 0)
-piece_word (refused r) = refl
+piece_word (Ok o) = given_word o (eqb o.next.refusal.number 0)
+piece_word (Err r) = refl
 
 pub piece_count : (t : Told Outcome) (n : ℕ) → arrived_count (arrived_of t) n ≡ lent_after outcome_count t n
-piece_count (accepted o) n = given_count o (eqb o.next.refusal.number 0) n
-piece_count (refused r) n = refl
+piece_count (Ok o) n = given_count o (eqb o.next.refusal.number 0) n
+piece_count (Err r) n = refl
 
 pub piece_state : (t : Told Outcome) (s : List ℕ) → arrived_state (arrived_of t) s ≡ state_after t s
-piece_state (accepted o) s = given_state o (eqb o.next.refusal.number 0) s
-piece_state (refused r) s = refl
+piece_state (Ok o) s = given_state o (eqb o.next.refusal.number 0) s
+piece_state (Err r) s = refl
 
 module _ (e : Rest) where
   abbrev rest : Bool → Ended
@@ -81,44 +80,44 @@ module _ (e : Rest) where
 
 -- and so for the end
 pub end_word : (t : Told Rest) → ended_word (ended_of t) ≡ packed rest_word t
-end_word (accepted e) = rest-word e (eqb e.refusal.number 0)
-end_word (refused r) = refl
+end_word (Ok e) = rest-word e (eqb e.refusal.number 0)
+end_word (Err r) = refl
 
 pub end_count : (t : Told Rest) (n : ℕ) → ended_count (ended_of t) n ≡ lent_after rest_count t n
-end_count (accepted e) n = rest-count e (eqb e.refusal.number 0) n
-end_count (refused r) n = refl
+end_count (Ok e) n = rest-count e (eqb e.refusal.number 0) n
+end_count (Err r) n = refl
 
 -- ---- by the state that is lent
 
 module _ (state buffer : List ℕ) (n room : ℕ) where
-  pub piece_known : (a : Arrival) → lent_state state ≡ stored.State a → piece_of a buffer n room ≡ piece_numbered state buffer n room
+  pub piece_known : (a : Arrival) → lent_state state ≡ Some a → piece_of a buffer n room ≡ piece_numbered state buffer n room
   unfolding piece_numbered
-  piece_known a e = sym (ap (λ (x : Stored). piece_by x buffer n room) e)
+  piece_known a e = sym (ap (λ (x : Option Arrival). piece_by x buffer n room) e)
 
-  pub piece_unfit : lent_state state ≡ stored.Unfit → refused not_in_order ≡ piece_numbered state buffer n room
+  pub piece_unfit : lent_state state ≡ None → Err not_in_order ≡ piece_numbered state buffer n room
   unfolding piece_numbered
-  piece_unfit e = sym (ap (λ (x : Stored). piece_by x buffer n room) e)
+  piece_unfit e = sym (ap (λ (x : Option Arrival). piece_by x buffer n room) e)
 
 module _ (state buffer : List ℕ) (room : ℕ) where
-  pub end_known : (a : Arrival) → lent_state state ≡ stored.State a → finish_of a buffer room ≡ finish_numbered state buffer room
+  pub end_known : (a : Arrival) → lent_state state ≡ Some a → finish_of a buffer room ≡ finish_numbered state buffer room
   unfolding finish_numbered
-  end_known a e = sym (ap (λ (x : Stored). finish_by x buffer room) e)
+  end_known a e = sym (ap (λ (x : Option Arrival). finish_by x buffer room) e)
 
-  pub end_unfit : lent_state state ≡ stored.Unfit → refused not_in_order ≡ finish_numbered state buffer room
+  pub end_unfit : lent_state state ≡ None → Err not_in_order ≡ finish_numbered state buffer room
   unfolding finish_numbered
-  end_unfit e = sym (ap (λ (x : Stored). finish_by x buffer room) e)
+  end_unfit e = sym (ap (λ (x : Option Arrival). finish_by x buffer room) e)
 
 -- ---- the beginning
 
-pub begin_short : (n : ℕ) → n < 10 → begin_numbered n ≡ refused no_room
+pub begin_short : (n : ℕ) → n < 10 → begin_numbered n ≡ Err no_room
 begin_short n h = rw (lt-leb 10 n h)
 
-pub begin_long : (n : ℕ) → 10 ≤ n → begin_numbered n ≡ accepted tt
+pub begin_long : (n : ℕ) → 10 ≤ n → begin_numbered n ≡ Ok tt
 begin_long n h = rw (le-leb 10 n h)
 
 -- ---- what the code does, all of it
 
-module _ (state buffer : List ℕ) (n : ℕ) (tape : List ℕ) (count : ℕ) (lent : Stored) (l : lent ≡ lent_state state) where
+module _ (state buffer : List ℕ) (n : ℕ) (tape : List ℕ) (count : ℕ) (lent : Option Arrival) (l : lent ≡ lent_state state) where
   abbrev told : Told Outcome
   told = piece_numbered state buffer n (room_of (length tape))
 
@@ -131,7 +130,7 @@ module _ (state buffer : List ℕ) (n : ℕ) (tape : List ℕ) (count : ℕ) (le
       × ((tape' ≡ laid_in (piece_numbered state buffer n (room_of (length tape))) tape)
       × (count' ≡ lent_after outcome_count (piece_numbered state buffer n (room_of (length tape))) count))))
 
-  pub piece_done : (a : Arrival) → lent ≡ stored.State a → (answer : Arrived) (buffer' tape' : List ℕ)
+  pub piece_done : (a : Arrival) → lent ≡ Some a → (answer : Arrived) (buffer' tape' : List ℕ)
       → answer ≡ arrived_of (piece_of a buffer n (room_of (length tape))) → buffer' ≡ kept_in (piece_of a buffer n (room_of (length tape))) buffer
       → tape' ≡ laid_in (piece_of a buffer n (room_of (length tape))) tape → (word : ℕ) (state' : List ℕ) (count' : ℕ)
       → word ≡ arrived_word answer → state' ≡ arrived_state answer state → count' ≡ arrived_count answer count → AfterPiece word state' buffer' tape' count'
@@ -152,9 +151,9 @@ module _ (state buffer : List ℕ) (n : ℕ) (tape : List ℕ) (count : ℕ) (le
       )
 
   -- numbers that no state has
-  pub piece_none : lent ≡ stored.Unfit → (r : Refusal) → r ≡ not_in_order → (word : ℕ) → word ≡ refusal_word r → AfterPiece word state buffer tape count
+  pub piece_none : lent ≡ None → (r : Refusal) → r ≡ not_in_order → (word : ℕ) → word ≡ refusal_word r → AfterPiece word state buffer tape count
   piece_none f r p word x =
-      let e : refused not_in_order ≡ told = piece_unfit state buffer n (room_of (length tape)) (sym l ∙ f) in (
+      let e : Err not_in_order ≡ told = piece_unfit state buffer n (room_of (length tape)) (sym l ∙ f) in (
         x ∙ ap refusal_word p ∙ ap (packed outcome_word) e,
         (
           ap (λ (t : Told Outcome). state_after t state) e,
@@ -168,7 +167,7 @@ module _ (state buffer : List ℕ) (n : ℕ) (tape : List ℕ) (count : ℕ) (le
         ),
       )
 
-module _ (state buffer tape : List ℕ) (count : ℕ) (lent : Stored) (l : lent ≡ lent_state state) where
+module _ (state buffer tape : List ℕ) (count : ℕ) (lent : Option Arrival) (l : lent ≡ lent_state state) where
   abbrev told_rest : Told Rest
   told_rest = finish_numbered state buffer (room_of (length tape))
 
@@ -179,7 +178,7 @@ module _ (state buffer tape : List ℕ) (count : ℕ) (lent : Stored) (l : lent 
       × ((tape' ≡ rest_laid (finish_numbered state buffer (room_of (length tape))) tape)
       × (count' ≡ lent_after rest_count (finish_numbered state buffer (room_of (length tape))) count))
 
-  pub end_done : (a : Arrival) → lent ≡ stored.State a → (answer : Ended) (tape' : List ℕ) → answer ≡ ended_of (finish_of a buffer (room_of (length tape)))
+  pub end_done : (a : Arrival) → lent ≡ Some a → (answer : Ended) (tape' : List ℕ) → answer ≡ ended_of (finish_of a buffer (room_of (length tape)))
       → tape' ≡ rest_laid (finish_of a buffer (room_of (length tape))) tape → (word count' : ℕ) → word ≡ ended_word answer → count' ≡ ended_count answer count
       → AfterEnd word tape' count'
   end_done a f answer tape' p r word count' x z =
@@ -192,9 +191,9 @@ module _ (state buffer tape : List ℕ) (count : ℕ) (lent : Stored) (l : lent 
         ),
       )
 
-  pub end_none : lent ≡ stored.Unfit → (r : Refusal) → r ≡ not_in_order → (word : ℕ) → word ≡ refusal_word r → AfterEnd word tape count
+  pub end_none : lent ≡ None → (r : Refusal) → r ≡ not_in_order → (word : ℕ) → word ≡ refusal_word r → AfterEnd word tape count
   end_none f r p word x =
-      let e : refused not_in_order ≡ told_rest = end_unfit state buffer (room_of (length tape)) (sym l ∙ f) in
+      let e : Err not_in_order ≡ told_rest = end_unfit state buffer (room_of (length tape)) (sym l ∙ f) in
       (x ∙ ap refusal_word p ∙ ap (packed rest_word) e, (ap (λ (t : Told Rest). rest_laid t tape) e, ap (λ (t : Told Rest). lent_after rest_count t count) e))
 
 module _ (state : List ℕ) where

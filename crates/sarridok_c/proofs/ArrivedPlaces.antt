@@ -1,6 +1,7 @@
 -- The refusals of a text that arrives are small, over any state in order and any bytes: 30 at most, a reason of 8 at most, and within the first 65,536 bytes.
 --     piece-small, finish-small
 -- Assumes nothing.
+use Rattle.std.proofs.Common.{Ok, Err}
 use Prim.Native.Nat.{ℕ, ◌+◌, ◌-◌, ◌≤◌, ◌<◌}
 use native.Mathlib.Omega.{arith}
 use mathlib.Core.Bool.{Bool, true, cond, ◌&&◌}
@@ -40,7 +41,7 @@ use Rattle.settled.specs.Settled.{ron_reader}
 use Rattle.stored.proofs.Bounds.{Small, order_small}
 use Rattle.text.proofs.Choices.{bool_cases, cond_cases, and_true, either, lt_or_le}
 use Rattle.text.proofs.ClassLaws.{within_true}
-use Rattle.text.specs.Refusals.{Told, accepted, refused, not_utf8, placed_behind, too_long, unexpected_char}
+use Rattle.text.specs.Refusals.{Told, not_utf8, placed_behind, too_long, unexpected_char}
 use Rattle.text.specs.declared.refusal.Refusal.{Refusal}
 use Rattle.tokens.proofs.RonLaws.{refused_within}
 use Rattle.tokens.specs.Ron.{ron_token}
@@ -166,8 +167,8 @@ module _ (a : Arrival) (h : in_order a ≡ true) where
 
 -- the refusal of a piece, alone or in the state behind it
 abbrev pub Piece-small : Told Outcome → Type 0
-Piece-small (accepted o) = Small most_taken o.next.refusal
-Piece-small (refused r) = Small most_taken r
+Piece-small (Ok o) = Small most_taken o.next.refusal
+Piece-small (Err r) = Small most_taken r
 
 -- 22 and 23 stand at 0
 pub own_small : (r : ℕ) → r ≤ 30 → Small most_taken (record { number = r; reason = 0; place = 0 })
@@ -219,8 +220,8 @@ module _ (a : Arrival) (h : in_order a ≡ true) where
 
 -- the refusal of the end, alone or behind entries
 abbrev pub Finish-small : Told Rest → Type 0
-Finish-small (accepted e) = Small most_taken e.refusal
-Finish-small (refused r) = Small most_taken r
+Finish-small (Ok e) = Small most_taken e.refusal
+Finish-small (Err r) = Small most_taken r
 
 pub finish_small : (a : Arrival) (buffer : List ℕ) (room : ℕ) → Finish-small (finish_of a buffer room)
 unfolding finish_of

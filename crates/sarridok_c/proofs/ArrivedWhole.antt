@@ -2,6 +2,7 @@
 --     begin-whole, piece-whole, finish-whole    a host gets every refusal back from the number that is answered, whatever numbers are lent as the state
 --     lent_again, piece-again, finish-again     and a state in order from the numbers that it was stored as: over them the calls do what they do over the state
 -- Assumes nothing.
+use Rattle.std.proofs.Common.{Ok, Err, Some, None, Option}
 use Prim.Native.Nat.{ℕ, ◌≤◌}
 use native.Mathlib.Omega.{arith}
 use mathlib.Core.Bool.{Bool, true, cond}
@@ -18,10 +19,8 @@ use Rattle.stored.proofs.Bounds.{Small}
 use Rattle.stored.proofs.RoundTrip.{round_trip_in}
 use Rattle.stored.proofs.StoreLaws.{stored_long}
 use Rattle.stored.specs.Numbers.{numbers_of, state_of, stored_in}
-use Rattle.stored.specs.declared.states.Stored.{Stored}
-use Rattle.stored.specs.declared.states.Stored.TheVariants as stored
 use Rattle.text.proofs.Choices.{cond_cases}
-use Rattle.text.specs.Refusals.{Told, accepted, refused}
+use Rattle.text.specs.Refusals.{Told}
 use Rattle.text.specs.declared.refusal.Refusal.{Refusal}
 use Rattle.sarridok_c.proofs.ArrivedLaws.{end_known, lent_long, piece_known}
 use Rattle.sarridok_c.proofs.ArrivedPlaces.{Finish-small, Piece-small, finish_small, own_small, piece_small}
@@ -41,12 +40,12 @@ small_tells : (d : Refusal) → Small most_taken d → Tells (behind_word d) d
 small_tells d s = record { none = λ e. rw (eq-eqb d.number 0 e); some = λ e. rw (ne_eqb d.number 0 e) (small_refuses d s) }
 
 piece_told : (t : Told Outcome) → Piece-small t → WholeBehind outcome_word outcome_refusal t
-piece_told (accepted o) s = small_tells o.next.refusal s
-piece_told (refused r) s = small_refuses r s
+piece_told (Ok o) s = small_tells o.next.refusal s
+piece_told (Err r) s = small_refuses r s
 
 finish_told : (t : Told Rest) → Finish-small t → WholeBehind rest_word (λ e. e.refusal) t
-finish_told (accepted e) s = small_tells e.refusal s
-finish_told (refused r) s = small_refuses r s
+finish_told (Ok e) s = small_tells e.refusal s
+finish_told (Err r) s = small_refuses r s
 
 -- ---- the calls
 
@@ -55,17 +54,17 @@ pub piece_whole : (state buffer : List ℕ) (n room : ℕ) → WholeBehind outco
 unfolding piece_numbered
 piece_whole state buffer n room = piece_told (piece_by (lent_state state) buffer n room) (go (lent_state state))
   where
-    go : (s : Stored) → Piece-small (piece_by s buffer n room)
-    go (stored.State a) = piece_small a buffer n room
-    go stored.Unfit = own_small 23 (omega arith)
+    go : (s : Option Arrival) → Piece-small (piece_by s buffer n room)
+    go (Some a) = piece_small a buffer n room
+    go None = own_small 23 (omega arith)
 
 pub finish_whole : (state buffer : List ℕ) (room : ℕ) → WholeBehind rest_word (λ e. e.refusal) (finish_numbered state buffer room)
 unfolding finish_numbered
 finish_whole state buffer room = finish_told (finish_by (lent_state state) buffer room) (go (lent_state state))
   where
-    go : (s : Stored) → Finish-small (finish_by s buffer room)
-    go (stored.State a) = finish_small a buffer room
-    go stored.Unfit = own_small 23 (omega arith)
+    go : (s : Option Arrival) → Finish-small (finish_by s buffer room)
+    go (Some a) = finish_small a buffer room
+    go None = own_small 23 (omega arith)
 
 pub begin_whole : (n : ℕ) → Whole done_word done_parts (begin_numbered n)
 unfolding pair_of at_most
@@ -80,7 +79,7 @@ module _ (a : Arrival) (h : in_order a ≡ true) (s : List ℕ) (l : 10 ≤ leng
   unfolding numbers_of
   stored_length = omega (arith, ap length (stored_long a s l), length-append (numbers_of a) (drop 10 s), length-drop 10 s)
 
-  pub lent_again : lent_state (stored_in a s) ≡ stored.State a
+  pub lent_again : lent_state (stored_in a s) ≡ Some a
   lent_again = sym (lent_long (stored_in a s) stored_length) ∙ round_trip_in a h s l
 
   pub piece_again : (buffer : List ℕ) (n room : ℕ) → piece_numbered (stored_in a s) buffer n room ≡ piece_of a buffer n room

@@ -1,4 +1,6 @@
 -- The numbers of skip, integer, struct kind, contents and decoded are low: all their places lie within the text. Assumes nothing.
+use Rattle.std.proofs.Common.{Ok, Err}
+use Rattle.strings.specs.declared.literal.Literal.{Literal}
 use Prim.Native.Nat.{ℕ, ◌+◌, ◌≤◌}
 use native.Mathlib.Omega.{arith}
 use mathlib.Core.Bool.{Bool, true, false}
@@ -21,22 +23,16 @@ use Rattle.cursor.specs.declared.ParserCursor.{ParserCursor}
 use Rattle.entries.proofs.NamedLaws.{Within as NamedWithin, named_within}
 use Rattle.entries.specs.Contents.{by_named, contents_in, decoded_in}
 use Rattle.entries.specs.Named.{by_kind, inside_of, literal_of, named_of}
-use Rattle.entries.specs.declared.named.Named.{Named}
-use Rattle.entries.specs.declared.named.Named.TheVariants.{At, Refused}
 use Rattle.integers.proofs.Bounded.{TypedBounded}
 use Rattle.integers.specs.declared.integer.Integer.{Integer}
 use Rattle.integers.specs.declared.integer.Integer.TheVariants as integer
 use Rattle.integers.specs.declared.width.Width.{Width}
 use Rattle.strings.proofs.Bounds.{Bounded-string, byte_string_bounded, string_bounded}
-use Rattle.strings.specs.declared.literal.LiteralAnswer.{LiteralAnswer}
-use Rattle.strings.specs.declared.literal.LiteralAnswer.TheVariants as literal
 use Rattle.structs.proofs.ScanLaws.{Within as StructWithin}
 use Rattle.structs.proofs.TypeLaws.{struct_bounded}
 use Rattle.structs.specs.Kinds.{placed_kind}
 use Rattle.structs.specs.Structs.{struct_type_of}
 use Rattle.structs.specs.declared.kinds.NewtypeMode.{NewtypeMode}
-use Rattle.structs.specs.declared.kinds.StructAnswer.{StructAnswer}
-use Rattle.structs.specs.declared.kinds.StructAnswer.TheVariants as struct
 use Rattle.structs.specs.declared.kinds.StructType.{StructType}
 use Rattle.structs.specs.declared.kinds.StructType.TheVariants.{AnyTuple, EmptyTuple, NewtypeTuple, NonNewtypeTuple, Named as NamedStruct, Unit as UnitStruct}
 use Rattle.structs.specs.declared.kinds.TupleMode.{TupleMode}
@@ -44,7 +40,7 @@ use Rattle.given.proofs.Both.{both}
 use Rattle.sarridok.proofs.Places.{at_bounded}
 use Rattle.sarridok.specs.Contents.{contents_of, decoded_answer}
 use Rattle.sarridok.specs.Skip.{skip_of, told_skip as toldStep}
-use Rattle.sarridok.specs.StructKind.{struct_kind_of, told_struct}
+use Rattle.sarridok.specs.StructKind.{struct_kind_of}
 use Rattle.sarridok.specs.Typed.{integer_at, integer_of, placed_at, told_integer as toldTyped}
 use Rattle.sarridok_c.specs.Packed.{bit_of}
 use Rattle.sarridok_c.specs.Words.{kind_word}
@@ -99,9 +95,9 @@ kind_low NonNewtypeTuple = omega arith
 kind_low NamedStruct = omega arith
 kind_low UnitStruct = omega arith
 
-kind_placed : (place n : ℕ) (a : StructAnswer) → place + n ≤ 65536 → StructWithin n a → Low kind_parts (told_struct (placed_kind place a))
-kind_placed place n (struct.Kind k) h b = (omega arith, omega (arith, kind_low k))
-kind_placed place n (struct.Refused r) h b = omega arith
+kind_placed : (place n : ℕ) (a : Told StructType) → place + n ≤ 65536 → StructWithin n a → Low kind_parts ((placed_kind place a))
+kind_placed place n (Ok k) h b = (omega arith, omega (arith, kind_low k))
+kind_placed place n (Err r) h b = omega arith
 
 pub struct_low : (text : List ℕ) (place : ℕ) (newtype : NewtypeMode) (tuple : TupleMode) → Low kind_parts (struct_kind_of text place newtype tuple)
 unfolding struct_kind_of
@@ -116,20 +112,20 @@ literal_bounded : (bytes : Bool) (s : List ℕ) → Bounded-string s (literal_of
 literal_bounded false s = string_bounded s
 literal_bounded true s = byte_string_bounded s
 
-contents-in : (place : ℕ) (s : List ℕ) (a : LiteralAnswer) → place + length s ≤ 65536 → Bounded-string s a → Low span_parts (contents_in place a)
-contents-in place s (literal.Read l) h b =
+contents-in : (place : ℕ) (s : List ℕ) (a : Told Literal) → place + length s ≤ 65536 → Bounded-string s a → Low span_parts (contents_in place a)
+contents-in place s (Ok l) h b =
     cond_cases (Low span_parts) l.escaped _ _ (λ e. omega arith) (λ e. (omega (arith, b.1, b.2, b.3), omega (arith, b.1, b.3)))
-contents-in place s (literal.Refused r) h b = omega arith
+contents-in place s (Err r) h b = omega arith
 
-decoded-in : (place room : ℕ) (s : List ℕ) (a : LiteralAnswer) → place + length s ≤ 65536 → Bounded-string s a → Low count_parts (decoded_in place room a)
-decoded-in place room s (literal.Read l) h b =
+decoded-in : (place room : ℕ) (s : List ℕ) (a : Told Literal) → place + length s ≤ 65536 → Bounded-string s a → Low count_parts (decoded_in place room a)
+decoded-in place room s (Ok l) h b =
     cond_cases (Low count_parts) (ltb room l.decoded) _ _ (λ e. omega arith) (λ e. (omega arith, omega (arith, b.1, b.4)))
-decoded-in place room s (literal.Refused r) h b = omega arith
+decoded-in place room s (Err r) h b = omega arith
 
 -- what names no string is refused at 0
-abbrev Nowhere : Named → Type 0
-Nowhere (At bytes place) = Unit {0}
-Nowhere (Refused r) = r.place ≡ 0
+abbrev Nowhere : Told (Bool × ℕ) → Type 0
+Nowhere (Ok (bytes, place)) = Unit {0}
+Nowhere (Err r) = r.place ≡ 0
 
 named_nowhere : (text tape : List ℕ) (count entry : ℕ) → Nowhere (named_of text tape count entry)
 unfolding named_of inside_of by_kind
@@ -140,10 +136,10 @@ named_nowhere text tape count entry =
     (both Nowhere (ltb entry room)
     (both Nowhere (place_fits text e.start) (both Nowhere (ltb room count) refl (both Nowhere (eqb e.kind 14) tt (both Nowhere (eqb e.kind 15) tt refl))) refl) refl)
 
-named_low : {A : Type 0} (parts : A → Halves) (text : List ℕ) (own : Bool → ℕ → Told A) (n : Named) → NamedWithin text n → Nowhere n
+named_low : {A : Type 0} (parts : A → Halves) (text : List ℕ) (own : Bool → ℕ → Told A) (n : Told (Bool × ℕ)) → NamedWithin text n → Nowhere n
     → ((bytes : Bool) (place : ℕ) → place ≤ length text → Low parts (own bytes place)) → Low parts (by_named n own)
-named_low parts text own (At bytes place) w z f = f bytes place w
-named_low parts text own (Refused r) w z f = omega (arith, z)
+named_low parts text own (Ok (bytes, place)) w z f = f bytes place w
+named_low parts text own (Err r) w z f = omega (arith, z)
 
 pub contents_low : (text tape : List ℕ) (count entry : ℕ) → Low span_parts (contents_of text tape count entry)
 unfolding contents_of

@@ -1,6 +1,7 @@
 -- Nothing is ever cut off: from the number that each call answers a host gets back whether it was refused, and every number of the answer.
 --     read_whole, walk-whole, repair-whole, integer-whole, contents-whole, decoded-whole, struct-whole, skip-whole, integers-whole
 -- They hold of any text, tape and numbers; the last of lists of at most 2^32 items. Assumes nothing.
+use Rattle.std.proofs.Common.{Ok, Err}
 use Prim.Native.Nat.{ℕ, ◌^◌, ◌≤◌, ◌<◌}
 use native.Mathlib.Omega.{arith}
 use mathlib.Core.Bool.{◌&&◌}
@@ -8,7 +9,7 @@ use mathlib.Core.List.{List}
 use mathlib.Core.Path.{◌≡◌, refl}
 use lib.Dec.{leb}
 use lib.ListN.{length}
-use Rattle.text.specs.Refusals.{Told, accepted, refused}
+use Rattle.text.specs.Refusals.{Told}
 use Rattle.text.specs.declared.refusal.Refusal.{Refusal}
 use Rattle.cursor.specs.declared.ParserCursor.{ParserCursor}
 use Rattle.integers.specs.Width.{width_at}
@@ -40,14 +41,14 @@ use Rattle.sarridok_c.proofs.WalkPlaces.{walk_low}
 
 -- the number of a refusal is one of the table's, which ends at 31, and its reason at most 8
 abbrev Listed : {A : Type 0} → Told A → Type 0
-Listed (accepted a) = Unit {0}
-Listed (refused r) = Short r
+Listed (Ok a) = Unit {0}
+Listed (Err r) = Short r
 
-listed : {A : Type 0} (t : Told A) → ((r : Refusal) → t ≡ refused r → Given r) → Listed t
-listed (accepted a) h = tt
-listed (refused r) h = given_low r (h r refl)
+listed : {A : Type 0} (t : Told A) → ((r : Refusal) → t ≡ Err r → Given r) → Listed t
+listed (Ok a) h = tt
+listed (Err r) h = given_low r (h r refl)
 
-numbers : {A : Type 0} (t : Told A) → Listed t → (r : Refusal) → t ≡ refused r → Short r
+numbers : {A : Type 0} (t : Told A) → Listed t → (r : Refusal) → t ≡ Err r → Short r
 numbers t h r e = rw e at h
 
 module _ (text : List ℕ) (place : ℕ) where
@@ -125,10 +126,10 @@ pub skip_whole : (text : List ℕ) (c : ParserCursor) → Whole cursor_word curs
 skip_whole text c = got_back cursor_word cursor_parts (λ c. refl) (skip_of text c) (λ r e. given_low r (skip_given text c r e)) (skip_low text c)
 
 -- integers: nothing but a refusal, and its place whole for a list of at most 2^32 items
-done_whole : (t : Told Unit) → ((r : Refusal) → t ≡ refused r → Short r × (r.place < 2 ^ 32)) → Whole done_word done_parts t
+done_whole : (t : Told Unit) → ((r : Refusal) → t ≡ Err r → Short r × (r.place < 2 ^ 32)) → Whole done_word done_parts t
 unfolding pair_of at_most
-done_whole (accepted u) h = unpack_pair 0 0 (omega arith) (omega arith)
-done_whole (refused r) h = let n = h r refl in unpack_refusal r n.0 n.1
+done_whole (Ok u) h = unpack_pair 0 0 (omega arith) (omega arith)
+done_whole (Err r) h = let n = h r refl in unpack_refusal r n.0 n.1
 
 pub integers_whole : (text tape : List ℕ) (count : ℕ) (items : List ℕ) (m c : ℕ) → length items ≤ 2 ^ 32 → Whole done_word done_parts (done (integers_of text tape count items m c))
 integers_whole text tape count items m c h =

@@ -1,5 +1,6 @@
 -- The numbers of read and repair are low: a reading has no more entries than the text has bytes, and stops within it; a repair keeps no more of the old
 -- ones before and behind the cut. Assumes nothing.
+use Rattle.std.proofs.Common.{Ok, Err}
 use Prim.Native.Nat.{ℕ, zero, suc, ◌+◌, ◌-◌, ◌<◌, ◌≤◌}
 use native.Mathlib.Omega.{arith}
 use mathlib.Core.Bool.{Bool, true, false, cond}
@@ -9,7 +10,7 @@ use lib.Dec.{ltb}
 use lib.ListN.{drop, get_or, length, length-drop, take}
 use borrow.Author.Tests.{ltb-true}
 use Rattle.text.proofs.Choices.{cond_cases, either, lt_or_le}
-use Rattle.text.specs.Refusals.{Told, accepted, refused, placed_behind}
+use Rattle.text.specs.Refusals.{Told, placed_behind}
 use Rattle.text.specs.declared.refusal.Refusal.{Refusal}
 use Rattle.rows.proofs.OrderLaws.{in_order_first, in_order_short}
 use Rattle.rows.proofs.RowLaws.{length_entries}
@@ -29,8 +30,6 @@ use Rattle.read.specs.Read.{read_answer, reading_of, room_for}
 use Rattle.repair.proofs.Checks.{Fits, fits_true}
 use Rattle.repair.proofs.Finding.{cut_inside, found_bounds, quiet_le, resume_inside}
 use Rattle.repair.specs.Repair.{answer_by, ends_before, found_of, joins, kept_of, leading, new_end, no_entry, repair_answer_of, repair_fits, repair_of, resume_at, scan_of, seek_of}
-use Rattle.repair.specs.declared.join.Scan.{Scan}
-use Rattle.repair.specs.declared.join.Scan.TheVariants.{Found, Refused}
 use Rattle.sarridok_c.specs.Whole.{count_parts, repaired_parts}
 use Rattle.sarridok_c.proofs.Unpacking.{Low, behind-judged}
 
@@ -64,7 +63,7 @@ stops text at h = stops_part (read_from ron_token text at) at (drop at text) (le
 
 -- ---- read
 
-counted_stops : (n m : ℕ) (r : Reading) (d : Refusal) → Stops m r → counted n r ≡ refused d → d.place ≤ m
+counted_stops : (n m : ℕ) (r : Reading) (d : Refusal) → Stops m r → counted n r ≡ Err d → d.place ≤ m
 unfolding counted
 counted_stops n m complete d h e = let y : ◌≡◌ {A = ℕ} 0 1 = cc in absurd (omega arith)
 counted_stops n m (broken x) d h e = let y : x ≡ d = cc in omega (arith, ap (λ (r : Refusal). r.place) y)
@@ -72,10 +71,10 @@ counted_stops n m (entry x r) d h e = counted_stops (n + 1) m r d h e
 
 -- what is counted, or refused
 counted_low : (text : List ℕ) (room : ℕ) (t : Told ℕ) → length text ≤ 65536 → counted 0 (reading_of text) ≡ t → Low count_parts (room_for room t)
-counted_low text room (accepted n) h e =
+counted_low text room (Ok n) h e =
     let c = counted_accepted (reading_of text) 0 n e in
     cond_cases (Low count_parts) (ltb room n) _ _ (λ p. omega arith) (λ p. (omega arith, omega (arith, c.count_is, few_entries text 0)))
-counted_low text room (refused r) h e = omega (arith, counted_stops 0 (length text) (reading_of text) r (stops text 0 (omega arith)) e)
+counted_low text room (Err r) h e = omega (arith, counted_stops 0 (length text) (reading_of text) r (stops text 0 (omega arith)) e)
 
 pub read_low : (text : List ℕ) (numbers : ℕ) → Low count_parts (read_answer text numbers)
 unfolding read_answer
@@ -101,13 +100,13 @@ tail_few (x ∷ es) at limit b zero o h l =
 tail_few (x ∷ es) at limit b (suc k) o h l = let r = tail_few es x.end limit b k (in_order_first x es at limit o).1 (omega arith) l in omega arith
 
 -- a search that breaks off does so where the reading does
-scan_stops : (old : List Entry) (b e n m : ℕ) (r : Reading) (d : Refusal) → Stops m r → scan_of old b e n r ≡ Refused d → d.place ≤ m
+scan_stops : (old : List Entry) (b e n m : ℕ) (r : Reading) (d : Refusal) → Stops m r → scan_of old b e n r ≡ Err d → d.place ≤ m
 unfolding scan_of
 scan_stops old b e n m complete d h q = let y : ◌≡◌ {A = ℕ} 0 1 = cc in absurd (omega arith)
 scan_stops old b e n m (broken x) d h q = let y : x ≡ d = cc in omega (arith, ap (λ (r : Refusal). r.place) y)
 scan_stops old b e n m (entry x r) d h q = go (joins old b e x.gap x.start (seek_of old b e x.start)) q (scan_stops old b e (n + 1) m r d h)
   where
-    go : (t : Bool) → cond t (Found n (seek_of old b e x.start)) (scan_of old b e (n + 1) r) ≡ Refused d → (scan_of old b e (n + 1) r ≡ Refused d → d.place ≤ m) → d.place ≤ m
+    go : (t : Bool) → ◌≡◌ {A = Told (ℕ × ℕ)} (cond t (Ok (n, seek_of old b e x.start)) (scan_of old b e (n + 1) r)) (Err d) → (scan_of old b e (n + 1) r ≡ Err d → d.place ≤ m) → d.place ≤ m
     go true q f = let y : ◌≡◌ {A = ℕ} 0 1 = cc in absurd (omega arith)
     go false q f = f q
 
@@ -137,10 +136,10 @@ module _ (tape : List ℕ) (count o a b : ℕ) (text : List ℕ) (h : length tex
       (λ l. omega arith)
 
   -- those, and the new ones between them
-  answer_low : (s : Scan) → found_of old j b e text ≡ s → Low repaired_parts (answer_by (room_of (length tape)) count j s)
-  answer_low (Refused r) q =
+  answer_low : (s : Told (ℕ × ℕ)) → found_of old j b e text ≡ s → Low repaired_parts (answer_by (room_of (length tape)) count j s)
+  answer_low (Err r) q =
       omega (arith, scan_stops old b e 0 (length text) (read_from ron_token text (resume_at old j)) r (stops text (resume_at old j) (resume_inside tape count o a b text F)) q)
-  answer_low (Found m i) q =
+  answer_low (Ok (m, i)) q =
       let w = found_bounds old b e (read_from ron_token text (resume_at old j)) 0 m i q in
       let k = kept_few in
       let l = behind_few i w.late in

@@ -1,4 +1,6 @@
 -- The numbers of walk are low: an entry's number is no higher than the count, and entries in order within a text are no more than its bytes. Assumes nothing.
+use Rattle.std.proofs.Common.{Ok, Err, Some, None, Option}
+use Rattle.text.specs.Refusals.{Told}
 use Prim.Native.Nat.{ℕ, ◌+◌, ◌≤◌}
 use native.Mathlib.Omega.{arith}
 use mathlib.Core.Bool.{◌&&◌}
@@ -14,8 +16,6 @@ use Rattle.rows.specs.declared.Entry.{Entry}
 use Rattle.grammar.specs.Kinds.{kinds_of}
 use Rattle.grammar.specs.Steps.{step_of}
 use Rattle.grammar.specs.Walk.{by_move, check, ended, finish, popped, walk_of as verdict_of}
-use Rattle.grammar.specs.declared.ends.Verdict.{Verdict}
-use Rattle.grammar.specs.declared.ends.Verdict.TheVariants.{Accepted, Refused}
 use Rattle.grammar.specs.declared.kinds.Kind.{Kind}
 use Rattle.grammar.specs.declared.states.Frame.{Frame}
 use Rattle.grammar.specs.declared.states.Frame.TheVariants.{Top, Square, Tuple, Struct, Key, Pair}
@@ -25,8 +25,6 @@ use Rattle.grammar.specs.declared.states.Move.{Move}
 use Rattle.grammar.specs.declared.states.Move.TheVariants.{Stay, Push, Pop, Bad}
 use Rattle.fields.specs.Fields.{again_of, by_again, named_walk}
 use Rattle.fields.specs.Names.{name_at, raws_fit}
-use Rattle.fields.specs.declared.again.Again.{Again}
-use Rattle.fields.specs.declared.again.Again.TheVariants.{Nowhere, At}
 use Rattle.fields.proofs.Beginnings.{found_inside}
 use Rattle.given.proofs.Both.{both}
 use Rattle.sarridok.specs.Walked.{behind_walk_front, judged, walk_of}
@@ -35,9 +33,9 @@ use Rattle.sarridok_c.proofs.Unpacking.{Low, behind-judged}
 
 -- ---- a verdict names an entry, or the count
 
-abbrev Within : ℕ → Verdict → Type 0
-Within m Accepted = Unit {0}
-Within m (Refused r) = r.place ≤ m
+abbrev Within : ℕ → Told Unit → Type 0
+Within m (Ok tt) = Unit {0}
+Within m (Err r) = r.place ≤ m
 
 end_within : (f : Frame) (i m : ℕ) → i ≤ m → Within m (ended f i)
 end_within Top i m h = tt
@@ -58,11 +56,11 @@ finish_within Behind f i m h = end_within f i m h
 finish_within Field f i m h = h
 finish_within FieldName f i m h = h
 
-popped_within : (σ : List Frame) (on : Frame → List Frame → Verdict) (i m : ℕ) → i ≤ m → ((g : Frame) (τ : List Frame) → Within m (on g τ)) → Within m (popped σ on i)
+popped_within : (σ : List Frame) (on : Frame → List Frame → Told Unit) (i m : ℕ) → i ≤ m → ((g : Frame) (τ : List Frame) → Within m (on g τ)) → Within m (popped σ on i)
 popped_within [] on i m h f = h
 popped_within (g ∷ σ) on i m h f = f g σ
 
-move_within : (v : Move) (limit : ℕ) (f : Frame) (σ : List Frame) (i m : ℕ) (on : Want → Frame → List Frame → Verdict) → i ≤ m
+move_within : (v : Move) (limit : ℕ) (f : Frame) (σ : List Frame) (i m : ℕ) (on : Want → Frame → List Frame → Told Unit) → i ≤ m
     → ((w : Want) (g : Frame) (τ : List Frame) → Within m (on w g τ)) → Within m (by_move v limit f σ i on)
 move_within (Stay w g) limit f σ i m on h k = k w g σ
 move_within (Push w g) limit f σ i m on h k = both (Within m) (ltb (length σ) limit) (k w g (f ∷ σ)) h
@@ -81,15 +79,15 @@ unfolding kinds_of
 kinds_many [] = refl
 kinds_many (e ∷ es) = let h = kinds_many es in omega arith
 
-judged_low : (v : Verdict) → Within 65536 v → Low done_parts (judged v)
-judged_low Accepted h = (omega arith, omega arith)
-judged_low (Refused r) h = omega arith
+judged_low : (v : Told Unit) → Within 65536 v → Low done_parts (judged v)
+judged_low (Ok tt) h = (omega arith, omega arith)
+judged_low (Err r) h = omega arith
 
 -- with the names of fields too
-again_within : (a : Again) (v : Verdict) (m : ℕ) → ((j : ℕ) → a ≡ At j → j ≤ m) → Within m v → Within m (by_again a v)
-again_within Nowhere v m h w = w
-again_within (At j) Accepted m h w = h j refl
-again_within (At j) (Refused r) m h w = both (Within m) (ltb j r.place) (h j refl) w
+again_within : (a : Option ℕ) (v : Told Unit) (m : ℕ) → ((j : ℕ) → a ≡ Some j → j ≤ m) → Within m v → Within m (by_again a v)
+again_within None v m h w = w
+again_within (Some j) (Ok tt) m h w = h j refl
+again_within (Some j) (Err r) m h w = both (Within m) (ltb j r.place) (h j refl) w
 
 named_within : (nm : ℕ → List ℕ) (ks : List Kind) (limit m : ℕ) → length ks ≤ m → Within m (named_walk nm ks limit)
 named_within nm ks limit m h =

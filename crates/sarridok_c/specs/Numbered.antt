@@ -1,7 +1,8 @@
 -- Widths and modes by their numbers: "width 1 to 8 for i8, i16, i32, i64, u8, u16, u32, u64" (document 01, module 9), modes 0 and 1 in the order of the
 -- crate's enums. Any other number is 28, behind 1 and 2 of the text.
+use Rattle.std.specs.Prelude.{Err}
 use Rattle.std.specs.Prelude.{ℕ, cond, ◌&&◌, List, leb, eqb}
-use Rattle.text.specs.Refusals.{Told, refused}
+use Rattle.text.specs.Refusals.{Told}
 use Rattle.integers.specs.Width.{width_at}
 use Rattle.structs.specs.declared.kinds.NewtypeMode.{NewtypeMode}
 use Rattle.structs.specs.declared.kinds.NewtypeMode.TheVariants.{NoParensMeanUnit, InsideNewtype}
@@ -23,9 +24,9 @@ tuple_at n = cond (eqb n 0) ImpreciseTupleOrNewtype DifferentiateNewtype
 -- A typed integer in the width of a number.
 unfoldable pub integer_numbered : List ℕ → ℕ → ℕ → Told Typed
 integer_numbered text place width =
-    cond (leb 1 width && leb width 8) (integer_of text place (width_at width)) (refused (unfit_in text))
+    cond (leb 1 width && leb width 8) (integer_of text place (width_at width)) (Err (unfit_in text))
 
 -- A struct kind in the modes of two numbers.
 unfoldable pub kind_numbered : List ℕ → ℕ → ℕ → ℕ → Told StructType
 kind_numbered text place newtype tuple =
-    cond (leb newtype 1 && leb tuple 1) (struct_kind_of text place (newtype_at newtype) (tuple_at tuple)) (refused (unfit_in text))
+    cond (leb newtype 1 && leb tuple 1) (struct_kind_of text place (newtype_at newtype) (tuple_at tuple)) (Err (unfit_in text))

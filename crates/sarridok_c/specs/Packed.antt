@@ -1,10 +1,9 @@
 -- How a host in C gets an answer: in one number of 64 bits. An accepted call's is below 2^63; a refused call's has the top bit set, and in the rest the
 -- refusal's number, reason and place. Document 01: "A refused call writes nothing."
+use Rattle.std.specs.Prelude.{Ok, Err}
 use Rattle.std.specs.Prelude.{ℕ, ◌+◌, ◌-◌, ◌*◌, ◌^◌, Bool, cond, List, ltb}
-use Rattle.text.specs.Refusals.{Told, accepted, refused, unfit}
+use Rattle.text.specs.Refusals.{Told, unfit}
 use Rattle.text.specs.declared.refusal.Refusal.{Refusal}
-use Rattle.text.specs.declared.judge.Judged.{Judged}
-use Rattle.text.specs.declared.judge.Judged.TheVariants as judged
 use Rattle.text.specs.Judged.{judged_of}
 
 -- A number, or the largest that there is room for.
@@ -25,18 +24,18 @@ refusal_word r = 2 ^ 63 + pair_of (r.number + 256 * r.reason) r.place
 
 -- An answer: what was accepted in its own way, or the refusal.
 abbrev pub packed : {A : Type 0} → (A → ℕ) → Told A → ℕ
-packed word (accepted a) = word a
-packed word (refused r) = refusal_word r
+packed word (Ok a) = word a
+packed word (Err r) = refusal_word r
 
 -- A lent number afterwards: a refused call leaves it as it was.
 abbrev pub lent_after : {A : Type 0} → (A → ℕ) → Told A → ℕ → ℕ
-lent_after part (accepted a) before = part a
-lent_after part (refused r) before = before
+lent_after part (Ok a) before = part a
+lent_after part (Err r) before = before
 
 -- What is unfit in a text that was judged: 28, unless the judgement itself refuses.
-abbrev pub unless_judged : Judged → Refusal
-unless_judged judged.Fit = unfit
-unless_judged (judged.Refused r) = r
+abbrev pub unless_judged : Told Unit → Refusal
+unless_judged (Ok tt) = unfit
+unless_judged (Err r) = r
 
 -- What a number that names no width or mode is refused with: 28, behind 1 and 2 of the text.
 unfoldable pub unfit_in : List ℕ → Refusal

@@ -1,6 +1,7 @@
 -- Nothing of an answer is cut off where it is packed: a host that takes the number apart, as bindings/c/sarridok.h says, gets every number of the answer back.
+use Rattle.std.specs.Prelude.{Ok, Err}
 use Rattle.std.specs.Prelude.{ℕ, ◌/◌, ◌%◌, ◌^◌, ◌≡◌}
-use Rattle.text.specs.Refusals.{Told, accepted, refused}
+use Rattle.text.specs.Refusals.{Told}
 use Rattle.text.specs.declared.refusal.Refusal.{Refusal}
 use Rattle.cursor.specs.declared.ParserCursor.{ParserCursor}
 use Rattle.entries.specs.Contents.{Span}
@@ -33,8 +34,8 @@ pub record Refuses (word : ℕ) (r : Refusal) : Type 0 where
 
 -- An answer is got back whole: whether it is a refusal, and its numbers.
 abbrev pub Whole : {A : Type 0} → (A → ℕ) → (A → Halves) → Told A → Type 0
-Whole word parts (accepted a) = Unpacks (word a) 0 (parts a).upper (parts a).lower
-Whole word parts (refused r) = Refuses (refusal_word r) r
+Whole word parts (Ok a) = Unpacks (word a) 0 (parts a).upper (parts a).lower
+Whole word parts (Err r) = Refuses (refusal_word r) r
 
 -- What a host gets out of the number that a piece or the end of a text answers: 0 where no refusal stands behind the entries, else the refusal.
 pub record Tells (word : ℕ) (d : Refusal) : Type 0 where
@@ -43,8 +44,8 @@ pub record Tells (word : ℕ) (d : Refusal) : Type 0 where
 
 -- Such an answer is got back whole: the refusal behind its entries, or the one that stands alone.
 abbrev pub WholeBehind : {A : Type 0} → (A → ℕ) → (A → Refusal) → Told A → Type 0
-WholeBehind word behind (accepted a) = Tells (word a) (behind a)
-WholeBehind word behind (refused r) = Refuses (refusal_word r) r
+WholeBehind word behind (Ok a) = Tells (word a) (behind a)
+WholeBehind word behind (Err r) = Refuses (refusal_word r) r
 
 -- The two numbers of each call: how many entries or bytes,
 abbrev pub count_parts : ℕ → Halves

@@ -1,6 +1,5 @@
 // `decoded`: how many bytes were written.
 ghost use Rattle.std.specs.Prelude.{◌≡◌, length};
-ghost use Rattle.entries.specs.Contents.{told_decoded};
 ghost use Rattle.sarridok.specs.Contents.{decoded_answer, decoded_out};
 ghost use Rattle.sarridok_c.specs.Packed.{packed};
 ghost use Rattle.sarridok_c.specs.Words.{count_word};
@@ -9,7 +8,7 @@ use crate::packing::{pair, refused};
 use sarridok::DecodedAnswer;
 
 fn word(answer: DecodedAnswer) -> u64
-    ensures { result ≡ packed count_word (told_decoded answer) }
+    ensures { result ≡ packed count_word (answer) }
 {
     match answer {
         DecodedAnswer::Wrote(count) => pair(0, count as u64),

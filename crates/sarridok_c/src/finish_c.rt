@@ -9,7 +9,6 @@ ghost use Rattle.sarridok_c.specs.inner.Answered.{ended_count, ended_word};
 use crate::lent_state::state_in;
 use crate::packing::refused;
 use sarridok::Ended;
-use stored::Stored;
 use text::Refusal;
 
 fn word(answer: Ended, count: &mut u64) -> u64
@@ -39,7 +38,7 @@ pub fn sarridok_finish(state: &[u32], buffer: &[u8], tape: &mut [u32], count: &m
 {
     let lent = state_in(state);
     match lent {
-        Stored::State(a) => word(sarridok::finish(a, buffer, tape), count),
-        Stored::Unfit => refused(Refusal::not_in_order()),
+        Some(a) => word(sarridok::finish(a, buffer, tape), count),
+        None => refused(Refusal::not_in_order()),
     }
 }

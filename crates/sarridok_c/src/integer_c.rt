@@ -7,18 +7,18 @@ ghost use Rattle.sarridok_c.specs.Numbered.{integer_numbered};
 
 use crate::packing::{bit, pair, refused, unfit_in};
 use integers::width::width_at;
-use sarridok::IntegerAnswer;
+use text::Refusal;
 
-fn word(answer: IntegerAnswer, magnitude: &mut u64) -> u64
+fn word(answer: Result<(Value, usize), Refusal>, magnitude: &mut u64) -> u64
     ensures { (result ≡ packed typed_word (told_integer answer))
         × (magnitude.new ≡ lent_after magnitude_of (told_integer answer) magnitude.old) }
 {
     match answer {
-        IntegerAnswer::Value(value, end) => {
+        Ok((value, end)) => {
             *magnitude = value.magnitude;
             pair(bit(value.minus), end as u64)
         }
-        IntegerAnswer::Refused(refusal) => refused(refusal),
+        Err(refusal) => refused(refusal),
     }
 }
 

@@ -1,18 +1,18 @@
 // `integers`: 0.
 ghost use Rattle.std.specs.Prelude.{◌≡◌, length};
-ghost use Rattle.sarridok.specs.Integers.{told_integers, done, integers_of, magnitudes_after, codes_after};
+ghost use Rattle.sarridok.specs.Integers.{done, integers_of, magnitudes_after, codes_after};
 ghost use Rattle.sarridok_c.specs.Packed.{packed};
 ghost use Rattle.sarridok_c.specs.Words.{done_word};
 
 use crate::packing::refused;
-use sarridok::IntegersAnswer;
+use text::Refusal;
 
-fn word(answer: IntegersAnswer) -> u64
-    ensures { result ≡ packed done_word (told_integers answer) }
+fn word(answer: Result<(), Refusal>) -> u64
+    ensures { result ≡ packed done_word (answer) }
 {
     match answer {
-        IntegersAnswer::Written => 0,
-        IntegersAnswer::Refused(refusal) => refused(refusal),
+        Ok(()) => 0,
+        Err(refusal) => refused(refusal),
     }
 }
 

@@ -3,7 +3,7 @@ ghost use Rattle.std.specs.Prelude.{◌≡◌};
 ghost use Rattle.sarridok_c.specs.Packed.{at_most, pair_of, bit_of, refusal_word, unfit_in};
 
 use text::Refusal;
-use text::judge::{Judged, judge};
+use text::judge::judge;
 
 // A number, or the largest that there is room for.
 fn at_most(most: u64, n: u64) -> u64
@@ -51,7 +51,7 @@ pub fn unfit_in(text: &[u8]) -> Refusal
 {
     let judged = judge(text);
     match judged {
-        Judged::Fit => Refusal::unfit(),
-        Judged::Refused(refusal) => refusal,
+        Ok(()) => Refusal::unfit(),
+        Err(refusal) => refusal,
     }
 }

@@ -9,7 +9,7 @@ ghost use Rattle.sarridok_c.specs.inner.Answered.{arrived_count, arrived_state, 
 use crate::lent_state::state_in;
 use crate::packing::refused;
 use sarridok::Arrived;
-use stored::{Stored, store};
+use stored::store;
 use text::Refusal;
 
 fn word(answer: Arrived, state: &mut [u32], count: &mut u64) -> u64
@@ -51,7 +51,7 @@ pub fn sarridok_piece(
 {
     let lent = state_in(&state[..]);
     match lent {
-        Stored::State(a) => word(sarridok::piece(a, buffer, n, tape), state, count),
-        Stored::Unfit => refused(Refusal::not_in_order()),
+        Some(a) => word(sarridok::piece(a, buffer, n, tape), state, count),
+        None => refused(Refusal::not_in_order()),
     }
 }

@@ -1,6 +1,6 @@
 // `read`: the number of entries.
 ghost use Rattle.std.specs.Prelude.{◌≡◌, length};
-ghost use Rattle.read.specs.Read.{told_read, read_answer, read_tape};
+ghost use Rattle.read.specs.Read.{read_answer, read_tape};
 ghost use Rattle.sarridok_c.specs.Packed.{packed};
 ghost use Rattle.sarridok_c.specs.Words.{count_word};
 
@@ -8,7 +8,7 @@ use crate::packing::{pair, refused};
 use sarridok::ReadAnswer;
 
 fn word(answer: ReadAnswer) -> u64
-    ensures { result ≡ packed count_word (told_read answer) }
+    ensures { result ≡ packed count_word (answer) }
 {
     match answer {
         ReadAnswer::Accepted(count) => pair(0, count as u64),

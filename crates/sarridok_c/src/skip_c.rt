@@ -1,7 +1,7 @@
 // `skip`: the cursor's place; its two other numbers go into lent ones.
 ghost use Rattle.std.specs.Prelude.{◌≡◌};
 ghost use Rattle.cursor.specs.Cursor.{cursor as cursorOf};
-ghost use Rattle.sarridok.specs.Skip.{told_skip, skip_of};
+ghost use Rattle.sarridok.specs.Skip.{skip_of};
 ghost use Rattle.sarridok_c.specs.Packed.{packed, lent_after};
 ghost use Rattle.sarridok_c.specs.Words.{cursor_word, pre_of, length_of};
 
@@ -9,8 +9,8 @@ use crate::packing::{pair, refused};
 use sarridok::{ParserCursor, Step};
 
 fn word(step: Step, pre: &mut u64, len: &mut u64) -> u64
-    ensures { (result ≡ packed cursor_word (told_skip step)) × (pre.new ≡ lent_after pre_of (told_skip step) pre.old)
-        × (len.new ≡ lent_after length_of (told_skip step) len.old) }
+    ensures { (result ≡ packed cursor_word (step)) × (pre.new ≡ lent_after pre_of (step) pre.old)
+        × (len.new ≡ lent_after length_of (step) len.old) }
 {
     match step {
         Step::Moved(c) => {

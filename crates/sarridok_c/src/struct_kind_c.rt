@@ -1,6 +1,5 @@
 // `struct_kind`: the kind by its number.
 ghost use Rattle.std.specs.Prelude.{◌≡◌};
-ghost use Rattle.sarridok.specs.StructKind.{told_struct};
 ghost use Rattle.sarridok_c.specs.Packed.{packed};
 ghost use Rattle.sarridok_c.specs.Words.{kind_word};
 ghost use Rattle.sarridok_c.specs.Numbered.{newtype_at, tuple_at, kind_numbered};
@@ -40,7 +39,7 @@ fn number_of(kind: StructType) -> u64
 }
 
 fn word(answer: StructAnswer) -> u64
-    ensures { result ≡ packed kind_word (told_struct answer) }
+    ensures { result ≡ packed kind_word (answer) }
 {
     match answer {
         StructAnswer::Kind(kind) => number_of(kind),

@@ -1,18 +1,18 @@
 // `walk`: 0.
 ghost use Rattle.std.specs.Prelude.{◌≡◌, length};
-ghost use Rattle.sarridok.specs.Walked.{told_walk, walk_of, links_after};
+ghost use Rattle.sarridok.specs.Walked.{walk_of, links_after};
 ghost use Rattle.sarridok_c.specs.Packed.{packed};
 ghost use Rattle.sarridok_c.specs.Words.{done_word};
 
 use crate::packing::refused;
-use sarridok::WalkAnswer;
+use text::Refusal;
 
-fn word(answer: WalkAnswer) -> u64
-    ensures { result ≡ packed done_word (told_walk answer) }
+fn word(answer: Result<(), Refusal>) -> u64
+    ensures { result ≡ packed done_word (answer) }
 {
     match answer {
-        WalkAnswer::Walked => 0,
-        WalkAnswer::Refused(refusal) => refused(refusal),
+        Ok(()) => 0,
+        Err(refusal) => refused(refusal),
     }
 }
 

@@ -1,6 +1,8 @@
 -- A char, a string and a byte string end between two characters: where one stands in UTF-8, UTF-8 stands behind it.
 --     char-cut, string-cut, byte-string-cut
 -- Assumes nothing.
+use Rattle.std.proofs.Common.{Ok, Err}
+use Rattle.text.specs.Refusals.{Told}
 use Prim.Native.Nat.{ℕ, suc, ◌+◌, ◌<◌, ◌≤◌}
 use native.Mathlib.Omega.{arith}
 use mathlib.Core.Bool.{Bool, true, false, cond, ◌||◌, ◌&&◌}
@@ -27,11 +29,7 @@ use Rattle.strings.specs.Pieces.Body.{closes, next, spoilt, unclosed}
 use Rattle.strings.specs.Quoted.{literal, measured, quoted_of}
 use Rattle.strings.specs.Raw.{hash, raw_end, raw_of}
 use Rattle.strings.specs.Strings.{byte_string_of, string_of}
-use Rattle.strings.specs.declared.chars.CharAnswer.{CharAnswer}
-use Rattle.strings.specs.declared.chars.CharAnswer.TheVariants as char
 use Rattle.strings.specs.declared.literal.Literal.{Literal}
-use Rattle.strings.specs.declared.literal.LiteralAnswer.{LiteralAnswer}
-use Rattle.strings.specs.declared.literal.LiteralAnswer.TheVariants.{Read, Refused}
 
 -- ---- UTF-8 cut at ASCII
 
@@ -51,25 +49,25 @@ cut_behind s n e l h = ascii_behind (get_or s n 0) (drop (n + 1) s) (subst Encod
 -- ---- chars
 
 -- behind the closing quote of a char
-ends_char : (s : List ℕ) (at code n c : ℕ) → Encoded s → char_ends s at code ≡ char.Read n c → Encoded (drop n s)
+ends_char : (s : List ℕ) (at code n c : ℕ) → Encoded s → char_ends s at code ≡ Ok (n, c) → Encoded (drop n s)
 unfolding char_ends
 ends_char s at code n c e =
-    cond_cases (λ (a : CharAnswer). a ≡ char.Read n c → Encoded (drop n s)) (eqb (get_or s at 0) 0x27) _ _
+    cond_cases (λ (a : Told (ℕ × ℕ)). a ≡ Ok (n, c) → Encoded (drop n s)) (eqb (get_or s at 0) 0x27) _ _
     (λ q f. let z : at + 1 ≡ n = cc in
     subst (λ (k : ℕ). Encoded (drop k s)) z (cut_behind s at e (none_here s at 0x27 (omega arith) q) (omega (arith, eqb-true (get_or s at 0) 0x27 q))))
     (λ q f. let z : ◌≡◌ {A = ℕ} 0 1 = cc in absurd (omega arith))
 
 -- the same of a char that is escaped
-escaped_char : (s : List ℕ) (a : EscapeAnswer) (n c : ℕ) → Encoded s → by_char_escape s a ≡ char.Read n c → Encoded (drop n s)
+escaped_char : (s : List ℕ) (a : EscapeAnswer) (n c : ℕ) → Encoded s → by_char_escape s a ≡ Ok (n, c) → Encoded (drop n s)
 escaped_char s (Ascii b k) n c e f = ends_char s (2 + k) b n c e f
 escaped_char s (Utf8 d k) n c e f = ends_char s (2 + k) d n c e f
 escaped_char s (NoEscape r) n c e f = let z : ◌≡◌ {A = ℕ} 0 1 = cc in absurd (omega arith)
 
 -- UTF-8 stands behind a char
-pub char_cut : (s : List ℕ) (n c : ℕ) → Encoded s → char_of s ≡ char.Read n c → Encoded (drop n s)
+pub char_cut : (s : List ℕ) (n c : ℕ) → Encoded s → char_of s ≡ Ok (n, c) → Encoded (drop n s)
 unfolding char_of
 char_cut s n c e =
-    let P : CharAnswer → Type 0 = λ a. a ≡ char.Read n c → Encoded (drop n s) in
+    let P : Told (ℕ × ℕ) → Type 0 = λ a. a ≡ Ok (n, c) → Encoded (drop n s) in
     cond_cases P (eqb (get_or s 0 0) 0x27) _ _
     (λ q. cond_cases P (eqb (length s) 1) _ _ (λ r f. let z : ◌≡◌ {A = ℕ} 0 1 = cc in absurd (omega arith))
     (λ r. cond_cases P (eqb (get_or s 1 0) 0x5C) _ _ (λ t f. escaped_char s (escape_of Char (drop 2 s)) n c e f) (λ t f. ends_char s _ _ n c e f)))
@@ -82,7 +80,7 @@ record Quote (s : List ℕ) (l : Literal) : Type 0 where
   there : get_or s l.end 0 ≡ 0x22
   behind : l.len ≡ l.end + 1
 
-measured_quote : (s : List ℕ) (b : Body) (start from at dec : ℕ) (esc : Bool) (l : Literal) → Whole (drop at s) b → measured b start from at dec esc ≡ Read l → Quote s l
+measured_quote : (s : List ℕ) (b : Body) (start from at dec : ℕ) (esc : Bool) (l : Literal) → Whole (drop at s) b → measured b start from at dec esc ≡ Ok l → Quote s l
 unfolding measured
 measured_quote s closes start from at dec esc l w e =
     let q : literal (at + 1) start at dec esc ≡ l = cc in
@@ -93,10 +91,10 @@ measured_quote s (next n bytes changed rest) start from at dec esc l w e =
     measured_quote s rest start (cond changed (at + n) from) (at + n) (dec + length bytes) (esc || changed) l (subst (λ (t : List ℕ). Whole t rest) (drop-drop n at s) w.4) e
 
 -- UTF-8 stands behind a quoted string
-quoted_cut : (m : Mode) (start : ℕ) (s : List ℕ) (l : Literal) → Encoded s → quoted_of m start s ≡ Read l → Encoded (drop l.len s)
+quoted_cut : (m : Mode) (start : ℕ) (s : List ℕ) (l : Literal) → Encoded s → quoted_of m start s ≡ Ok l → Encoded (drop l.len s)
 unfolding quoted_of
 quoted_cut m start s l e =
-    cond_cases (λ (a : LiteralAnswer). a ≡ Read l → Encoded (drop l.len s)) (ltb (run unquoted (drop start s)) (length (drop start s))) _ _
+    cond_cases (λ (a : Told Literal). a ≡ Ok l → Encoded (drop l.len s)) (ltb (run unquoted (drop start s)) (length (drop start s))) _ _
     (λ t f. let q = measured_quote s (body_of m (drop start s)) start start start 0 false l (whole_body m (drop start s)) f in
     let z = q.there in
     rw q.behind (cut_behind s l.end e (none_here s l.end 0x22 (omega arith) (ap (λ (x : ℕ). eqb x 0x22) z)) (omega arith)))
@@ -118,10 +116,10 @@ hash_ascii : (b : ℕ) → hash b ≡ true → ascii b ≡ true
 hash_ascii b e = lt-ltb b 0x80 (omega (arith, eqb-true b 0x23 e))
 
 -- UTF-8 stands behind a raw string
-raw_cut : (m : Mode) (start : ℕ) (s : List ℕ) (l : Literal) → Encoded s → raw_of m start s ≡ Read l → Encoded (drop l.len s)
+raw_cut : (m : Mode) (start : ℕ) (s : List ℕ) (l : Literal) → Encoded s → raw_of m start s ≡ Ok l → Encoded (drop l.len s)
 unfolding raw_of
 raw_cut m start s l e =
-    let P : LiteralAnswer → Type 0 = λ a. a ≡ Read l → Encoded (drop l.len s) in
+    let P : Told Literal → Type 0 = λ a. a ≡ Ok l → Encoded (drop l.len s) in
     let h = run hash (drop start s) in
     let body = start + h + 1 in
     let k = raw_end h (drop body s) in
@@ -135,30 +133,30 @@ raw_cut m start s l e =
     let r : drop (k + 1) (drop body s) ≡ drop (end + 1) s = drop-drop (k + 1) body s ∙ ap (λ (x : ℕ). drop x s) w in
     let n : h ≤ run ascii (drop (end + 1) s) = omega (arith, c.1, run_wider hash ascii hash_ascii (drop (k + 1) (drop body s)), ap (run ascii) r) in
     let d : Encoded (drop h (drop (end + 1) s)) = encoded_behind h (drop (end + 1) s) (cut_behind s end e lt (omega arith)) n in
-    let z : end + 1 + h ≡ l.len = ap (λ (a : LiteralAnswer). length_of a) f in
+    let z : end + 1 + h ≡ l.len = ap (λ (a : Told Literal). length_of a) f in
     subst Encoded (drop-drop h (end + 1) s ∙ ap (λ (x : ℕ). drop x s) z) d)
     (λ t f. let z : ◌≡◌ {A = ℕ} 0 1 = cc in absurd (omega arith)))
     (λ q f. let z : ◌≡◌ {A = ℕ} 0 1 = cc in absurd (omega arith))
   where
-    length_of : LiteralAnswer → ℕ
-    length_of (Read l) = l.len
-    length_of (Refused r) = 0
+    length_of : Told Literal → ℕ
+    length_of (Ok l) = l.len
+    length_of (Err r) = 0
 
 -- ---- strings and byte strings
 
 -- UTF-8 stands behind a string
-pub string_cut : (s : List ℕ) (l : Literal) → Encoded s → string_of s ≡ Read l → Encoded (drop l.len s)
+pub string_cut : (s : List ℕ) (l : Literal) → Encoded s → string_of s ≡ Ok l → Encoded (drop l.len s)
 unfolding string_of
 string_cut s l e =
-    let P : LiteralAnswer → Type 0 = λ a. a ≡ Read l → Encoded (drop l.len s) in
+    let P : Told Literal → Type 0 = λ a. a ≡ Ok l → Encoded (drop l.len s) in
     cond_cases P (eqb (get_or s 0 0) 0x22) _ _ (λ q f. quoted_cut Str 1 s l e f)
     (λ q. cond_cases P (eqb (get_or s 0 0) 0x72) _ _ (λ r f. raw_cut Str 1 s l e f) (λ r f. let z : ◌≡◌ {A = ℕ} 0 1 = cc in absurd (omega arith)))
 
 -- and behind a byte string
-pub byte_string_cut : (s : List ℕ) (l : Literal) → Encoded s → byte_string_of s ≡ Read l → Encoded (drop l.len s)
+pub byte_string_cut : (s : List ℕ) (l : Literal) → Encoded s → byte_string_of s ≡ Ok l → Encoded (drop l.len s)
 unfolding byte_string_of
 byte_string_cut s l e =
-    let P : LiteralAnswer → Type 0 = λ a. a ≡ Read l → Encoded (drop l.len s) in
+    let P : Told Literal → Type 0 = λ a. a ≡ Ok l → Encoded (drop l.len s) in
     cond_cases P (eqb (get_or s 0 0) 0x62) _ _
     (λ p. cond_cases P (eqb (get_or s 1 0) 0x22) _ _ (λ q f. quoted_cut Bytes 2 s l e f)
     (λ q. cond_cases P (eqb (get_or s 1 0) 0x72) _ _ (λ r f. raw_cut Bytes 2 s l e f) (λ r f. let z : ◌≡◌ {A = ℕ} 0 1 = cc in absurd (omega arith))))

@@ -1,4 +1,5 @@
 -- A gap ends between two characters: where it stands in UTF-8, UTF-8 stands behind it (`gap-cut`). Assumes nothing.
+use Rattle.std.proofs.Common.{Some, None, Option}
 use Prim.Native.Nat.{ℕ, zero, suc, pred, ◌+◌, ◌<◌, ◌≤◌}
 use native.Mathlib.Omega.{arith}
 use mathlib.Core.Bool.{Bool, true, false, cond}
@@ -22,8 +23,6 @@ use Rattle.comments.specs.Blocks.Body.{closes, nests, passes}
 use Rattle.comments.specs.Blocks.Mark.{Closes, Neither, Opens}
 use Rattle.comments.specs.Gaps.{behind_slash, block_item, by_item, comment_of, gap_from, gap_of, item_of, line_item}
 use Rattle.comments.specs.Lines.{line_end, line_from}
-use Rattle.comments.specs.declared.block.CommentEnd.{CommentEnd}
-use Rattle.comments.specs.declared.block.CommentEnd.TheVariants.{Closed, Unclosed}
 use Rattle.comments.specs.declared.gap.Gap.{Gap}
 use Rattle.comments.specs.declared.gap.Gap.TheVariants.{Clear, InLine, Refused}
 use Rattle.comments.specs.declared.gap.Item.{Item}
@@ -44,13 +43,13 @@ blank_cut (next c {s} sc e) n h l =
 -- ---- comments
 
 -- a line comment ends at a LF
-line_lf : (s : List ℕ) (at k : ℕ) → line_from s at ≡ Closed k → (n : ℕ) × (k ≡ at + n) × (get_or s n 0 ≡ 0x0a)
+line_lf : (s : List ℕ) (at k : ℕ) → line_from s at ≡ Some k → (n : ℕ) × (k ≡ at + n) × (get_or s n 0 ≡ 0x0a)
 unfolding line_from
 line_lf [] at k h = let z : ◌≡◌ {A = ℕ} 0 1 = cc in absurd (omega arith)
 line_lf (a ∷ s) at k h = go (eqb a 0x0a) refl h (line_lf s (at + 1) k)
   where
-    go : (t : Bool) → eqb a 0x0a ≡ t → cond t (Closed at) (line_from s (at + 1)) ≡ Closed k
-        → (line_from s (at + 1) ≡ Closed k → (n : ℕ) × (k ≡ at + 1 + n) × (get_or s n 0 ≡ 0x0a)) → (n : ℕ) × (k ≡ at + n) × (get_or (a ∷ s) n 0 ≡ 0x0a)
+    go : (t : Bool) → eqb a 0x0a ≡ t → ◌≡◌ {A = Option ℕ} (cond t (Some at) (line_from s (at + 1))) (Some k)
+        → (line_from s (at + 1) ≡ Some k → (n : ℕ) × (k ≡ at + 1 + n) × (get_or s n 0 ≡ 0x0a)) → (n : ℕ) × (k ≡ at + n) × (get_or (a ∷ s) n 0 ≡ 0x0a)
     go true e h f = let z : at ≡ k = cc in (0, omega arith, eqb-true a 0x0a e)
     go false e h f = let r = f h in (suc r.0, omega (arith, r.1), r.2)
 
@@ -93,23 +92,23 @@ Leaves s Ended = Unit {0}
 Leaves s Other = Unit {0}
 
 -- a line comment does
-line_leaves : (a b : ℕ) (s : List ℕ) (r : CommentEnd) → Encoded (a ∷ b ∷ s) → line_from s 0 ≡ r → Leaves (a ∷ b ∷ s) (line_item r)
-line_leaves a b s (Closed k) e h =
+line_leaves : (a b : ℕ) (s : List ℕ) (r : Option ℕ) → Encoded (a ∷ b ∷ s) → line_from s 0 ≡ r → Leaves (a ∷ b ∷ s) (line_item r)
+line_leaves a b s (Some k) e h =
     let f = line_lf s 0 k h in
     let z : k + 2 ≡ suc (suc f.0) = omega (arith, f.1) in
     rw z (cut_at (a ∷ b ∷ s) (suc (suc f.0)) e (omega (arith, f.2)))
-line_leaves a b s Unclosed e h = tt
+line_leaves a b s None e h = tt
 
 -- a block comment does
-block_leaves : (a b : ℕ) (s : List ℕ) (r : CommentEnd) → Encoded (a ∷ b ∷ s) → block_end s ≡ r → Leaves (a ∷ b ∷ s) (block_item r)
-block_leaves a b s (Closed k) e h =
+block_leaves : (a b : ℕ) (s : List ℕ) (r : Option ℕ) → Encoded (a ∷ b ∷ s) → block_end s ≡ r → Leaves (a ∷ b ∷ s) (block_item r)
+block_leaves a b s (Some k) e h =
     let f = body_slash (ends_body s k h) in
     let n = suc (suc f.0) in
     let d : Encoded (drop (n + 1) (a ∷ b ∷ s)) = cut_behind (a ∷ b ∷ s) n e (omega (arith, f.1)) (omega (arith, f.3)) in
     let i : n + 1 ≡ suc (suc (f.0 + 1)) = omega arith in
     let j : k + 2 ≡ suc (suc k) = omega arith in
     rw j (subst Encoded (ap (λ (x : ℕ). drop x (a ∷ b ∷ s)) i ∙ sym f.2) d)
-block_leaves a b s Unclosed e h = tt
+block_leaves a b s None e h = tt
 
 comment_leaves : (s : List ℕ) → Encoded s → Leaves s (comment_of s)
 unfolding comment_of behind_slash line_end

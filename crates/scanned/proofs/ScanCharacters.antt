@@ -1,4 +1,7 @@
 -- The scan by bytes is the scan by characters wherever the text is UTF-8 (`scan-characters`). Assumes nothing.
+use Rattle.std.proofs.Common.{Ok, Err}
+use Rattle.text.specs.Refusals.{Told}
+use Rattle.structs.specs.declared.kinds.StructType.{StructType}
 use Prim.Native.Nat.{ℕ, zero, suc, pred, ◌+◌, ◌-◌, ◌/◌, ◌%◌, ◌<◌, ◌≤◌}
 use native.Mathlib.Nat.{add-zero, le_of_suc-le-suc, not-suc-le-zero}
 use native.Mathlib.Omega.{arith}
@@ -20,11 +23,7 @@ use Rattle.scanned.proofs.Spurious.{Cut, marked_wide, spurious_cut, tail_step}
 use Rattle.scanned.specs.Characters.{scan_chars_from, scan_chars_of, step_chars}
 use Rattle.structs.specs.Kinds.{placed_kind}
 use Rattle.structs.specs.Scan.{after_comma, by_step, marked_by, past_spurious, scan_from, scan_of, step_of}
-use Rattle.structs.specs.declared.kinds.StructAnswer.{StructAnswer}
-use Rattle.structs.specs.declared.kinds.StructAnswer.TheVariants as answer
 use Rattle.structs.specs.declared.kinds.StructType.TheVariants as kind
-use Rattle.structs.specs.declared.passes.Passed.{Passed}
-use Rattle.structs.specs.declared.passes.Passed.TheVariants as passed
 use Rattle.structs.specs.declared.steps.Step.{Step}
 use Rattle.structs.specs.declared.steps.Step.TheVariants.{Closing, Comma, Opening, Plain, Refused}
 
@@ -100,25 +99,25 @@ tails_passed (a ∷ l) r b at h =
 -- ---- one step
 
 -- a step of k bytes, where the scan goes on alike behind them
-marked_same : (c k b : ℕ) (f g : ℕ → ℕ → StructAnswer) (comma : ℕ → StructAnswer) (at : ℕ) → ((level : ℕ) → f k level ≡ g k level) → by_step (marked_by c k) b f comma at ≡ by_step (marked_by c k) b g comma at
+marked_same : (c k b : ℕ) (f g : ℕ → ℕ → Told StructType) (comma : ℕ → Told StructType) (at : ℕ) → ((level : ℕ) → f k level ≡ g k level) → by_step (marked_by c k) b f comma at ≡ by_step (marked_by c k) b g comma at
 unfolding marked_by
 marked_same c k b f g comma at h =
     let P : Step → Type 0 = λ x. by_step x b f comma at ≡ by_step x b g comma at in
     cond_cases P (one_of (0x28 ∷ 0x5B ∷ 0x7B ∷ []) c) (Opening k) _ (λ e. h (b + 1))
-    (λ e. cond_cases P (one_of (0x29 ∷ 0x5D ∷ 0x7D ∷ []) c) (Closing k) _ (λ e. ap (λ (x : StructAnswer). cond (eqb (b - 1) 0) (answer.Kind kind.NewtypeTuple) x) (h (b - 1)))
+    (λ e. cond_cases P (one_of (0x29 ∷ 0x5D ∷ 0x7D ∷ []) c) (Closing k) _ (λ e. ap (λ (x : Told StructType). cond (eqb (b - 1) 0) (Ok kind.NewtypeTuple) x) (h (b - 1)))
     (λ e. cond_cases P (eqb c 0x2C) (Comma k) (Plain k) (λ e. ap (cond (eqb b 1) (comma k)) (h b)) (λ e. h b)))
 
 -- what both steps are, by the place that was reached
 module _ (t : List ℕ) where
-  byte_refused : (r : _) → past_spurious t ≡ passed.Refused r → step_of t ≡ Refused r
+  byte_refused : (r : _) → past_spurious t ≡ Err r → step_of t ≡ Refused r
   unfolding step_of
   byte_refused r h = rw h
 
-  char_refused : (r : _) → past_spurious t ≡ passed.Refused r → step_chars t ≡ Refused r
+  char_refused : (r : _) → past_spurious t ≡ Err r → step_chars t ≡ Refused r
   unfolding step_chars
   char_refused r h = rw h
 
-  module _ (n : ℕ) (h : past_spurious t ≡ passed.To n) where
+  module _ (n : ℕ) (h : past_spurious t ≡ Ok n) where
     byte_ended : length t ≤ n → step_of t ≡ Refused (eof n)
     unfolding step_of
     byte_ended l = rw (h, le-ltb n (length t) l)
@@ -139,7 +138,7 @@ module _ (t : List ℕ) where
 
 module _ (a : ℕ) (s : List ℕ) (b at : ℕ)
     (on : (n level : ℕ) → 0 < n → Encoded (drop n (a ∷ s)) → scan_from (drop n (a ∷ s)) 0 level (at + n) ≡ scan_chars_from (drop n (a ∷ s)) 0 level (at + n)) where
-  abbrev comma : ℕ → StructAnswer
+  abbrev comma : ℕ → Told StructType
   comma n = placed_kind (at + n) (after_comma (drop n (a ∷ s)))
 
   byte_by : (x : Step) → step_of (a ∷ s) ≡ x → scan_from (a ∷ s) 0 b at ≡ by_step x b (λ n level. scan_from s (pred n) level (at + 1)) comma at
@@ -151,7 +150,7 @@ module _ (a : ℕ) (s : List ℕ) (b at : ℕ)
   char_by x h = ap (λ (y : Step). by_step y b (λ n level. scan_chars_from s (pred n) level (at + 1)) comma at) h
 
   -- a character of ASCII is one byte in both; of any other the scan by bytes passes the bytes one by one
-  by_first : (n : ℕ) → past_spurious (a ∷ s) ≡ passed.To n → n < length (a ∷ s) → First (drop n (a ∷ s)) → scan_from (a ∷ s) 0 b at ≡ scan_chars_from (a ∷ s) 0 b at
+  by_first : (n : ℕ) → past_spurious (a ∷ s) ≡ Ok n → n < length (a ∷ s) → First (drop n (a ∷ s)) → scan_from (a ∷ s) 0 b at ≡ scan_chars_from (a ∷ s) 0 b at
   by_first n h l (ascii c r q hc code len e) =
       let t = a ∷ s in
       let x : get_or t n 0 ≡ c = sym (head_at t n) ∙ ap (λ (u : List ℕ). get_or u 0 0) q in
@@ -184,9 +183,9 @@ module _ (a : ℕ) (s : List ℕ) (b at : ℕ)
       ∙ on k b (omega arith) (subst Encoded rest e)
       ∙ sym (char_by (Plain k) cs ∙ chars_behind a s k b at (omega arith) fits)
 
-  by_passed : (p : Passed) → past_spurious (a ∷ s) ≡ p → Cut (a ∷ s) p → scan_from (a ∷ s) 0 b at ≡ scan_chars_from (a ∷ s) 0 b at
-  by_passed (passed.Refused r) h c = byte_by (Refused r) (byte_refused (a ∷ s) r h) ∙ sym (char_by (Refused r) (char_refused (a ∷ s) r h))
-  by_passed (passed.To n) h c =
+  by_passed : (p : Told ℕ) → past_spurious (a ∷ s) ≡ p → Cut (a ∷ s) p → scan_from (a ∷ s) 0 b at ≡ scan_chars_from (a ∷ s) 0 b at
+  by_passed (Err r) h c = byte_by (Refused r) (byte_refused (a ∷ s) r h) ∙ sym (char_by (Refused r) (char_refused (a ∷ s) r h))
+  by_passed (Ok n) h c =
       either (lt_or_le n (length (a ∷ s))) (λ l. by_first n h l (first c (omega (arith, length-drop n (a ∷ s)))))
       (λ l. byte_by (Refused (eof n)) (byte_ended (a ∷ s) n h l) ∙ sym (char_by (Refused (eof n)) (char_ended (a ∷ s) n h l)))
 

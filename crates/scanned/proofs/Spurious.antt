@@ -1,5 +1,7 @@
 -- What is passed over before a step ends between two characters (`spurious-cut`), and at a byte inside a character nothing is passed over (`tail_step`).
 -- Assumes nothing.
+use Rattle.std.proofs.Common.{Ok, Err}
+use Rattle.text.specs.Refusals.{Told}
 use Prim.Native.Nat.{ℕ, ◌+◌, ◌≤◌}
 use native.Mathlib.Nat.{le_refl}
 use native.Mathlib.Omega.{arith}
@@ -21,26 +23,20 @@ use Rattle.comments.specs.declared.gap.Gap.TheVariants as gap
 use Rattle.comments.specs.declared.gap.Item.TheVariants.{Other}
 use Rattle.strings.specs.Chars.{char_of}
 use Rattle.strings.specs.Strings.{byte_string_of, string_of}
-use Rattle.strings.specs.declared.chars.CharAnswer.{CharAnswer}
-use Rattle.strings.specs.declared.chars.CharAnswer.TheVariants as char
 use Rattle.strings.specs.declared.literal.Literal.{Literal}
-use Rattle.strings.specs.declared.literal.LiteralAnswer.{LiteralAnswer}
-use Rattle.strings.specs.declared.literal.LiteralAnswer.TheVariants as literal
 use Rattle.scanned.proofs.Boundaries.{byte_string_cut, char_cut, string_cut}
 use Rattle.scanned.proofs.GapBoundaries.{Behind, gap_cut}
 use Rattle.structs.proofs.PassLaws.{past-byte-string, past-char, past-gap, past-string}
 use Rattle.structs.specs.Passes.{behind_char, behind_gap, behind_literal, past_byte_string, past_char, past_gap, past_string}
 use Rattle.structs.specs.Scan.{marked_by, past_spurious, step_of}
-use Rattle.structs.specs.declared.passes.Passed.{Passed}
-use Rattle.structs.specs.declared.passes.Passed.TheVariants.{To, Refused}
 use Rattle.structs.specs.declared.steps.Step.TheVariants.{Plain}
 
 -- ---- between two characters
 
 -- UTF-8 stands at a place that was reached
-abbrev pub Cut : List ℕ → Passed → Type 0
-Cut s (To n) = Encoded (drop n s)
-Cut s (Refused r) = Unit {0}
+abbrev pub Cut : List ℕ → Told ℕ → Type 0
+Cut s (Ok n) = Encoded (drop n s)
+Cut s (Err r) = Unit {0}
 
 module _ (s : List ℕ) (at : ℕ) where
   on : (n : ℕ) → Encoded (drop n (drop at s)) → Encoded (drop (at + n) s)
@@ -51,40 +47,40 @@ module _ (s : List ℕ) (at : ℕ) where
   gap_by (gap.InLine n) h = on n h
   gap_by (gap.Refused r) h = tt
 
-  char_by : (a : CharAnswer) → char_of (drop at s) ≡ a → Encoded (drop at s) → Cut s (behind_char at a)
-  char_by (char.Read n c) q e = on n (char_cut (drop at s) n c e q)
-  char_by (char.Refused r) q e = e
+  char_by : (a : Told (ℕ × ℕ)) → char_of (drop at s) ≡ a → Encoded (drop at s) → Cut s (behind_char at a)
+  char_by (Ok (n, c)) q e = on n (char_cut (drop at s) n c e q)
+  char_by (Err r) q e = e
 
-  literal_by : (none : ℕ) (a : LiteralAnswer) → Encoded (drop at s) → ((l : Literal) → a ≡ literal.Read l → Encoded (drop l.len (drop at s))) → Cut s (behind_literal none at a)
-  literal_by none (literal.Read l) e h = on l.len (h l refl)
-  literal_by none (literal.Refused r) e h = cond_cases (Cut s) (eqb r.number none) (To at) (Refused (placed_behind at r)) (λ q. e) (λ q. tt)
+  literal_by : (none : ℕ) (a : Told Literal) → Encoded (drop at s) → ((l : Literal) → a ≡ Ok l → Encoded (drop l.len (drop at s))) → Cut s (behind_literal none at a)
+  literal_by none (Ok l) e h = on l.len (h l refl)
+  literal_by none (Err r) e h = cond_cases (Cut s) (eqb r.number none) (Ok at) (Err (placed_behind at r)) (λ q. e) (λ q. tt)
 
 module _ (s : List ℕ) where
   -- each of the five keeps it
-  pub past_gap_cut : (p : Passed) → Cut s p → Cut s (past_gap s p)
+  pub past_gap_cut : (p : Told ℕ) → Cut s p → Cut s (past_gap s p)
   unfolding past_gap
-  past_gap_cut (To at) e = gap_by s at (gap_of (drop at s)) (gap_cut (drop at s) e)
-  past_gap_cut (Refused r) e = tt
+  past_gap_cut (Ok at) e = gap_by s at (gap_of (drop at s)) (gap_cut (drop at s) e)
+  past_gap_cut (Err r) e = tt
 
-  past_char_cut : (p : Passed) → Cut s p → Cut s (past_char s p)
+  past_char_cut : (p : Told ℕ) → Cut s p → Cut s (past_char s p)
   unfolding past_char
-  past_char_cut (To at) e = char_by s at (char_of (drop at s)) refl e
-  past_char_cut (Refused r) e = tt
+  past_char_cut (Ok at) e = char_by s at (char_of (drop at s)) refl e
+  past_char_cut (Err r) e = tt
 
-  past_string_cut : (p : Passed) → Cut s p → Cut s (past_string s p)
+  past_string_cut : (p : Told ℕ) → Cut s p → Cut s (past_string s p)
   unfolding past_string
-  past_string_cut (To at) e = literal_by s at 16 (string_of (drop at s)) e (λ l q. string_cut (drop at s) l e q)
-  past_string_cut (Refused r) e = tt
+  past_string_cut (Ok at) e = literal_by s at 16 (string_of (drop at s)) e (λ l q. string_cut (drop at s) l e q)
+  past_string_cut (Err r) e = tt
 
-  past_byte_string_cut : (p : Passed) → Cut s p → Cut s (past_byte_string s p)
+  past_byte_string_cut : (p : Told ℕ) → Cut s p → Cut s (past_byte_string s p)
   unfolding past_byte_string
-  past_byte_string_cut (To at) e = literal_by s at 18 (byte_string_of (drop at s)) e (λ l q. byte_string_cut (drop at s) l e q)
-  past_byte_string_cut (Refused r) e = tt
+  past_byte_string_cut (Ok at) e = literal_by s at 18 (byte_string_of (drop at s)) e (λ l q. byte_string_cut (drop at s) l e q)
+  past_byte_string_cut (Err r) e = tt
 
   -- and so do all five
   pub spurious_cut : Encoded s → Cut s (past_spurious s)
   unfolding past_spurious
-  spurious_cut e = past_gap_cut _ (past_byte_string_cut _ (past_string_cut _ (past_char_cut _ (past_gap_cut (To 0) e))))
+  spurious_cut e = past_gap_cut _ (past_byte_string_cut _ (past_string_cut _ (past_char_cut _ (past_gap_cut (Ok 0) e))))
 
 -- ---- inside a character
 
@@ -110,27 +106,27 @@ module _ (a : ℕ) (s : List ℕ) (h : Tail a) where
       let w : 0 ≡ blank_width a (get_or s 0 0) (get_or s 1 0) = sym (blank_wide a (get_or s 0 0) (get_or s 1 0) h.0 ∙ rw (ne_eqb a 0xc2 (λ q. omega (arith, h.1)), ne_eqb a 0xe2 (λ q. omega (arith, h.1)))) in
       gap_ends (a ∷ s) 0 Other (omega arith) (item_comment (a ∷ s) 0 w (le_refl 0) ∙ comment_other (a ∷ s) (omega arith) (λ q. omega (arith, h.0)))
 
-  no_char : char_of (a ∷ s) ≡ char.Refused (expected_char 0)
+  no_char : char_of (a ∷ s) ≡ Err (expected_char 0)
   unfolding char_of
   no_char = rw (ne_eqb a 0x27 (λ q. omega (arith, h.0)))
 
-  no_string : string_of (a ∷ s) ≡ literal.Refused (expected_string 0)
+  no_string : string_of (a ∷ s) ≡ Err (expected_string 0)
   unfolding string_of
   no_string = rw (ne_eqb a 0x22 (λ q. omega (arith, h.0)), ne_eqb a 0x72 (λ q. omega (arith, h.0)))
 
-  no_byte_string : byte_string_of (a ∷ s) ≡ literal.Refused (expected_byte_string 0)
+  no_byte_string : byte_string_of (a ∷ s) ≡ Err (expected_byte_string 0)
   unfolding byte_string_of
   no_byte_string = rw (ne_eqb a 0x62 (λ q. omega (arith, h.0)))
 
-  nothing_passed : past_spurious (a ∷ s) ≡ To 0
+  nothing_passed : past_spurious (a ∷ s) ≡ Ok 0
   unfolding past_spurious
   nothing_passed =
       let t = a ∷ s in
-      let p1 : past_gap t (To 0) ≡ To 0 = past-gap t (To 0) 0 refl (gap.Clear 0) no_gap in
-      let p2 : past_char t (past_gap t (To 0)) ≡ To 0 = past-char t (past_gap t (To 0)) 0 p1 (char.Refused (expected_char 0)) no_char in
-      let p3 = past-string t (past_char t (past_gap t (To 0))) 0 p2 (literal.Refused (expected_string 0)) no_string in
-      let p4 = past-byte-string t (past_string t (past_char t (past_gap t (To 0)))) 0 p3 (literal.Refused (expected_byte_string 0)) no_byte_string in
-      past-gap t (past_byte_string t (past_string t (past_char t (past_gap t (To 0))))) 0 p4 (gap.Clear 0) no_gap
+      let p1 : past_gap t (Ok 0) ≡ Ok 0 = past-gap t (Ok 0) 0 refl (gap.Clear 0) no_gap in
+      let p2 : past_char t (past_gap t (Ok 0)) ≡ Ok 0 = past-char t (past_gap t (Ok 0)) 0 p1 (Err (expected_char 0)) no_char in
+      let p3 = past-string t (past_char t (past_gap t (Ok 0))) 0 p2 (Err (expected_string 0)) no_string in
+      let p4 = past-byte-string t (past_string t (past_char t (past_gap t (Ok 0)))) 0 p3 (Err (expected_byte_string 0)) no_byte_string in
+      past-gap t (past_byte_string t (past_string t (past_char t (past_gap t (Ok 0))))) 0 p4 (gap.Clear 0) no_gap
 
   -- a step there is that byte
   pub tail_step : step_of (a ∷ s) ≡ Plain 1

@@ -1,5 +1,8 @@
 -- A struct kind is the same, whether the scan takes a byte a step or a character (`struct-characters`): the scan begins between two characters. Assumes
 -- nothing.
+use Rattle.std.proofs.Common.{Ok, Err}
+use Rattle.text.specs.Refusals.{Told}
+use Rattle.structs.specs.declared.kinds.StructType.{StructType}
 use Prim.Native.Nat.{ℕ, ◌+◌}
 use native.Mathlib.Omega.{arith}
 use mathlib.Core.Bool.{Bool, cond, false, true}
@@ -26,18 +29,14 @@ use Rattle.structs.specs.Scan.{after_comma}
 use Rattle.structs.specs.Structs.{after_name, by_name, inside_brackets, decided, inside_newtype, parenthesized, reached, struct_type_of, undecided_of, unless_empty}
 use Rattle.structs.specs.declared.kinds.NewtypeMode.{NewtypeMode}
 use Rattle.structs.specs.declared.kinds.NewtypeMode.TheVariants.{InsideNewtype, NoParensMeanUnit}
-use Rattle.structs.specs.declared.kinds.StructAnswer.{StructAnswer}
-use Rattle.structs.specs.declared.kinds.StructAnswer.TheVariants.{Kind}
 use Rattle.structs.specs.declared.kinds.StructType.TheVariants as kind
 use Rattle.structs.specs.declared.kinds.TupleMode.{TupleMode}
 use Rattle.structs.specs.declared.kinds.TupleMode.TheVariants.{DifferentiateNewtype, ImpreciseTupleOrNewtype}
-use Rattle.structs.specs.declared.passes.Passed.{Passed}
-use Rattle.structs.specs.declared.passes.Passed.TheVariants as passed
 
 -- from a place that was reached between two characters
-reached_same : (s : List ℕ) (p : Passed) (f g : ℕ → StructAnswer) → Cut s p → ((i : ℕ) → Encoded (drop i s) → f i ≡ g i) → reached p f ≡ reached p g
-reached_same s (passed.To i) f g c h = h i c
-reached_same s (passed.Refused r) f g c h = refl
+reached_same : (s : List ℕ) (p : Told ℕ) (f g : ℕ → Told StructType) → Cut s p → ((i : ℕ) → Encoded (drop i s) → f i ≡ g i) → reached p f ≡ reached p g
+reached_same s (Ok i) f g c h = h i c
+reached_same s (Err r) f g c h = refl
 
 module _ (s : List ℕ) (tuple : TupleMode) where
   undecided_same : (mode : TupleMode) (at : ℕ) → Encoded (drop at s) → undecided_of mode s at ≡ undecided_by scan_chars_of tuple s mode at
@@ -47,12 +46,12 @@ module _ (s : List ℕ) (tuple : TupleMode) where
   decided_same : (i : ℕ) → Encoded (drop i s) → decided tuple s i ≡ decided_by scan_chars_of tuple s i
   unfolding decided
   decided_same i e =
-      ap (λ (x : StructAnswer). cond (eqb (get_or s i 0) 0x3A) (Kind kind.Named)
-      (cond (eqb (get_or s i 0) 0x2C) (placed_kind (i + 1) (after_comma (drop (i + 1) s))) (cond (eqb (get_or s i 0) 0x29) (Kind kind.NewtypeTuple) x))) (undecided_same tuple i e)
+      ap (λ (x : Told StructType). cond (eqb (get_or s i 0) 0x3A) (Ok kind.Named)
+      (cond (eqb (get_or s i 0) 0x2C) (placed_kind (i + 1) (after_comma (drop (i + 1) s))) (cond (eqb (get_or s i 0) 0x29) (Ok kind.NewtypeTuple) x))) (undecided_same tuple i e)
 
-  after_same : (at : ℕ) → Encoded (drop at s) → after_name tuple s at ≡ reached (past_gap s (passed.To at)) (decided_by scan_chars_of tuple s)
+  after_same : (at : ℕ) → Encoded (drop at s) → after_name tuple s at ≡ reached (past_gap s (Ok at)) (decided_by scan_chars_of tuple s)
   unfolding after_name
-  after_same at e = reached_same s (past_gap s (passed.To at)) (decided tuple s) (decided_by scan_chars_of tuple s) (past_gap_cut s (passed.To at) e) decided_same
+  after_same at e = reached_same s (past_gap s (Ok at)) (decided tuple s) (decided_by scan_chars_of tuple s) (past_gap_cut s (Ok at) e) decided_same
 
   name_same : (x : Identifier) (at : ℕ) → Encoded (drop at s) → Rest (drop at s) x → by_name x tuple s at ≡ name_by scan_chars_of tuple s x at
   name_same name.Missing at e r = undecided_same tuple at e
@@ -65,17 +64,17 @@ module _ (s : List ℕ) (tuple : TupleMode) where
 
   empty_same : (i : ℕ) → Encoded (drop i s) → unless_empty tuple s i ≡ unless_empty_by scan_chars_of tuple s i
   unfolding unless_empty
-  empty_same i e = ap (cond (eqb (get_or s i 0) 0x29) (Kind kind.EmptyTuple)) (contents_same i e)
+  empty_same i e = ap (cond (eqb (get_or s i 0) 0x29) (Ok kind.EmptyTuple)) (contents_same i e)
 
   -- the whole answer
   pub struct_characters : (newtype : NewtypeMode) → Encoded s → struct_type_of s newtype tuple ≡ struct_type_chars s newtype tuple
   unfolding struct_type_of struct_type_chars parenthesized inside_newtype
   struct_characters NoParensMeanUnit e = go (eqb (get_or s 0 0) 0x28) refl
     where
-      go : (t : Bool) → eqb (get_or s 0 0) 0x28 ≡ t → cond t (reached (past_gap s (passed.To 1)) (unless_empty tuple s)) (Kind kind.Unit) ≡ cond t (reached (past_gap s (passed.To 1)) (unless_empty_by scan_chars_of tuple s)) (Kind kind.Unit)
+      go : (t : Bool) → eqb (get_or s 0 0) 0x28 ≡ t → cond t (reached (past_gap s (Ok 1)) (unless_empty tuple s)) (Ok kind.Unit) ≡ cond t (reached (past_gap s (Ok 1)) (unless_empty_by scan_chars_of tuple s)) (Ok kind.Unit)
       go true q =
-          reached_same s (past_gap s (passed.To 1)) (unless_empty tuple s) (unless_empty_by scan_chars_of tuple s)
-          (past_gap_cut s (passed.To 1) (cut_behind s 0 e (none_here s 0 0x28 (omega arith) q) (omega (arith, eqb-true (get_or s 0 0) 0x28 q)))) empty_same
+          reached_same s (past_gap s (Ok 1)) (unless_empty tuple s) (unless_empty_by scan_chars_of tuple s)
+          (past_gap_cut s (Ok 1) (cut_behind s 0 e (none_here s 0 0x28 (omega arith) q) (omega (arith, eqb-true (get_or s 0 0) 0x28 q)))) empty_same
       go false q = refl
   struct_characters InsideNewtype e =
-      reached_same s (past_gap s (passed.To 0)) (inside_brackets tuple s) (contents_by scan_chars_of tuple s) (past_gap_cut s (passed.To 0) e) contents_same
+      reached_same s (past_gap s (Ok 0)) (inside_brackets tuple s) (contents_by scan_chars_of tuple s) (past_gap_cut s (Ok 0) e) contents_same

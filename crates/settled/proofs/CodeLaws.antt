@@ -1,4 +1,6 @@
 -- What the functions of src/ say on each way out, over variables. Assumes nothing.
+use Rattle.std.proofs.Common.{Ok, Err}
+use Rattle.text.specs.Refusals.{Told}
 use Prim.Native.Nat.{ℕ, ◌+◌, ◌-◌, ◌<◌, ◌≤◌}
 use native.Mathlib.Omega.{arith}
 use mathlib.Core.Bool.{true, false, not}
@@ -24,7 +26,6 @@ use Rattle.tokens.specs.Lexemes.{lexeme_of}
 use Rattle.tokens.specs.Shapes.{shape_of}
 use Rattle.tokens.specs.Token.{token_of}
 use Rattle.tokens.specs.declared.lexeme.Lexeme.{Lexeme}
-use Rattle.tokens.specs.declared.lexeme.LexemeAnswer.TheVariants as lexeme
 use Rattle.tokens.specs.declared.shape.Shape.{Shape}
 use Rattle.settled.proofs.NothingEnds.{nothing, nothing_stays}
 use Rattle.settled.specs.Bytes.{decides_byte, stops_byte}
@@ -100,14 +101,14 @@ module _ (p : List ℕ) (r : Refusal) where
   unfolding quoted_stays
   quoted_late from h = rw (le-leb from r.place h)
 
-  pub stays_end : tells_end r ≡ true → by_lexeme (lexeme.Refused r) (stays_by (shape_in p) p) ≡ false
+  pub stays_end : tells_end r ≡ true → by_lexeme (Err r) (stays_by (shape_in p) p) ≡ false
   stays_end e = rw e
 
   pub stays_other : (a b c : ℕ) (k : Shape) → tells_end r ≡ false → a ≡ get_or p 0 0 → b ≡ get_or p 1 0 → c ≡ get_or p 2 0 → k ≡ shape_of a b c
-      → by_lexeme (lexeme.Refused r) (stays_by (shape_in p) p) ≡ stays_by k p r
+      → by_lexeme (Err r) (stays_by (shape_in p) p) ≡ stays_by k p r
   stays_other a b c k n ea eb ec ek = rw (n, ← ea, ← eb, ← ec, ← ek)
 
-  pub spoilt_refused : starts_nothing p ≡ false → lexeme_of (token_of p) ≡ lexeme.Refused r → spoilt_for p ≡ by_lexeme (lexeme.Refused r) (stays_by (shape_in p) p)
+  pub spoilt_refused : starts_nothing p ≡ false → lexeme_of (token_of p) ≡ Err r → spoilt_for p ≡ by_lexeme (Err r) (stays_by (shape_in p) p)
   unfolding spoilt_for
   spoilt_refused n e = rw (n, e)
 
@@ -117,14 +118,14 @@ module _ (p : List ℕ) where
   spoilt_nothing e = rw e
 
   -- a token that is read does not start with such a character
-  read_starts : (l : Lexeme) → lexeme_of (token_of p) ≡ lexeme.Read l → starts_nothing p ≡ false
+  read_starts : (l : Lexeme) → lexeme_of (token_of p) ≡ Ok l → starts_nothing p ≡ false
   read_starts l e =
       either (bool_cases (starts_nothing p))
-      (λ t. let q : lexeme.Refused (unexpected_char 0) ≡ lexeme.Read l = sym (ap lexeme_of (ap token_of (sym (append-nil p)) ∙ nothing_stays p [] (nothing p t))) ∙ e in
+      (λ t. let q : ◌≡◌ {A = Told Lexeme} (Err (unexpected_char 0)) (Ok l) = sym (ap lexeme_of (ap token_of (sym (append-nil p)) ∙ nothing_stays p [] (nothing p t))) ∙ e in
       let z : ◌≡◌ {A = ℕ} 0 1 = cc in absurd (omega arith))
       (λ t. t)
 
-  pub spoilt_read : (l : Lexeme) → lexeme_of (token_of p) ≡ lexeme.Read l → spoilt_for p ≡ false
+  pub spoilt_read : (l : Lexeme) → lexeme_of (token_of p) ≡ Ok l → spoilt_for p ≡ false
   unfolding spoilt_for
   spoilt_read l e = rw (read_starts l e, e)
 

@@ -1,5 +1,6 @@
 -- A gap that ends or is refused before a byte up to 0x7F is the same whatever stands behind that byte: clear, or 5 behind a `/`; an open line comment, 4 and 6
 -- stand at the end. Assumes nothing.
+use Rattle.std.proofs.Common.{Some, None, Option}
 use Prim.Native.Nat.{◌+◌, ◌<◌, ◌≤◌, pred, suc, zero, ℕ}
 use native.Mathlib.Nat.{add-zero}
 use native.Mathlib.Omega.{arith}
@@ -14,8 +15,6 @@ use Rattle.comments.proofs.GapWindow.{gap_stop, gap_window, item_window}
 use Rattle.comments.specs.Blocks.{block_end}
 use Rattle.comments.specs.Gaps.{behind_slash, block_item, by_item, comment_of, gap_from, gap_of, item_of, line_item}
 use Rattle.comments.specs.Lines.{line_end}
-use Rattle.comments.specs.declared.block.CommentEnd.{CommentEnd}
-use Rattle.comments.specs.declared.block.CommentEnd.TheVariants.{Closed, Unclosed}
 use Rattle.comments.specs.declared.gap.Gap.{Gap}
 use Rattle.comments.specs.declared.gap.Gap.TheVariants.{Clear, InLine, Refused}
 use Rattle.comments.specs.declared.gap.Item.{Item}
@@ -52,13 +51,13 @@ record Odd (s : List ℕ) (n : ℕ) : Type 0 where
   no_block : eqb second 0x2a ≡ false
   count : n ≡ 1 + char_len (second ∷ rest)
 
-line_no : (e : CommentEnd) (n : ℕ) → line_item e ≡ Unexpected n → ⊥
-line_no (Closed m) n h = let z : ◌≡◌ {A = ℕ} 0 1 = cc in omega arith
-line_no Unclosed n h = let z : ◌≡◌ {A = ℕ} 0 1 = cc in omega arith
+line_no : (e : Option ℕ) (n : ℕ) → line_item e ≡ Unexpected n → ⊥
+line_no (Some m) n h = let z : ◌≡◌ {A = ℕ} 0 1 = cc in omega arith
+line_no None n h = let z : ◌≡◌ {A = ℕ} 0 1 = cc in omega arith
 
-block_no : (e : CommentEnd) (n : ℕ) → block_item e ≡ Unexpected n → ⊥
-block_no (Closed m) n h = let z : ◌≡◌ {A = ℕ} 0 1 = cc in omega arith
-block_no Unclosed n h = let z : ◌≡◌ {A = ℕ} 0 1 = cc in omega arith
+block_no : (e : Option ℕ) (n : ℕ) → block_item e ≡ Unexpected n → ⊥
+block_no (Some m) n h = let z : ◌≡◌ {A = ℕ} 0 1 = cc in omega arith
+block_no None n h = let z : ◌≡◌ {A = ℕ} 0 1 = cc in omega arith
 
 odd_slash : (n a : ℕ) (t : List ℕ) → eqb a 0x2f ≡ true → behind_slash t ≡ Unexpected n → Odd (a ∷ t) n
 unfolding behind_slash
@@ -116,13 +115,13 @@ unfolding behind_slash
 behind_none [] h = let z : ◌≡◌ {A = ℕ} 0 1 = cc in omega arith
 behind_none (b ∷ w) h = go (eqb b 0x2f) (eqb b 0x2a) h
   where
-    line : (e : CommentEnd) → line_item e ≡ Other → ⊥
-    line (Closed n) h = let z : ◌≡◌ {A = ℕ} 0 1 = cc in omega arith
-    line Unclosed h = let z : ◌≡◌ {A = ℕ} 0 1 = cc in omega arith
+    line : (e : Option ℕ) → line_item e ≡ Other → ⊥
+    line (Some n) h = let z : ◌≡◌ {A = ℕ} 0 1 = cc in omega arith
+    line None h = let z : ◌≡◌ {A = ℕ} 0 1 = cc in omega arith
 
-    block : (e : CommentEnd) → block_item e ≡ Other → ⊥
-    block (Closed n) h = let z : ◌≡◌ {A = ℕ} 0 1 = cc in omega arith
-    block Unclosed h = let z : ◌≡◌ {A = ℕ} 0 1 = cc in omega arith
+    block : (e : Option ℕ) → block_item e ≡ Other → ⊥
+    block (Some n) h = let z : ◌≡◌ {A = ℕ} 0 1 = cc in omega arith
+    block None h = let z : ◌≡◌ {A = ℕ} 0 1 = cc in omega arith
 
     go : (x y : Bool) → cond x (line_item (line_end w)) (cond y (block_item (block_end w)) (Unexpected (1 + char_len (b ∷ w)))) ≡ Other → ⊥
     go true y h = line (line_end w) h

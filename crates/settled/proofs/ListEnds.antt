@@ -1,4 +1,6 @@
 -- The list of extensions: what was read or refused of it before a stop byte stays. Assumes nothing.
+use Rattle.std.proofs.Common.{Ok, Err, Some, None, Option}
+use Rattle.text.specs.Refusals.{Told}
 use Prim.Native.Nat.{◌+◌, ◌-◌, ◌≤◌, pred, suc, zero, ℕ}
 use native.Mathlib.Omega.{arith}
 use mathlib.Core.Bool.{Bool, cond, false, true}
@@ -13,16 +15,10 @@ use Rattle.attributes.specs.Steps.{all_at, consume_of, skip_from}
 use Rattle.attributes.specs.Words.{by_word, keyword_of, keywords}
 use Rattle.attributes.specs.declared.extensions.Extension.{Extension}
 use Rattle.attributes.specs.declared.extensions.Extension.TheVariants.{ExplicitStructNames, ImplicitSome, UnwrapNewtypes, UnwrapVariantNewtypes}
-use Rattle.attributes.specs.declared.extensions.Named.{Named}
-use Rattle.attributes.specs.declared.extensions.Named.TheVariants.{Known, Unknown}
 use Rattle.attributes.specs.declared.list.Item.{Item}
 use Rattle.attributes.specs.declared.list.Item.TheVariants.{More, Last, NoName, NoComma, Refused as Spoilt}
 use Rattle.attributes.specs.declared.list.OtherChar.{OtherChar}
 use Rattle.attributes.specs.declared.list.OtherChar.TheVariants.{Goes, Ends}
-use Rattle.attributes.specs.declared.list.Listed.TheVariants.{Ended}
-use Rattle.attributes.specs.declared.steps.All.{All}
-use Rattle.attributes.specs.declared.steps.All.TheVariants.{At, Refused as Failed}
-use Rattle.attributes.specs.declared.steps.Step.{Step}
 use Rattle.integers.proofs.WordStops.{first_stopped, fit}
 use Rattle.names.proofs.IdentifierLaws.{Within, identifier_within}
 use Rattle.names.specs.Identifiers.{identifier_of}
@@ -55,15 +51,15 @@ other_at Goes e true p = refl
 other_at Goes e false p = tt
 other_at Ends e comma p = refl
 
-comma_at : (t : List ℕ) (e : Extension) (y : All) → Ends-at (all_end y) (by_comma t e y)
+comma_at : (t : List ℕ) (e : Extension) (y : Told (Bool × ℕ)) → Ends-at (all_end y) (by_comma t e y)
 unfolding item_end
-comma_at t e (At comma p) = other_at (other_char t p) e comma p
-comma_at t e (Failed r) = tt
+comma_at t e (Ok (comma, p)) = other_at (other_char t p) e comma p
+comma_at t e (Err r) = tt
 
-named_at : (t : List ℕ) (n : ℕ) (x : Named) → Ends-at (named_stood t n x) (by_extension_name t n x)
+named_at : (t : List ℕ) (n : ℕ) (x : Option Extension) → Ends-at (named_stood t n x) (by_extension_name t n x)
 unfolding behind_name
-named_at t n (Known e) = comma_at t e (consume_of 0x2c t (all_at true (skip_from t n)))
-named_at t n Unknown = tt
+named_at t n (Some e) = comma_at t e (consume_of 0x2c t (all_at true (skip_from t n)))
+named_at t n None = tt
 
 name_at : (t : List ℕ) (i : Identifier) → Ends-at (name_stood t i) (by_list_name t i)
 name_at t Missing = tt
@@ -90,14 +86,14 @@ list_least (a ∷ t) (suc left) at = omega (arith, list_least t left (at + 1))
 list_least (a ∷ t) zero at = item_least (item_of (a ∷ t)) (λ n. list_stood t (pred n) (at + 1)) at (at + item_stood (a ∷ t)) (λ n. omega (arith, list_least t (pred n) (at + 1))) (omega arith)
 
 -- one that ends stands at its end
-pub list_ended : (t : List ℕ) (left at sum q n : ℕ) → list_from t left at sum ≡ Ended q n → list_stood t left at ≡ q
+pub list_ended : (t : List ℕ) (left at sum q n : ℕ) → list_from t left at sum ≡ Ok (q, n) → list_stood t left at ≡ q
 unfolding list_from list_stood
 list_ended [] left at sum q n h = let z : ◌≡◌ {A = ℕ} 0 1 = cc in absurd (omega arith)
 list_ended (a ∷ t) (suc left) at sum q n h = list_ended t left (at + 1) sum q n h
 list_ended (a ∷ t) zero at sum q n h = go (item_of (a ∷ t)) (item_at (a ∷ t)) (λ k m g. list_ended t k (at + 1) m q n g) h
   where
-    go : (i : Item) → Ends-at (item_stood (a ∷ t)) i → ((k m : ℕ) → list_from t k (at + 1) m ≡ Ended q n → list_stood t k (at + 1) ≡ q)
-        → by_item i (λ k e. list_from t (pred k) (at + 1) (added_to e sum)) at sum ≡ Ended q n → by_stood_item i (λ k. list_stood t (pred k) (at + 1)) (at + item_stood (a ∷ t)) ≡ q
+    go : (i : Item) → Ends-at (item_stood (a ∷ t)) i → ((k m : ℕ) → list_from t k (at + 1) m ≡ Ok (q, n) → list_stood t k (at + 1) ≡ q)
+        → by_item i (λ k e. list_from t (pred k) (at + 1) (added_to e sum)) at sum ≡ Ok (q, n) → by_stood_item i (λ k. list_stood t (pred k) (at + 1)) (at + item_stood (a ∷ t)) ≡ q
     go (More k e) z rest h = rest (pred k) (added_to e sum) h
     go (Last k e) z rest h = let f : at + k ≡ q = cc in omega arith
     go NoName z rest h = let z : ◌≡◌ {A = ℕ} 0 1 = cc in absurd (omega arith)
@@ -123,8 +119,8 @@ module _ (c : ℕ) (is : stops_byte c ≡ true) where
 
   named_stopped : (es : List Extension) (n : ℕ) → Stopped c (λ t. first_named es t n)
   unfolding first_named
-  named_stopped [] n = always Unknown
-  named_stopped (e ∷ es) n = on₂ (λ (b : Bool) (r : Named). cond b (Known e) r) (is_stopped e n) (named_stopped es n)
+  named_stopped [] n = always None
+  named_stopped (e ∷ es) n = on₂ (λ (b : Bool) (r : Option Extension). cond b (Some e) r) (is_stopped e n) (named_stopped es n)
 
   extension_stopped : (n : ℕ) → Stopped c (λ t. extension_of t n)
   unfolding extension_of
@@ -159,26 +155,26 @@ module _ (c : ℕ) (is : stops_byte c ≡ true) where
     name_keeps : (e : Extension) (n : ℕ) → all_end (consume_of 0x2c t (all_at true (skip_from t n))) ≤ length u → behind_name t' e n ≡ behind_name t e n
     unfolding behind_name item_end
     name_keeps e n h =
-        let x : All = all_at true (skip_from t n) in
+        let x : Told (Bool × ℕ) = all_at true (skip_from t n) in
         let l1 = consume_least 0x2c t x in
         let l2 = all-end true (skip_from t n) in
         let l3 = skip_least t n in
         let skip : skip_from t' n ≡ skip_from t n = skip_keeps c (stop_ascii c is) u w v n (omega arith) (omega arith) in
         let all : consume_of 0x2c t' (all_at true (skip_from t' n)) ≡ consume_of 0x2c t x =
-        ap (λ (y : Step). consume_of 0x2c t' (all_at true y)) skip ∙ consume_keeps c (stop_ascii c is) u w v 0x2c x h in
+        ap (λ (y : Told ℕ). consume_of 0x2c t' (all_at true y)) skip ∙ consume_keeps c (stop_ascii c is) u w v 0x2c x h in
         ap (by_comma t' e) all ∙ go (consume_of 0x2c t x) h
       where
-        go : (y : All) → all_end y ≤ length u → by_comma t' e y ≡ by_comma t e y
-        go (At comma p) l = ap (λ (k : OtherChar). by_other k e comma p) (other_keeps p l)
-        go (Failed r) l = refl
+        go : (y : Told (Bool × ℕ)) → all_end y ≤ length u → by_comma t' e y ≡ by_comma t e y
+        go (Ok (comma, p)) l = ap (λ (k : OtherChar). by_other k e comma p) (other_keeps p l)
+        go (Err r) l = refl
 
-    named_keeps : (n : ℕ) (x : Named) → named_stood t n x ≤ length u → by_extension_name t' n x ≡ by_extension_name t n x
-    named_keeps n (Known e) h = name_keeps e n h
-    named_keeps n Unknown h = refl
+    named_keeps : (n : ℕ) (x : Option Extension) → named_stood t n x ≤ length u → by_extension_name t' n x ≡ by_extension_name t n x
+    named_keeps n (Some e) h = name_keeps e n h
+    named_keeps n None h = refl
 
-    named_least : (n : ℕ) (x : Named) → n ≤ named_stood t n x
-    named_least n (Known e) = omega (arith, consume_least 0x2c t (all_at true (skip_from t n)), all-end true (skip_from t n), skip_least t n)
-    named_least n Unknown = omega arith
+    named_least : (n : ℕ) (x : Option Extension) → n ≤ named_stood t n x
+    named_least n (Some e) = omega (arith, consume_least 0x2c t (all_at true (skip_from t n)), all-end true (skip_from t n), skip_least t n)
+    named_least n None = omega arith
 
     ident_keeps : (i : Identifier) → Within t i → name_stood t i ≤ length u → by_list_name t' i ≡ by_list_name t i
     ident_keeps Missing z h = refl

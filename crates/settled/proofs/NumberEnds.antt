@@ -1,4 +1,8 @@
 -- An accepted number ends before a byte outside of the raw name's class. Assumes nothing.
+use Rattle.std.proofs.Common.{Ok, Err}
+use Rattle.text.specs.Refusals.{Told}
+use Rattle.floats.specs.declared.float.FloatSpan.{FloatSpan}
+use Rattle.integers.specs.declared.width.Width.{Width}
 use Prim.Native.Nat.{◌+◌, ◌-◌, ◌≤◌, ℕ}
 use native.Mathlib.Omega.{arith}
 use mathlib.Core.Bool.{Bool, false, true}
@@ -15,8 +19,6 @@ use Rattle.floats.proofs.FloatStops.{float_reach}
 use Rattle.floats.specs.Classes.{float_run}
 use Rattle.floats.specs.Float.{behind_float, float_of, float_suffixes, run_at, specials}
 use Rattle.floats.specs.Judged.{float_judged}
-use Rattle.floats.specs.declared.float.AnyFloat.{AnyFloat}
-use Rattle.floats.specs.declared.float.AnyFloat.TheVariants as float
 use Rattle.floats.specs.declared.judge.Judged.{Judged}
 use Rattle.floats.specs.declared.judge.Judged.TheVariants.{Fine, Misplaced, Unfit}
 use Rattle.integers.proofs.Fronts.{prefix_by_le}
@@ -28,10 +30,6 @@ use Rattle.integers.specs.Width.{limit_at, suffix_of, suffix_word, widest, width
 use Rattle.integers.specs.Words.{first_of}
 use Rattle.integers.specs.declared.front.Prefix.{Prefix}
 use Rattle.integers.specs.declared.ident.Found.{Found}
-use Rattle.integers.specs.declared.integer.AnyInteger.{AnyInteger}
-use Rattle.integers.specs.declared.integer.AnyInteger.TheVariants as any
-use Rattle.integers.specs.declared.integer.Numeral.{Numeral}
-use Rattle.integers.specs.declared.integer.Numeral.TheVariants as numeral
 use Rattle.numbers.specs.Numbers.{float_ahead, number_of, of_float, or_else, or_float}
 use Rattle.numbers.specs.declared.Number.{Number}
 use Rattle.numbers.specs.declared.Number.TheVariants.{Float, Int, Refused}
@@ -44,17 +42,17 @@ use Rattle.text.specs.declared.refusal.Refusal.{Refusal}
 
 -- ---- ends
 
-abbrev NumeralBy : ℕ → Numeral → Type 0
-NumeralBy n (numeral.Read v found end) = end ≤ n
-NumeralBy n (numeral.Refused r) = Unit {0}
+abbrev NumeralBy : ℕ → Told (ℕ × ℕ × ℕ) → Type 0
+NumeralBy n (Ok (v, found, end)) = end ≤ n
+NumeralBy n (Err r) = Unit {0}
 
-abbrev IntegerBy : ℕ → AnyInteger → Type 0
-IntegerBy n (any.Read w l) = l ≤ n
-IntegerBy n (any.Refused r) = Unit {0}
+abbrev IntegerBy : ℕ → Told (Width × ℕ) → Type 0
+IntegerBy n (Ok (w, l)) = l ≤ n
+IntegerBy n (Err r) = Unit {0}
 
-abbrev FloatBy : ℕ → AnyFloat → Type 0
-FloatBy n (float.Read f) = f.len ≤ n
-FloatBy n (float.Refused r) = Unit {0}
+abbrev FloatBy : ℕ → Told FloatSpan → Type 0
+FloatBy n (Ok f) = f.len ≤ n
+FloatBy n (Err r) = Unit {0}
 
 abbrev pub NumberBy : ℕ → Number → Type 0
 NumberBy n (Int w l) = l ≤ n
@@ -68,26 +66,26 @@ run_by n found end Underscore h = tt
 run_by n found end (NotDigit at) h = tt
 run_by n found end Over h = tt
 
-any_by : (n at : ℕ) (minus : Bool) (a : Numeral) → NumeralBy (n - at) a → at ≤ n → IntegerBy n (any_as minus at a)
-any_by n at minus (numeral.Read v found end) h l = omega arith
-any_by n at minus (numeral.Refused r) h l = tt
+any_by : (n at : ℕ) (minus : Bool) (a : Told (ℕ × ℕ × ℕ)) → NumeralBy (n - at) a → at ≤ n → IntegerBy n (any_as minus at a)
+any_by n at minus (Ok (v, found, end)) h l = omega arith
+any_by n at minus (Err r) h l = tt
 
 judged_by : (n code end : ℕ) (j : Judged) → end ≤ n → FloatBy n (behind_float code end j)
 judged_by n code end (Misplaced at) h = tt
 judged_by n code end Fine h = h
 judged_by n code end Unfit h = tt
 
-of_by : (n : ℕ) (f : AnyFloat) → FloatBy n f → NumberBy n (of_float f)
-of_by n (float.Read f) h = h
-of_by n (float.Refused r) h = tt
+of_by : (n : ℕ) (f : Told FloatSpan) → FloatBy n f → NumberBy n (of_float f)
+of_by n (Ok f) h = h
+of_by n (Err r) h = tt
 
-or_by : (n : ℕ) (r : Refusal) (f : AnyFloat) → FloatBy n f → NumberBy n (or_float r f)
-or_by n r (float.Read f) h = cond_cases (NumberBy n) (leb r.place f.len) (Float f) (Refused r) (λ e. h) (λ e. tt)
-or_by n r (float.Refused q) h = tt
+or_by : (n : ℕ) (r : Refusal) (f : Told FloatSpan) → FloatBy n f → NumberBy n (or_float r f)
+or_by n r (Ok f) h = cond_cases (NumberBy n) (leb r.place f.len) (Float f) (Refused r) (λ e. h) (λ e. tt)
+or_by n r (Err q) h = tt
 
-else_by : (n : ℕ) (i : AnyInteger) (f : AnyFloat) → IntegerBy n i → FloatBy n f → NumberBy n (or_else i f)
-else_by n (any.Read w l) f h k = h
-else_by n (any.Refused r) f h k = or_by n r f k
+else_by : (n : ℕ) (i : Told (Width × ℕ)) (f : Told FloatSpan) → IntegerBy n i → FloatBy n f → NumberBy n (or_else i f)
+else_by n (Ok (w, l)) f h k = h
+else_by n (Err r) f h k = or_by n r f k
 
 module _ (c : ℕ) (o : Outside c) where
   zero_out : eqb c 0x30 ≡ false

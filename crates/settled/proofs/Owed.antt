@@ -1,4 +1,8 @@
 -- RON's token reader owes what crate arriving asks for: `ron`. Assumes nothing.
+use Rattle.std.proofs.Common.{Ok, Err}
+use Rattle.text.specs.Refusals.{Told}
+use Rattle.strings.specs.declared.literal.Literal.{Literal}
+use Rattle.tokens.specs.declared.lexeme.Lexeme.{Lexeme}
 use Prim.Native.Nat.{ℕ, ◌+◌, ◌-◌, ◌<◌, ◌≤◌, suc}
 use native.Mathlib.Omega.{arith}
 use mathlib.Core.Bool.{true, false, not}
@@ -16,8 +20,6 @@ use Rattle.text.specs.Refusals.{placed_behind, unexpected_char}
 use Rattle.text.specs.Utf8.{char_len}
 use Rattle.text.specs.declared.refusal.Refusal.{Refusal}
 use Rattle.attributes.specs.Attributes.{attribute_of}
-use Rattle.attributes.specs.declared.AttributeAnswer.{AttributeAnswer}
-use Rattle.attributes.specs.declared.AttributeAnswer.TheVariants as attribute
 use Rattle.comments.proofs.GapLaws.{EndsBy, gap_bounded}
 use Rattle.comments.proofs.GapWindow.{gap_stop}
 use Rattle.comments.specs.Gaps.{gap_of}
@@ -31,18 +33,10 @@ use Rattle.reading.specs.Kept.{last_quiet}
 use Rattle.reading.specs.Tokens.{refuse, stop}
 use Rattle.strings.specs.Chars.{byte_of, char_of}
 use Rattle.strings.specs.Strings.{byte_string_of, string_of}
-use Rattle.strings.specs.declared.chars.ByteAnswer.{ByteAnswer}
-use Rattle.strings.specs.declared.chars.ByteAnswer.TheVariants as byte
-use Rattle.strings.specs.declared.chars.CharAnswer.{CharAnswer}
-use Rattle.strings.specs.declared.chars.CharAnswer.TheVariants as char
-use Rattle.strings.specs.declared.literal.LiteralAnswer.{LiteralAnswer}
-use Rattle.strings.specs.declared.literal.LiteralAnswer.TheVariants as literal
 use Rattle.tokens.proofs.RonLaws.{gap_end, gap_token}
 use Rattle.tokens.specs.Lexemes.{lexeme_of}
 use Rattle.tokens.specs.Ron.{by_gap, lexeme_behind, ron_token}
 use Rattle.tokens.specs.Token.{by_shape, of_attribute, of_byte, of_byte_string, of_char, of_string, token_of}
-use Rattle.tokens.specs.declared.lexeme.LexemeAnswer.{LexemeAnswer}
-use Rattle.tokens.specs.declared.lexeme.LexemeAnswer.TheVariants as lexeme
 use Rattle.tokens.specs.declared.shape.Shape.{Shape}
 use Rattle.tokens.specs.declared.shape.Shape.TheVariants as shape
 use Rattle.arriving.specs.Owing.{Owes, tells_end}
@@ -105,25 +99,25 @@ plain_stop c is = record {
 
 -- ---- each reader
 
-of-string : (a : LiteralAnswer) (r : Refusal) → lexeme_of (of_string a) ≡ lexeme.Refused r → a ≡ literal.Refused r
-of-string (literal.Read l) r h = let z : ◌≡◌ {A = ℕ} 0 1 = cc in absurd (omega arith)
-of-string (literal.Refused q) r h = let e : q ≡ r = cc in ap literal.Refused e
+of-string : (a : Told Literal) (r : Refusal) → lexeme_of (of_string a) ≡ Err r → a ≡ Err r
+of-string (Ok l) r h = let z : ◌≡◌ {A = ℕ} 0 1 = cc in absurd (omega arith)
+of-string (Err q) r h = let e : q ≡ r = cc in ap Err e
 
-of-byte-string : (a : LiteralAnswer) (r : Refusal) → lexeme_of (of_byte_string a) ≡ lexeme.Refused r → a ≡ literal.Refused r
-of-byte-string (literal.Read l) r h = let z : ◌≡◌ {A = ℕ} 0 1 = cc in absurd (omega arith)
-of-byte-string (literal.Refused q) r h = let e : q ≡ r = cc in ap literal.Refused e
+of-byte-string : (a : Told Literal) (r : Refusal) → lexeme_of (of_byte_string a) ≡ Err r → a ≡ Err r
+of-byte-string (Ok l) r h = let z : ◌≡◌ {A = ℕ} 0 1 = cc in absurd (omega arith)
+of-byte-string (Err q) r h = let e : q ≡ r = cc in ap Err e
 
-of-char : (a : CharAnswer) (r : Refusal) → lexeme_of (of_char a) ≡ lexeme.Refused r → a ≡ char.Refused r
-of-char (char.Read n k) r h = let z : ◌≡◌ {A = ℕ} 0 1 = cc in absurd (omega arith)
-of-char (char.Refused q) r h = let e : q ≡ r = cc in ap char.Refused e
+of-char : (a : Told (ℕ × ℕ)) (r : Refusal) → lexeme_of (of_char a) ≡ Err r → a ≡ Err r
+of-char (Ok (n, k)) r h = let z : ◌≡◌ {A = ℕ} 0 1 = cc in absurd (omega arith)
+of-char (Err q) r h = let e : q ≡ r = cc in ap Err e
 
-of-byte : (a : ByteAnswer) (r : Refusal) → lexeme_of (of_byte a) ≡ lexeme.Refused r → a ≡ byte.Refused r
-of-byte (byte.Read n k) r h = let z : ◌≡◌ {A = ℕ} 0 1 = cc in absurd (omega arith)
-of-byte (byte.Refused q) r h = let e : q ≡ r = cc in ap byte.Refused e
+of-byte : (a : Told (ℕ × ℕ)) (r : Refusal) → lexeme_of (of_byte a) ≡ Err r → a ≡ Err r
+of-byte (Ok (n, k)) r h = let z : ◌≡◌ {A = ℕ} 0 1 = cc in absurd (omega arith)
+of-byte (Err q) r h = let e : q ≡ r = cc in ap Err e
 
-of-attribute : (a : AttributeAnswer) (r : Refusal) → lexeme_of (of_attribute a) ≡ lexeme.Refused r → a ≡ attribute.Refused r
-of-attribute (attribute.Read n k) r h = let z : ◌≡◌ {A = ℕ} 0 1 = cc in absurd (omega arith)
-of-attribute (attribute.Refused q) r h = let e : q ≡ r = cc in ap attribute.Refused e
+of-attribute : (a : Told (ℕ × ℕ)) (r : Refusal) → lexeme_of (of_attribute a) ≡ Err r → a ≡ Err r
+of-attribute (Ok (n, k)) r h = let z : ◌≡◌ {A = ℕ} 0 1 = cc in absurd (omega arith)
+of-attribute (Err q) r h = let e : q ≡ r = cc in ap Err e
 
 record Quoted (from : ℕ) (p : List ℕ) (r : Refusal) : Type 0 where
   late : from ≤ r.place
@@ -148,7 +142,7 @@ some p r shape.Word t = split 0 p t
 
 module _ (p v : List ℕ) (r : Refusal) (no-end : r.number ≡ 17 → ⊥) where
   -- a reader of p, split at a stop byte, and behind that v
-  on_split : {A : Type 0} {n : ℕ} (f : List ℕ → A) (g : A → LexemeAnswer) (a : A) (k : Split n p) → f ((k.front ++ k.mark ∷ k.back) ++ v) ≡ a → g (f (p ++ v)) ≡ g a
+  on_split : {A : Type 0} {n : ℕ} (f : List ℕ → A) (g : A → Told Lexeme) (a : A) (k : Split n p) → f ((k.front ++ k.mark ∷ k.back) ++ v) ≡ a → g (f (p ++ v)) ≡ g a
   on_split f g a k e = ap (λ (x : List ℕ). g (f (x ++ v))) k.whole ∙ ap g e
 
   unquoted_stays : (k : Shape) → (k ≡ shape.Number) ⊎ (k ≡ shape.Word) → Split 0 p → by_shape k (p ++ v) ≡ by_shape k p
@@ -156,42 +150,42 @@ module _ (p v : List ℕ) (r : Refusal) (no-end : r.number ≡ 17 → ⊥) where
       ap (by_shape k) (ap (λ (x : List ℕ). x ++ v) d.whole ∙ append_assoc d.front (d.mark ∷ d.back) v)
       ∙ word_stays d.mark d.stops d.front d.back (d.back ++ v) k e ∙ ap (by_shape k) (sym d.whole)
 
-  by-shape : (k : Shape) → stays_by k p r ≡ true → lexeme_of (by_shape k p) ≡ lexeme.Refused r → lexeme_of (by_shape k (p ++ v)) ≡ lexeme.Refused r
+  by-shape : (k : Shape) → stays_by k p r ≡ true → lexeme_of (by_shape k p) ≡ Err r → lexeme_of (by_shape k (p ++ v)) ≡ Err r
   by-shape (shape.Mark kind) t h = h
   by-shape shape.Number t h = ap lexeme_of (unquoted_stays shape.Number (inl refl) (split 0 p t)) ∙ h
   by-shape shape.Word t h = ap lexeme_of (unquoted_stays shape.Word (inr refl) (split 0 p t)) ∙ h
   by-shape shape.Attribute t h =
       let k = split (attribute_stood p) p t in
-      let was : attribute_of (k.front ++ k.mark ∷ k.back) ≡ attribute.Refused r = ap attribute_of (sym k.whole) ∙ of-attribute (attribute_of p) r h in
+      let was : attribute_of (k.front ++ k.mark ∷ k.back) ≡ Err r = ap attribute_of (sym k.whole) ∙ of-attribute (attribute_of p) r h in
       let far : attribute_stood (k.front ++ k.mark ∷ k.back) ≤ length k.front = subst (λ (x : List ℕ). attribute_stood x ≤ length k.front) k.whole k.far in
-      on_split attribute_of (λ (x : AttributeAnswer). lexeme_of (of_attribute x)) (attribute.Refused r) k
+      on_split attribute_of (λ (x : Told (ℕ × ℕ)). lexeme_of (of_attribute x)) (Err r) k
       (attribute_stays k.mark k.stops (plain_stop k.mark k.stops) k.front k.back v r was no-end far)
   by-shape shape.Str t h =
       let q = quoted 1 p r t in
       let k = q.at in
-      let was : string_of (k.front ++ k.mark ∷ k.back) ≡ literal.Refused r = ap string_of (sym k.whole) ∙ of-string (string_of p) r h in
-      on_split string_of (λ (x : LiteralAnswer). lexeme_of (of_string x)) (literal.Refused r) k
+      let was : string_of (k.front ++ k.mark ∷ k.back) ≡ Err r = ap string_of (sym k.whole) ∙ of-string (string_of p) r h in
+      on_split string_of (λ (x : Told Literal). lexeme_of (of_string x)) (Err r) k
       (string_stays k.mark (plain_stop k.mark k.stops) k.front k.back v r (omega (arith, q.late, k.far)) was no-end k.far)
   by-shape shape.ByteStr t h =
       let q = quoted 2 p r t in
       let k = q.at in
-      let was : byte_string_of (k.front ++ k.mark ∷ k.back) ≡ literal.Refused r = ap byte_string_of (sym k.whole) ∙ of-byte-string (byte_string_of p) r h in
-      on_split byte_string_of (λ (x : LiteralAnswer). lexeme_of (of_byte_string x)) (literal.Refused r) k
+      let was : byte_string_of (k.front ++ k.mark ∷ k.back) ≡ Err r = ap byte_string_of (sym k.whole) ∙ of-byte-string (byte_string_of p) r h in
+      on_split byte_string_of (λ (x : Told Literal). lexeme_of (of_byte_string x)) (Err r) k
       (byte_string_stays k.mark (plain_stop k.mark k.stops) k.front k.back v r (omega (arith, q.late, k.far)) was no-end k.far)
   by-shape shape.Char t h =
       let q = quoted 1 p r t in
       let k = q.at in
-      let was : char_of (k.front ++ k.mark ∷ k.back) ≡ char.Refused r = ap char_of (sym k.whole) ∙ of-char (char_of p) r h in
-      on_split char_of (λ (x : CharAnswer). lexeme_of (of_char x)) (char.Refused r) k
+      let was : char_of (k.front ++ k.mark ∷ k.back) ≡ Err r = ap char_of (sym k.whole) ∙ of-char (char_of p) r h in
+      on_split char_of (λ (x : Told (ℕ × ℕ)). lexeme_of (of_char x)) (Err r) k
       (char_stays k.mark (plain_stop k.mark k.stops) k.front k.back v r (omega (arith, q.late, k.far)) was k.far)
   by-shape shape.Byte t h =
       let q = quoted 2 p r t in
       let k = q.at in
-      let was : byte_of (k.front ++ k.mark ∷ k.back) ≡ byte.Refused r = ap byte_of (sym k.whole) ∙ of-byte (byte_of p) r h in
-      on_split byte_of (λ (x : ByteAnswer). lexeme_of (of_byte x)) (byte.Refused r) k
+      let was : byte_of (k.front ++ k.mark ∷ k.back) ≡ Err r = ap byte_of (sym k.whole) ∙ of-byte (byte_of p) r h in
+      on_split byte_of (λ (x : Told (ℕ × ℕ)). lexeme_of (of_byte x)) (Err r) k
       (byte_stays k.mark (plain_stop k.mark k.stops) k.front k.back v r (omega (arith, q.late, k.far)) was k.far)
 
-  token_stays : stays_by (shape_in p) p r ≡ true → lexeme_of (token_of p) ≡ lexeme.Refused r → lexeme_of (token_of (p ++ v)) ≡ lexeme.Refused r
+  token_stays : stays_by (shape_in p) p r ≡ true → lexeme_of (token_of p) ≡ Err r → lexeme_of (token_of (p ++ v)) ≡ Err r
   unfolding token_of
   token_stays t h =
       let d = some p r (shape_in p) t in
@@ -205,8 +199,8 @@ module _ (p v : List ℕ) (r : Refusal) (no-end : r.number ≡ 17 → ⊥) where
 record Stays (s : List ℕ) (g : ℕ) : Type 0 where
   why : Refusal
   no-end : tells_end why ≡ false
-  is : lexeme_of (token_of (drop g s)) ≡ lexeme.Refused why
-  later : (v : List ℕ) → lexeme_of (token_of (drop g s ++ v)) ≡ lexeme.Refused why
+  is : lexeme_of (token_of (drop g s)) ≡ Err why
+  later : (v : List ℕ) → lexeme_of (token_of (drop g s ++ v)) ≡ Err why
   clear : (v : List ℕ) → gap_of (s ++ v) ≡ gap.Clear g
 
 no_end_5 : (r : Refusal) → r.number ≡ 5 → tells_end r ≡ false
@@ -245,10 +239,10 @@ not_17 r h e =
     let z : true ≡ false = sym y ∙ h in
     let k : ◌≡◌ {A = ℕ} 0 1 = cc in omega arith
 
-by-lexeme : (s : List ℕ) (g : ℕ) → gap_of s ≡ gap.Clear g → g ≤ length s → (a : LexemeAnswer) → lexeme_of (token_of (drop g s)) ≡ a
+by-lexeme : (s : List ℕ) (g : ℕ) → gap_of s ≡ gap.Clear g → g ≤ length s → (a : Told Lexeme) → lexeme_of (token_of (drop g s)) ≡ a
     → by_lexeme a (stays_by (shape_in (drop g s)) (drop g s)) ≡ true → Stays s g
-by-lexeme s g e le (lexeme.Read l) i h = let z : ◌≡◌ {A = ℕ} 0 1 = cc in absurd (omega arith)
-by-lexeme s g e le (lexeme.Refused r) i h =
+by-lexeme s g e le (Ok l) i h = let z : ◌≡◌ {A = ℕ} 0 1 = cc in absurd (omega arith)
+by-lexeme s g e le (Err r) i h =
     let p : List ℕ = drop g s in
     let x = and_true (not (tells_end r)) (stays_by (shape_in p) p r) h in
     let n : tells_end r ≡ false = not-true (tells_end r) x.0 in

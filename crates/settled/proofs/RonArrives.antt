@@ -1,4 +1,6 @@
 -- RON's token reader may be read while a text arrives: what crate arriving asks of it. Assumes nothing.
+use Rattle.text.specs.Refusals.{Told}
+use Rattle.tokens.specs.declared.lexeme.Lexeme.{Lexeme}
 use Prim.Native.Nat.{ℕ, ◌<◌, ◌≤◌, suc}
 use native.Mathlib.Omega.{arith}
 use mathlib.Core.Bool.{true, false, not}
@@ -22,7 +24,6 @@ use Rattle.tokens.proofs.TokenLaws.{Fits}
 use Rattle.tokens.specs.Lexemes.{lexeme, lexeme_of}
 use Rattle.tokens.specs.Ron.{ron_token}
 use Rattle.tokens.specs.Token.{token_of}
-use Rattle.tokens.specs.declared.lexeme.LexemeAnswer.{LexemeAnswer}
 use Rattle.settled.proofs.TokenEnds.{token_before, token_closed}
 use Rattle.settled.proofs.WordEnds.{stop_ascii}
 use Rattle.settled.specs.Bytes.{close_bytes, closes_byte, decides_byte, stops_byte}
@@ -45,7 +46,7 @@ no_slash c h = not-true (eqb c 0x2f) (one_of_all (λ (b : ℕ). not (eqb b 0x2f)
 
 -- ---- before a stop byte
 
-fits : (n : ℕ) (a : LexemeAnswer) (len kind detail : ℕ) → a ≡ lexeme len kind detail → len ≤ n → Fits n a
+fits : (n : ℕ) (a : Told Lexeme) (len kind detail : ℕ) → a ≡ lexeme len kind detail → len ≤ n → Fits n a
 fits n a len kind detail e h = subst (Fits n) (sym e) h
 
 pub ron_window : (u v v' : List ℕ) (c : ℕ) (t : Token) → stops_byte c ≡ true → ron_token (u ++ c ∷ v) ≡ token t → reach t ≤ length u → ron_token (u ++ c ∷ v') ≡ token t

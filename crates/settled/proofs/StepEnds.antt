@@ -1,4 +1,6 @@
 -- Steps through an attribute that end before a byte up to 0x7F do not depend on what comes behind it, whether they go on or are refused. Assumes nothing.
+use Rattle.std.proofs.Common.{Ok, Err}
+use Rattle.text.specs.Refusals.{Told}
 use Prim.Native.Nat.{◌+◌, ◌-◌, ◌<◌, ◌≤◌, ℕ}
 use native.Mathlib.Omega.{arith}
 use mathlib.Core.Bool.{Bool, cond, false, true}
@@ -14,10 +16,6 @@ use Rattle.text.proofs.Choices.{cond_cases}
 use Rattle.attributes.specs.Attributes.{opened_of}
 use Rattle.text.specs.Refusals.{expected_attribute}
 use Rattle.attributes.specs.Steps.{all_at, and_then, step_behind, consume_from, consume_of, sign_at, sign_from, skip_from}
-use Rattle.attributes.specs.declared.steps.All.{All}
-use Rattle.attributes.specs.declared.steps.All.TheVariants.{At, Refused as Failed}
-use Rattle.attributes.specs.declared.steps.Step.{Step}
-use Rattle.attributes.specs.declared.steps.Step.TheVariants.{On, Refused as Bad}
 use Rattle.settled.proofs.GapStays.{GapBy, gap_keeps}
 use Rattle.settled.specs.Stood.{all_end, sign_by, sign_here, sign_stood, step_end}
 
@@ -31,17 +29,17 @@ pub skip_least : (s : List ℕ) (at : ℕ) → at ≤ step_end (skip_from s at)
 unfolding skip_from
 skip_least s at = gap_least at (gap_of (drop at s))
 
-pub all-end : (all : Bool) (t : Step) → all_end (all_at all t) ≡ step_end t
-all-end all (On p) = refl
-all-end all (Bad r) = refl
+pub all-end : (all : Bool) (t : Told ℕ) → all_end (all_at all t) ≡ step_end t
+all-end all (Ok p) = refl
+all-end all (Err r) = refl
 
 pub from_least : (b : ℕ) (s : List ℕ) (all : Bool) (at : ℕ) → at ≤ all_end (consume_from b s all at)
 unfolding consume_from
-from_least b s all at = cond_cases (λ (x : All). at ≤ all_end x) (eqb (get_or s at 0) b) (all_at all (skip_from s (at + 1))) (At false at) (λ e. omega (arith, all-end all (skip_from s (at + 1)), skip_least s (at + 1))) (λ e. omega arith)
+from_least b s all at = cond_cases (λ (x : Told (Bool × ℕ)). at ≤ all_end x) (eqb (get_or s at 0) b) (all_at all (skip_from s (at + 1))) (Ok (false, at)) (λ e. omega (arith, all-end all (skip_from s (at + 1)), skip_least s (at + 1))) (λ e. omega arith)
 
-pub consume_least : (b : ℕ) (s : List ℕ) (x : All) → all_end x ≤ all_end (consume_of b s x)
-consume_least b s (At all at) = from_least b s all at
-consume_least b s (Failed r) = omega arith
+pub consume_least : (b : ℕ) (s : List ℕ) (x : Told (Bool × ℕ)) → all_end x ≤ all_end (consume_of b s x)
+consume_least b s (Ok (all, at)) = from_least b s all at
+consume_least b s (Err r) = omega arith
 
 -- a sign stands at or behind where it is looked for, and behind it where it is found
 pub here_least : (b : ℕ) (s : List ℕ) (p : ℕ) → p ≤ sign_here b s p
@@ -52,21 +50,21 @@ pub sign_least : (b : ℕ) (s : List ℕ) (at : ℕ) → at ≤ sign_stood b s a
 unfolding sign_stood
 sign_least b s at = go (skip_from s at) (skip_least s at)
   where
-    go : (t : Step) → at ≤ step_end t → at ≤ sign_by b s t
-    go (On p) h = omega (arith, here_least b s p)
-    go (Bad r) h = h
+    go : (t : Told ℕ) → at ≤ step_end t → at ≤ sign_by b s t
+    go (Ok p) h = omega (arith, here_least b s p)
+    go (Err r) h = h
 
-pub sign_found : (b : ℕ) (s : List ℕ) (at p : ℕ) → sign_from b s at ≡ On p → sign_stood b s at ≡ p
+pub sign_found : (b : ℕ) (s : List ℕ) (at p : ℕ) → sign_from b s at ≡ Ok p → sign_stood b s at ≡ p
 unfolding sign_stood sign_here sign_from sign_at
 sign_found b s at p h = go (skip_from s at) h
   where
-    test : (q : ℕ) (t : Bool) → cond t (skip_from s (q + 1)) (Bad (expected_attribute 0)) ≡ On p → cond t (step_end (skip_from s (q + 1))) q ≡ p
+    test : (q : ℕ) (t : Bool) → ◌≡◌ {A = Told ℕ} (cond t (skip_from s (q + 1)) (Err (expected_attribute 0))) (Ok p) → cond t (step_end (skip_from s (q + 1))) q ≡ p
     test q true h = ap step_end h
     test q false h = let z : ◌≡◌ {A = ℕ} 0 1 = cc in absurd (omega arith)
 
-    go : (t : Step) → and_then t (sign_at b s) ≡ On p → sign_by b s t ≡ p
-    go (On q) h = test q (eqb (get_or s q 0) b) h
-    go (Bad r) h = let z : ◌≡◌ {A = ℕ} 0 1 = cc in absurd (omega arith)
+    go : (t : Told ℕ) → and_then t (sign_at b s) ≡ Ok p → sign_by b s t ≡ p
+    go (Ok q) h = test q (eqb (get_or s q 0) b) h
+    go (Err r) h = let z : ◌≡◌ {A = ℕ} 0 1 = cc in absurd (omega arith)
 
 module _ (c : ℕ) (low : c < 0x80) where
   module _ (a w v : List ℕ) where
@@ -102,31 +100,31 @@ module _ (c : ℕ) (low : c < 0x80) where
     unfolding consume_from
     from_keeps b all at l h = rw (at_same at l) (go (eqb (get_or s at 0) b) refl h)
       where
-        go : (t : Bool) → eqb (get_or s at 0) b ≡ t → all_end (cond t (all_at all (skip_from s (at + 1))) (At false at)) ≤ length a
-            → cond t (all_at all (skip_from (s ++ v) (at + 1))) (At false at) ≡ cond t (all_at all (skip_from s (at + 1))) (At false at)
+        go : (t : Bool) → eqb (get_or s at 0) b ≡ t → all_end (cond t (all_at all (skip_from s (at + 1))) (Ok (false, at))) ≤ length a
+            → cond t (all_at all (skip_from (s ++ v) (at + 1))) (Ok (false, at)) ≡ cond t (all_at all (skip_from s (at + 1))) (Ok (false, at))
         go false e h = refl
         go true e h =
             let end : step_end (skip_from s (at + 1)) ≤ length a = omega (arith, h, all-end all (skip_from s (at + 1))) in
             ap (all_at all) (skip_keeps (at + 1) (omega (arith, skip_least s (at + 1))) end)
 
-    pub consume_keeps : (b : ℕ) (x : All) → all_end (consume_of b s x) ≤ length a → consume_of b (s ++ v) x ≡ consume_of b s x
-    consume_keeps b (At all at) h = from_keeps b all at (omega (arith, from_least b s all at)) h
-    consume_keeps b (Failed r) h = refl
+    pub consume_keeps : (b : ℕ) (x : Told (Bool × ℕ)) → all_end (consume_of b s x) ≤ length a → consume_of b (s ++ v) x ≡ consume_of b s x
+    consume_keeps b (Ok (all, at)) h = from_keeps b all at (omega (arith, from_least b s all at)) h
+    consume_keeps b (Err r) h = refl
 
     -- `#`, `!` and `[`
     pub opened_keeps : all_end (opened_of s) ≤ length a → opened_of (s ++ v) ≡ opened_of s
     unfolding opened_of
     opened_keeps h =
-        let x : All = consume_of 0x23 s (At true 0) in
-        let y : All = consume_of 0x21 s x in
+        let x : Told (Bool × ℕ) = consume_of 0x23 s (Ok (true, 0)) in
+        let y : Told (Bool × ℕ) = consume_of 0x21 s x in
         let ly = consume_least 0x5b s y in
         let lx = consume_least 0x21 s x in
-        ap (λ (z : All). consume_of 0x5b (s ++ v) (consume_of 0x21 (s ++ v) z)) (consume_keeps 0x23 (At true 0) (omega arith))
+        ap (λ (z : Told (Bool × ℕ)). consume_of 0x5b (s ++ v) (consume_of 0x21 (s ++ v) z)) (consume_keeps 0x23 (Ok (true, 0)) (omega arith))
         ∙ ap (consume_of 0x5b (s ++ v)) (consume_keeps 0x21 x (omega arith))
         ∙ consume_keeps 0x5b y h
 
     -- a sign that has to stand there
-    pub here_keeps : {A : Type 0} (b p : ℕ) (f : Step → A) (x : A) → p ≤ length a → sign_here b s p ≤ length a
+    pub here_keeps : {A : Type 0} (b p : ℕ) (f : Told ℕ → A) (x : A) → p ≤ length a → sign_here b s p ≤ length a
         → cond (eqb (get_or (s ++ v) p 0) b) (f (skip_from (s ++ v) (p + 1))) x ≡ cond (eqb (get_or s p 0) b) (f (skip_from s (p + 1))) x
     unfolding sign_here
     here_keeps b p f x l h = rw (at_same p l) (test (eqb (get_or s p 0) b) h)
@@ -139,11 +137,11 @@ module _ (c : ℕ) (low : c < 0x80) where
     unfolding sign_stood sign_from sign_at
     sign_keeps b at l h = go (skip_from s at) refl h
       where
-        go : (t : Step) → skip_from s at ≡ t → sign_by b s t ≤ length a → and_then (skip_from (s ++ v) at) (sign_at b (s ++ v)) ≡ and_then (skip_from s at) (sign_at b s)
-        go (On p) e h =
+        go : (t : Told ℕ) → skip_from s at ≡ t → sign_by b s t ≤ length a → and_then (skip_from (s ++ v) at) (sign_at b (s ++ v)) ≡ and_then (skip_from s at) (sign_at b s)
+        go (Ok p) e h =
             let lp : p ≤ length a = omega (arith, here_least b s p) in
-            let q : skip_from (s ++ v) at ≡ On p = skip_keeps at l (subst (λ (t : Step). step_end t ≤ length a) (sym e) lp) ∙ e in
-            rw (q, e) (here_keeps b p (λ t. t) (Bad (expected_attribute 0)) lp h)
-        go (Bad r) e h =
-            let q : skip_from (s ++ v) at ≡ Bad r = skip_keeps at l (subst (λ (t : Step). step_end t ≤ length a) (sym e) h) ∙ e in
+            let q : skip_from (s ++ v) at ≡ Ok p = skip_keeps at l (subst (λ (t : Told ℕ). step_end t ≤ length a) (sym e) lp) ∙ e in
+            rw (q, e) (here_keeps b p (λ t. t) (Err (expected_attribute 0)) lp h)
+        go (Err r) e h =
+            let q : skip_from (s ++ v) at ≡ Err r = skip_keeps at l (subst (λ (t : Told ℕ). step_end t ≤ length a) (sym e) h) ∙ e in
             rw (q, e)

@@ -1,4 +1,7 @@
 -- Laws of where the reading of an attribute stands, as the functions ask for them. Assumes nothing.
+use Rattle.std.proofs.Common.{Ok, Err, Some, None, Option}
+use Rattle.text.specs.Refusals.{Told}
+use Rattle.attributes.specs.declared.extensions.Extension.{Extension}
 use Prim.Native.Nat.{◌+◌, ◌-◌, ◌<◌, ◌≤◌, pred, suc, zero, ℕ}
 use native.Mathlib.Nat.{add-zero}
 use native.Mathlib.Omega.{arith}
@@ -12,14 +15,8 @@ use Rattle.attributes.proofs.Bounds.{AllIn, ItemIn, StepIn, consume_within, item
 use Rattle.attributes.specs.Extensions.{extension_of}
 use Rattle.attributes.specs.List.{item_of}
 use Rattle.attributes.specs.Steps.{all_at, consume_of, skip_from}
-use Rattle.attributes.specs.declared.extensions.Named.{Named}
-use Rattle.attributes.specs.declared.extensions.Named.TheVariants.{Known, Unknown}
 use Rattle.attributes.specs.declared.list.Item.{Item}
 use Rattle.attributes.specs.declared.list.Item.TheVariants.{More, Last, NoName, NoComma, Refused as Spoilt}
-use Rattle.attributes.specs.declared.steps.All.{All}
-use Rattle.attributes.specs.declared.steps.All.TheVariants.{At, Refused as Failed}
-use Rattle.attributes.specs.declared.steps.Step.{Step}
-use Rattle.attributes.specs.declared.steps.Step.TheVariants.{On, Refused as Bad}
 use Rattle.names.proofs.IdentifierLaws.{Within, identifier_within}
 use Rattle.names.specs.Identifiers.{identifier_of}
 use Rattle.names.specs.declared.Identifier.{Identifier}
@@ -35,11 +32,11 @@ module _ (s : List ℕ) (at b x : ℕ) (e : x ≡ get_or s at 0) where
   unfolding sign_here
   here_out n = rw (ne_eqb (get_or s at 0) b (λ q. n (e ∙ q)))
 
-  pub here_in : (r : Step) → x ≡ b → r ≡ skip_from s (at + 1) → step_end r ≡ sign_here b s at
+  pub here_in : (r : Told ℕ) → x ≡ b → r ≡ skip_from s (at + 1) → step_end r ≡ sign_here b s at
   unfolding sign_here
   here_in r q d = rw (eq-eqb (get_or s at 0) b (sym e ∙ q)) (ap step_end d)
 
-pub sign-by : (b : ℕ) (s : List ℕ) (at : ℕ) (r : Step) → r ≡ skip_from s at → sign_by b s r ≡ sign_stood b s at
+pub sign-by : (b : ℕ) (s : List ℕ) (at : ℕ) (r : Told ℕ) → r ≡ skip_from s at → sign_by b s r ≡ sign_stood b s at
 unfolding sign_stood
 sign-by b s at r e = ap (sign_by b s) e
 
@@ -62,19 +59,19 @@ pub name_by : (t : List ℕ) (r : Identifier) → r ≡ identifier_of t → name
 unfolding item_stood
 name_by t r e = ap (name_stood t) e
 
-all_in : (s : List ℕ) (at : ℕ) (r : Step) → StepIn s at r → AllIn s at (all_at true r)
-all_in s at (On p) i = i
-all_in s at (Bad r) i = i
+all_in : (s : List ℕ) (at : ℕ) (r : Told ℕ) → StepIn s at r → AllIn s at (all_at true r)
+all_in s at (Ok p) i = i
+all_in s at (Err r) i = i
 
-end_in_part : (s : List ℕ) (at : ℕ) (r : All) → AllIn s at r → all_end r ≤ length s
-end_in_part s at (At all p) i = i.1
-end_in_part s at (Failed r) i = i
+end_in_part : (s : List ℕ) (at : ℕ) (r : Told (Bool × ℕ)) → AllIn s at r → all_end r ≤ length s
+end_in_part s at (Ok (all, p)) i = i.1
+end_in_part s at (Err r) i = i
 
-named_le : (t : List ℕ) (n : ℕ) (x : Named) → n ≤ length t → named_stood t n x ≤ length t
-named_le t n (Known e) h =
-    let gap : All = all_at true (skip_from t n) in
+named_le : (t : List ℕ) (n : ℕ) (x : Option Extension) → n ≤ length t → named_stood t n x ≤ length t
+named_le t n (Some e) h =
+    let gap : Told (Bool × ℕ) = all_at true (skip_from t n) in
     end_in_part t n (consume_of 0x2c t gap) (consume_within 0x2c t n gap (omega arith) (all_in t n (skip_from t n) (skip_in t n h)))
-named_le t n Unknown h = h
+named_le t n None h = h
 
 name_le : (t : List ℕ) (i : Identifier) → Within t i → name_stood t i ≤ length t
 name_le t Missing w = omega arith

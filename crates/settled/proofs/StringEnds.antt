@@ -1,4 +1,7 @@
 -- A refused string whose place lies before a stop byte stays refused, unless it is refused for its missing end (17, 6). Assumes nothing.
+use Rattle.std.proofs.Common.{Ok, Err}
+use Rattle.text.specs.Refusals.{Told}
+use Rattle.strings.specs.declared.literal.Literal.{Literal}
 use Prim.Native.Nat.{◌+◌, ◌<◌, ◌≤◌, suc, zero, ℕ}
 use native.Mathlib.Omega.{arith}
 use mathlib.Core.Bool.{Bool, ◌||◌, cond, false, true}
@@ -17,8 +20,6 @@ use Rattle.strings.proofs.PieceLaws.{Sized, body_step, sized}
 use Rattle.strings.specs.Pieces.{Body, behind_backslash, body_from, body_of, by_escape, by_piece, bytes_of, line_end, piece_of, plain, unquoted}
 use Rattle.strings.specs.Pieces.Body.{closes, next, spoilt, unclosed}
 use Rattle.strings.specs.Quoted.{measured, quoted_of}
-use Rattle.strings.specs.declared.literal.LiteralAnswer.{LiteralAnswer}
-use Rattle.strings.specs.declared.literal.LiteralAnswer.TheVariants.{Read, Refused}
 use Rattle.strings.specs.declared.pieces.Decoded.TheVariants.{Nothing}
 use Rattle.strings.specs.declared.pieces.Piece.{Piece}
 use Rattle.strings.specs.declared.pieces.Piece.TheVariants.{Backslash, Plain, Quote, Refused as Spoilt}
@@ -34,13 +35,13 @@ use Rattle.settled.proofs.EscapeEnds.{Plain as PlainByte, escape_stays}
 -- ---- where a refusal of a body stands
 
 -- a refusal that is not for a missing end stands behind what was passed
-abbrev Behind : ℕ → LiteralAnswer → Type 0
-Behind at (Read l) = Unit {0}
-Behind at (Refused r) = (r.number ≡ 17 → ⊥) → at ≤ r.place
+abbrev Behind : ℕ → Told Literal → Type 0
+Behind at (Ok l) = Unit {0}
+Behind at (Err r) = (r.number ≡ 17 → ⊥) → at ≤ r.place
 
-behind_less : (at k : ℕ) (a : LiteralAnswer) → at ≤ k → Behind k a → Behind at a
-behind_less at k (Read l) h b = tt
-behind_less at k (Refused r) h b = λ n. omega (arith, b n)
+behind_less : (at k : ℕ) (a : Told Literal) → at ≤ k → Behind k a → Behind at a
+behind_less at k (Ok l) h b = tt
+behind_less at k (Err r) h b = λ n. omega (arith, b n)
 
 measured_behind : (b : Body) (start from at dec : ℕ) (esc : Bool) → Behind at (measured b start from at dec esc)
 unfolding measured
@@ -123,14 +124,14 @@ module _ (c : ℕ) (o : PlainByte c) where
   -- ---- bodies
 
   -- what a body of the rest t comes to, `at` bytes behind the front
-  abbrev comes : Mode → List ℕ → ℕ → ℕ → ℕ → ℕ → Bool → LiteralAnswer
+  abbrev comes : Mode → List ℕ → ℕ → ℕ → ℕ → ℕ → Bool → Told Literal
   comes m t start from at dec esc = measured (body_of m t) start from at dec esc
 
   abbrev Stays : Mode → List ℕ → List ℕ → List ℕ → Refusal → Type 0
-  Stays m a w v r = (start from at dec : ℕ) (esc : Bool) → comes m (a ++ c ∷ w) start from at dec esc ≡ Refused r → r.place ≤ at + length a
-      → comes m (a ++ c ∷ (w ++ v)) start from at dec esc ≡ Refused r
+  Stays m a w v r = (start from at dec : ℕ) (esc : Bool) → comes m (a ++ c ∷ w) start from at dec esc ≡ Err r → r.place ≤ at + length a
+      → comes m (a ++ c ∷ (w ++ v)) start from at dec esc ≡ Err r
 
-  empty_17 : (m : Mode) (start from at dec : ℕ) (esc : Bool) (r : Refusal) → comes m [] start from at dec esc ≡ Refused r → r.number ≡ 17
+  empty_17 : (m : Mode) (start from at dec : ℕ) (esc : Bool) (r : Refusal) → comes m [] start from at dec esc ≡ Err r → r.number ≡ 17
   unfolding body_of body_from measured
   empty_17 m start from at dec esc r h = let e : expected_string_end from ≡ r = cc in sym (ap (λ (x : Refusal). x.number) e)
 
@@ -139,8 +140,8 @@ module _ (c : ℕ) (o : PlainByte c) where
     pass : (fuel n : ℕ) (a : List ℕ) (bytes bytes' : List ℕ) (changed : Bool) → length bytes ≡ length bytes' → 1 ≤ n → length a ≤ fuel
         → ((a : List ℕ) → length a < fuel → Stays m a w v r)
         → (start from at dec : ℕ) (esc : Bool)
-        → measured (next n bytes changed (body_of m (drop n (a ++ c ∷ w)))) start from at dec esc ≡ Refused r → r.place ≤ at + length a
-        → measured (next n bytes' changed (body_of m (drop n (a ++ c ∷ (w ++ v))))) start from at dec esc ≡ Refused r
+        → measured (next n bytes changed (body_of m (drop n (a ++ c ∷ w)))) start from at dec esc ≡ Err r → r.place ≤ at + length a
+        → measured (next n bytes' changed (body_of m (drop n (a ++ c ∷ (w ++ v))))) start from at dec esc ≡ Err r
     unfolding measured
     pass fuel n a bytes bytes' changed lb pos la rest start from at dec esc h le =
         let f : ℕ = cond changed (at + n) from in
@@ -149,7 +150,7 @@ module _ (c : ℕ) (o : PlainByte c) where
         (λ far. absurd (omega (arith, le, subst (Behind (at + n)) h (measured_behind (body_of m (drop n (a ++ c ∷ w))) start f (at + n) (dec + length bytes) e) n17)))
         (λ near. let d = drop-append-le n a (c ∷ w) near in
         let d' = drop-append-le n a (c ∷ (w ++ v)) near in
-        let g : comes m (drop n a ++ c ∷ w) start f (at + n) (dec + length bytes) e ≡ Refused r = ap (λ (t : List ℕ). comes m t start f (at + n) (dec + length bytes) e) (sym d) ∙ h in
+        let g : comes m (drop n a ++ c ∷ w) start f (at + n) (dec + length bytes) e ≡ Err r = ap (λ (t : List ℕ). comes m t start f (at + n) (dec + length bytes) e) (sym d) ∙ h in
         let l = length-drop n a in
         ap (λ (t : List ℕ). comes m t start f (at + n) (dec + length bytes') e) d'
         ∙ ap (λ (k : ℕ). comes m (drop n a ++ c ∷ (w ++ v)) start f (at + n) (dec + k) e) (sym lb)
@@ -164,12 +165,12 @@ module _ (c : ℕ) (o : PlainByte c) where
 
     -- by the piece in front
     on_piece : (a : List ℕ) (p : Piece) (start from at dec : ℕ) (esc : Bool) → p ≡ piece_of m (a ++ c ∷ (w ++ v))
-        → measured (by_piece p (a ++ c ∷ (w ++ v)) (λ n. body_of m (drop n (a ++ c ∷ (w ++ v))))) start from at dec esc ≡ Refused r → comes m (a ++ c ∷ (w ++ v)) start from at dec esc ≡ Refused r
+        → measured (by_piece p (a ++ c ∷ (w ++ v)) (λ n. body_of m (drop n (a ++ c ∷ (w ++ v))))) start from at dec esc ≡ Err r → comes m (a ++ c ∷ (w ++ v)) start from at dec esc ≡ Err r
     on_piece a p start from at dec esc q h = ap (λ (x : Body). measured x start from at dec esc) (body_step m (a ++ c ∷ (w ++ v)) p (some a (w ++ v)) q) ∙ h
 
     -- a piece that reaches the end of what has come leaves nothing but 17
     not_all : (t : List ℕ) (n : ℕ) (bytes : List ℕ) (changed : Bool) (start from at dec : ℕ) (esc : Bool)
-        → measured (next n bytes changed (body_of m (drop n t))) start from at dec esc ≡ Refused r → n ≤ length t → n < length t
+        → measured (next n bytes changed (body_of m (drop n t))) start from at dec esc ≡ Err r → n ≤ length t → n < length t
     unfolding measured
     not_all t n bytes changed start from at dec esc h le =
         either (lt_or_le n (length t)) (λ l. l)
@@ -184,8 +185,8 @@ module _ (c : ℕ) (o : PlainByte c) where
         piece_closed m b u [] x (subst (λ (y : List ℕ). Less (suc (length u)) (piece_of m (b ∷ y))) (sym e) l) ∙ ap (λ (y : List ℕ). piece_of m (b ∷ y)) e
 
     by-piece : (fuel : ℕ) (a : List ℕ) (p : Piece) → p ≡ piece_of m (a ++ c ∷ w) → Sized (a ++ c ∷ w) p → length a ≤ fuel → ((b : List ℕ) → length b < fuel → Stays m b w v r)
-        → (start from at dec : ℕ) (esc : Bool) → measured (by_piece p (a ++ c ∷ w) (λ n. body_of m (drop n (a ++ c ∷ w)))) start from at dec esc ≡ Refused r → r.place ≤ at + length a
-        → comes m (a ++ c ∷ (w ++ v)) start from at dec esc ≡ Refused r
+        → (start from at dec : ℕ) (esc : Bool) → measured (by_piece p (a ++ c ∷ w) (λ n. body_of m (drop n (a ++ c ∷ w)))) start from at dec esc ≡ Err r → r.place ≤ at + length a
+        → comes m (a ++ c ∷ (w ++ v)) start from at dec esc ≡ Err r
     unfolding measured
     by-piece fuel a Quote q z l rest start from at dec esc e le = let y : ◌≡◌ {A = ℕ} 0 1 = cc in absurd (omega arith)
     by-piece fuel a (Plain n) q z l rest start from at dec esc e le =
@@ -217,12 +218,12 @@ module _ (c : ℕ) (o : PlainByte c) where
   run_keeps p t v h = let e = append-nil t in run_same p t [] v (subst (λ (x : List ℕ). run p x < length t) (sym e) h) ∙ ap (run p) e
 
   -- a quoted string that is not refused for its end has a quote
-  quoted_in : (m : Mode) (start : ℕ) (s : List ℕ) (r : Refusal) → quoted_of m start s ≡ Refused r → (r.number ≡ 17 → ⊥)
-      → (run unquoted (drop start s) < length (drop start s)) × (measured (body_of m (drop start s)) start start start 0 false ≡ Refused r)
+  quoted_in : (m : Mode) (start : ℕ) (s : List ℕ) (r : Refusal) → quoted_of m start s ≡ Err r → (r.number ≡ 17 → ⊥)
+      → (run unquoted (drop start s) < length (drop start s)) × (measured (body_of m (drop start s)) start start start 0 false ≡ Err r)
   unfolding quoted_of
   quoted_in m start s r h n17 =
-      cond_cases (λ (x : LiteralAnswer). x ≡ Refused r → (run unquoted (drop start s) < length (drop start s)) × (measured (body_of m (drop start s)) start start start 0 false ≡ Refused r))
-      (ltb (run unquoted (drop start s)) (length (drop start s))) _ (Refused (expected_string_end start))
+      cond_cases (λ (x : Told Literal). x ≡ Err r → (run unquoted (drop start s) < length (drop start s)) × (measured (body_of m (drop start s)) start start start 0 false ≡ Err r))
+      (ltb (run unquoted (drop start s)) (length (drop start s))) _ (Err (expected_string_end start))
       (λ e q. (ltb-true (run unquoted (drop start s)) (length (drop start s)) e, q))
       (λ e q. let is : expected_string_end start ≡ r = cc in absurd (n17 (sym (ap (λ (y : Refusal). y.number) is)))) h
 
@@ -230,8 +231,8 @@ module _ (c : ℕ) (o : PlainByte c) where
   unfolding quoted_of
   quoted_by m start s t e h = rw (e, lt-ltb (run unquoted t) (length t) h)
 
-  pub quoted_stays : (m : Mode) (start : ℕ) (a w v : List ℕ) (r : Refusal) → start ≤ length a → quoted_of m start (a ++ c ∷ w) ≡ Refused r → (r.number ≡ 17 → ⊥) → r.place ≤ length a
-      → quoted_of m start ((a ++ c ∷ w) ++ v) ≡ Refused r
+  pub quoted_stays : (m : Mode) (start : ℕ) (a w v : List ℕ) (r : Refusal) → start ≤ length a → quoted_of m start (a ++ c ∷ w) ≡ Err r → (r.number ≡ 17 → ⊥) → r.place ≤ length a
+      → quoted_of m start ((a ++ c ∷ w) ++ v) ≡ Err r
   quoted_stays m start a w v r ls h n17 le =
       let s : List ℕ = a ++ c ∷ w in
       let b : List ℕ = drop start a in
@@ -241,12 +242,12 @@ module _ (c : ℕ) (o : PlainByte c) where
       let d' : drop start (s ++ v) ≡ t ++ v = drop-append-le start s v long ∙ ap (λ (x : List ℕ). x ++ v) d in
       let k = quoted_in m start s r h n17 in
       let quote : run unquoted t < length t = subst (λ (x : List ℕ). run unquoted x < length x) d k.0 in
-      let was : comes m t start start start 0 false ≡ Refused r = ap (λ (x : List ℕ). comes m x start start start 0 false) (sym d) ∙ k.1 in
+      let was : comes m t start start start 0 false ≡ Err r = ap (λ (x : List ℕ). comes m x start start start 0 false) (sym d) ∙ k.1 in
       let quote' : run unquoted (t ++ v) < length (t ++ v) = omega (arith, run_keeps unquoted t v quote, length-append t v) in
       quoted_by m start (s ++ v) (t ++ v) d' quote'
       ∙ ap (λ (x : List ℕ). comes m x start start start 0 false) (append_assoc b (c ∷ w) v)
       ∙ body_stays m w v r n17 (suc (length b)) b (omega arith) start start start 0 false was (omega (arith, length-drop start a))
 
   -- a quoted string that is not refused for its end is refused behind its quote
-  pub quoted_place : (m : Mode) (start : ℕ) (s : List ℕ) (r : Refusal) → quoted_of m start s ≡ Refused r → (r.number ≡ 17 → ⊥) → start ≤ r.place
+  pub quoted_place : (m : Mode) (start : ℕ) (s : List ℕ) (r : Refusal) → quoted_of m start s ≡ Err r → (r.number ≡ 17 → ⊥) → start ≤ r.place
   quoted_place m start s r h n17 = subst (Behind start) (quoted_in m start s r h n17).1 (measured_behind (body_of m (drop start s)) start start start 0 false) n17

@@ -1,4 +1,7 @@
 -- Tokens before a stop byte, and tokens that their last byte closes. Assumes nothing.
+use Rattle.std.proofs.Common.{Ok, Err}
+use Rattle.text.specs.Refusals.{Told}
+use Rattle.strings.specs.declared.literal.Literal.{Literal}
 use Prim.Native.Nat.{ℕ, suc}
 use native.Mathlib.Omega.{arith}
 use mathlib.Core.Bool.{true, false}
@@ -9,8 +12,6 @@ use lib.Dec.{eqb}
 use lib.ListN.{get_or, length, length-append}
 use Rattle.attributes.proofs.AttributeLaws.{Within-attribute, attribute_closed}
 use Rattle.attributes.specs.Attributes.{attribute_of}
-use Rattle.attributes.specs.declared.AttributeAnswer.{AttributeAnswer}
-use Rattle.attributes.specs.declared.AttributeAnswer.TheVariants as attribute
 use Rattle.integers.proofs.IntegerStops.{Outside}
 use Rattle.integers.specs.Width.{code_of}
 use Rattle.names.specs.Classify.{word_of}
@@ -23,12 +24,6 @@ use Rattle.numbers.specs.declared.Number.TheVariants as number
 use Rattle.strings.proofs.Closes.{Within-string, Within-char, Within-byte, string_closed, byte_string_closed, char_closed, byte_closed}
 use Rattle.strings.specs.Chars.{char_of, byte_of}
 use Rattle.strings.specs.Strings.{string_of, byte_string_of}
-use Rattle.strings.specs.declared.chars.CharAnswer.{CharAnswer}
-use Rattle.strings.specs.declared.chars.CharAnswer.TheVariants as char
-use Rattle.strings.specs.declared.chars.ByteAnswer.{ByteAnswer}
-use Rattle.strings.specs.declared.chars.ByteAnswer.TheVariants as byte
-use Rattle.strings.specs.declared.literal.LiteralAnswer.{LiteralAnswer}
-use Rattle.strings.specs.declared.literal.LiteralAnswer.TheVariants as literal
 use Rattle.text.specs.Classes.{ascii_next, ascii_raw, digit, letter, within}
 use Rattle.tokens.proofs.ShapeLaws.{shape_at}
 use Rattle.tokens.proofs.TokenLaws.{Fits}
@@ -36,8 +31,6 @@ use Rattle.tokens.specs.Lexemes.{lexeme, lexeme_of, number_lexeme}
 use Rattle.tokens.specs.Shapes.{behind_b, behind_r, shape_of}
 use Rattle.tokens.specs.Token.{of_word, of_char, of_byte, of_string, of_byte_string, of_attribute, by_shape, token_of}
 use Rattle.tokens.specs.declared.lexeme.Lexeme.{Lexeme}
-use Rattle.tokens.specs.declared.lexeme.LexemeAnswer.{LexemeAnswer}
-use Rattle.tokens.specs.declared.lexeme.LexemeAnswer.TheVariants.{Refused}
 use Rattle.tokens.specs.declared.shape.Shape.{Shape}
 use Rattle.tokens.specs.declared.shape.Shape.TheVariants as shape
 use Rattle.tokens.specs.declared.token.Token.TheVariants as token
@@ -47,45 +40,45 @@ use Rattle.settled.specs.Bytes.{stops_byte}
 
 -- ---- what an accepted lexeme says of its reader
 
-fits_attribute : (n : ℕ) (a : AttributeAnswer) → Fits n (lexeme_of (of_attribute a)) → Within-attribute n a
-fits_attribute n (attribute.Read l e) h = h
-fits_attribute n (attribute.Refused r) h = h
+fits_attribute : (n : ℕ) (a : Told (ℕ × ℕ)) → Fits n (lexeme_of (of_attribute a)) → Within-attribute n a
+fits_attribute n (Ok (l, e)) h = h
+fits_attribute n (Err r) h = h
 
-fits_string : (n : ℕ) (a : LiteralAnswer) → Fits n (lexeme_of (of_string a)) → Within-string n a
-fits_string n (literal.Read l) h = h
-fits_string n (literal.Refused r) h = h
+fits_string : (n : ℕ) (a : Told Literal) → Fits n (lexeme_of (of_string a)) → Within-string n a
+fits_string n (Ok l) h = h
+fits_string n (Err r) h = h
 
-fits_byte_string : (n : ℕ) (a : LiteralAnswer) → Fits n (lexeme_of (of_byte_string a)) → Within-string n a
-fits_byte_string n (literal.Read l) h = h
-fits_byte_string n (literal.Refused r) h = h
+fits_byte_string : (n : ℕ) (a : Told Literal) → Fits n (lexeme_of (of_byte_string a)) → Within-string n a
+fits_byte_string n (Ok l) h = h
+fits_byte_string n (Err r) h = h
 
-fits_char : (n : ℕ) (a : CharAnswer) → Fits n (lexeme_of (of_char a)) → Within-char n a
-fits_char n (char.Read l c) h = h
-fits_char n (char.Refused r) h = h
+fits_char : (n : ℕ) (a : Told (ℕ × ℕ)) → Fits n (lexeme_of (of_char a)) → Within-char n a
+fits_char n (Ok (l, c)) h = h
+fits_char n (Err r) h = h
 
-fits_byte : (n : ℕ) (a : ByteAnswer) → Fits n (lexeme_of (of_byte a)) → Within-byte n a
-fits_byte n (byte.Read l c) h = h
-fits_byte n (byte.Refused r) h = h
+fits_byte : (n : ℕ) (a : Told (ℕ × ℕ)) → Fits n (lexeme_of (of_byte a)) → Within-byte n a
+fits_byte n (Ok (l, c)) h = h
+fits_byte n (Err r) h = h
 
 same_len : (l k d l' k' d' : ℕ) → lexeme l k d ≡ lexeme l' k' d' → l ≡ l'
 same_len l k d l' k' d' h =
     let e : ◌≡◌ {A = Lexeme} (record { len = l; kind = k; detail = d }) (record { len = l'; kind = k'; detail = d' }) = cc in
     ap (λ (x : Lexeme). x.len) e
 
-not_lexeme : (d : LexemeAnswer) (l k e : ℕ) → (Fits l d → ⊥) → d ≡ lexeme l k e → ⊥
+not_lexeme : (d : Told Lexeme) (l k e : ℕ) → (Fits l d → ⊥) → d ≡ lexeme l k e → ⊥
 not_lexeme d l k e f h = f (subst (Fits l) (sym h) (omega arith))
 
 -- a number or word that ends before a byte does not end with it
 number_not : (n k d : ℕ) (a : Number) → NumberBy n a → number_lexeme a ≡ lexeme (suc n) k d → ⊥
 number_not n k d (number.Int w l) b h = let q = same_len l 11 (code_of w) (suc n) k d h in omega arith
 number_not n k d (number.Float f) b h = let q = same_len f.len 12 f.suffix (suc n) k d h in omega arith
-number_not n k d (number.Refused r) b h = not_lexeme (Refused r) (suc n) k d (λ x. x) h
+number_not n k d (number.Refused r) b h = not_lexeme (Err r) (suc n) k d (λ x. x) h
 
 word_not : (c : ℕ) (is : stops_byte c ≡ true) (n k d : ℕ) (a : Word) → EndsBy c is n a → lexeme_of (of_word a) ≡ lexeme (suc n) k d → ⊥
 word_not c is n k d (word.Plain l) b h = let q = same_len l 9 0 (suc n) k d h in omega arith
 word_not c is n k d (word.Raw l) b h = let q = same_len l 10 0 (suc n) k d h in omega arith
 word_not c is n k d (word.Float l suffix) b h = let q = same_len l 12 suffix (suc n) k d h in omega arith
-word_not c is n k d (word.Refused r) b h = not_lexeme (Refused r) (suc n) k d (λ x. x) h
+word_not c is n k d (word.Refused r) b h = not_lexeme (Err r) (suc n) k d (λ x. x) h
 
 module _ (c : ℕ) (is : stops_byte c ≡ true) where
   pub out : Outside c

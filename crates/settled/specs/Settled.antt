@@ -2,6 +2,9 @@
 -- docs/"). One of a name or number, with a stop byte behind its start; one of a string, char or byte literal, with a stop byte at its place or behind; one of an
 -- attribute, with a stop byte where its reading stood or behind; none that is 4, 6 or 17, which say that the text has ended. At once, with its character: 5 behind a
 -- `/`, and 5 where no token starts.
+use Rattle.std.specs.Prelude.{Ok, Err}
+use Rattle.text.specs.Refusals.{Told}
+use Rattle.tokens.specs.declared.lexeme.Lexeme.{Lexeme}
 use Rattle.std.specs.Prelude.{ℕ, ◌-◌, Bool, true, false, not, ◌&&◌, ◌||◌, List, eqb, leb, ltb, drop, get_or}
 use Rattle.text.specs.Ahead.{char_if}
 use Rattle.text.specs.Classes.{ident_first}
@@ -15,8 +18,6 @@ use Rattle.tokens.specs.Lexemes.{lexeme_of}
 use Rattle.tokens.specs.Ron.{ron_token}
 use Rattle.tokens.specs.Shapes.{shape_of}
 use Rattle.tokens.specs.Token.{token_of}
-use Rattle.tokens.specs.declared.lexeme.LexemeAnswer.{LexemeAnswer}
-use Rattle.tokens.specs.declared.lexeme.LexemeAnswer.TheVariants as lexeme
 use Rattle.tokens.specs.declared.shape.Shape.{Shape}
 use Rattle.tokens.specs.declared.shape.Shape.TheVariants as shape
 use Rattle.arriving.specs.Owing.{Reader, tells_end}
@@ -49,9 +50,9 @@ stays_by shape.Number p r = stop_from 0 p
 stays_by shape.Word p r = stop_from 0 p
 
 -- 4, 6 and 17 say that the text has ended, and only the end gives them.
-abbrev pub by_lexeme : LexemeAnswer → (Refusal → Bool) → Bool
-by_lexeme (lexeme.Read l) stays = false
-by_lexeme (lexeme.Refused r) stays = not (tells_end r) && stays r
+abbrev pub by_lexeme : Told Lexeme → (Refusal → Bool) → Bool
+by_lexeme (Ok l) stays = false
+by_lexeme (Err r) stays = not (tells_end r) && stays r
 
 -- A shape by which a name is read.
 abbrev pub is_word : Shape → Bool

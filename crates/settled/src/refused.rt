@@ -1,7 +1,7 @@
 // Which refusals stay, however the text goes on.
+ghost use Rattle.std.specs.Prelude.{Err};
 ghost use Rattle.std.specs.Prelude.{◌&&◌, ◌≡◌, ◌-◌};
 ghost use Rattle.arriving.specs.Owing.{tells_end};
-ghost use Rattle.tokens.specs.declared.lexeme.LexemeAnswer.TheVariants as lexeme;
 ghost use Rattle.settled.specs.Settled.{behind_slash, by_lexeme, quoted_stays, ron_settles, shape_in, spoilt_for, stays_by};
 
 use crate::bytes::stops_from;
@@ -10,7 +10,7 @@ use crate::stood::attribute_stood;
 use comments::{Gap, skip_gap};
 use text::Refusal;
 use text::bytes::peek;
-use tokens::lexeme::{LexemeAnswer, lexeme_of};
+use tokens::lexeme::lexeme_of;
 use tokens::shape::{Shape, shape_of};
 use tokens::token::token_at;
 
@@ -61,7 +61,7 @@ pub fn tells_end(refused: Refusal) -> bool
 
 // That of the token at the front.
 fn stays(p: &[u8], refused: Refusal) -> bool
-    ensures { result ≡ by_lexeme (lexeme.Refused refused) (stays_by (shape_in p.now) p.now) }
+    ensures { result ≡ by_lexeme (Err refused) (stays_by (shape_in p.now) p.now) }
 {
     if tells_end(refused) {
         return false;
@@ -76,8 +76,8 @@ fn is_spoilt(p: &[u8]) -> bool
 {
     let found = lexeme_of(token_at(p));
     match found {
-        LexemeAnswer::Read(_) => false,
-        LexemeAnswer::Refused(refused) => {
+        Ok(_) => false,
+        Err(refused) => {
             if starts_nothing(p) {
                 return true;
             }

@@ -7,11 +7,9 @@ ghost use Rattle.settled.specs.Stood.{listed_stood, string_stood, enable_stood, 
 
 use crate::stood_list::list_stood;
 use crate::stood_steps::{behind_stood, bracket_stood, sign_stood};
-use attributes::list::{Listed, extension_list};
+use attributes::list::extension_list;
 use attributes::steps;
-use attributes::steps::{All, Step};
 use attributes::words::{Keyword, keyword_at};
-use strings::LiteralAnswer;
 
 // By the list that begins at a place.
 fn listed_stood(s: &[u8], start: usize) -> usize
@@ -19,8 +17,8 @@ fn listed_stood(s: &[u8], start: usize) -> usize
 {
     let listed = extension_list(s, start);
     match listed {
-        Listed::Ended(end, _) => bracket_stood(s, end),
-        Listed::Refused(_) => list_stood(s, start),
+        Ok((end, _)) => bracket_stood(s, end),
+        Err(_) => list_stood(s, start),
     }
 }
 
@@ -30,8 +28,8 @@ fn enable_stood(s: &[u8], at: usize) -> usize
 {
     let opened = steps::sign(s, b'(', at);
     match opened {
-        Step::On(start) => listed_stood(s, start),
-        Step::Refused(_) => sign_stood(s, b'(', at),
+        Ok(start) => listed_stood(s, start),
+        Err(_) => sign_stood(s, b'(', at),
     }
 }
 
@@ -44,11 +42,11 @@ fn string_stood(s: &[u8], at: usize) -> usize
     }
     let found = strings::string(&s[at..]);
     match found {
-        LiteralAnswer::Read(l) => {
+        Ok(l) => {
             let end = at + l.len;
             behind_stood(s, end)
         }
-        LiteralAnswer::Refused(r) => {
+        Err(r) => {
             let place = at + r.place;
             place
         }
@@ -61,8 +59,8 @@ fn value_stood(s: &[u8], at: usize) -> usize
 {
     let given = steps::sign(s, b'=', at);
     match given {
-        Step::On(start) => string_stood(s, start),
-        Step::Refused(_) => sign_stood(s, b'=', at),
+        Ok(start) => string_stood(s, start),
+        Err(_) => sign_stood(s, b'=', at),
     }
 }
 
@@ -82,16 +80,16 @@ fn keyword_stood(s: &[u8], at: usize) -> usize
 pub fn attribute_stood(s: &[u8]) -> usize
     ensures { result ≡ attribute_stood s.now }
 {
-    let hash = steps::consume(s, b'#', All::At(true, 0));
+    let hash = steps::consume(s, b'#', Ok((true, 0)));
     let bang = steps::consume(s, b'!', hash);
     let bracket = steps::consume(s, b'[', bang);
     match bracket {
-        All::At(all, at) => {
+        Ok((all, at)) => {
             if all {
                 return keyword_stood(s, at);
             }
             at
         }
-        All::Refused(r) => r.place,
+        Err(r) => r.place,
     }
 }

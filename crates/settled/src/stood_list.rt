@@ -3,24 +3,24 @@ ghost use Rattle.std.specs.Prelude.{◌≡◌, drop};
 ghost use Rattle.settled.specs.Stood.{named_stood, item_stood, by_stood_item, list_stood};
 
 use crate::stood_steps::all_end;
-use attributes::extensions::{Named, from_ident};
+use attributes::extensions::from_ident;
 use attributes::list::{Item, next_item};
 use attributes::steps;
 use names::Identifier;
 use names::identifiers::identifier;
 
 // Behind a name of n bytes, and behind its comma if it is an extension's.
-fn named_stood(t: &[u8], n: usize, named: Named) -> usize
+fn named_stood(t: &[u8], n: usize, named: Option<Extension>) -> usize
     ensures { result ≡ named_stood t.now n named }
 {
     match named {
-        Named::Known(_) => {
+        Some(_) => {
             let gap = steps::skip_ws(t, n);
             let so_far = steps::all_at(gap);
             let comma = steps::consume(t, b',', so_far);
             all_end(comma)
         }
-        Named::Unknown => n,
+        None => n,
     }
 }
 

@@ -4,26 +4,26 @@ ghost use Rattle.attributes.specs.Steps.{skip_from, consume_from};
 ghost use Rattle.settled.specs.Stood.{step_end, all_end, sign_here, sign_stood, end_stood, bracket_stood, behind_stood};
 
 use attributes::steps;
-use attributes::steps::{All, Step};
+use text::Refusal;
 use text::bytes::peek;
 
 // Behind a step, or at its refusal.
-fn step_end(step: Step) -> usize
+fn step_end(step: Result<usize, Refusal>) -> usize
     ensures { result ≡ step_end step }
 {
     match step {
-        Step::On(place) => place,
-        Step::Refused(r) => r.place,
+        Ok(place) => place,
+        Err(r) => r.place,
     }
 }
 
 // The same of signs.
-pub fn all_end(signs: All) -> usize
+pub fn all_end(signs: Result<(bool, usize), Refusal>) -> usize
     ensures { result ≡ all_end signs }
 {
     match signs {
-        All::At(_, place) => place,
-        All::Refused(r) => r.place,
+        Ok((_, place)) => place,
+        Err(r) => r.place,
     }
 }
 
@@ -47,8 +47,8 @@ pub fn sign_stood(s: &[u8], b: u8, at: usize) -> usize
 {
     let gap = steps::skip_ws(s, at);
     match gap {
-        Step::On(place) => sign_here(s, b, place),
-        Step::Refused(r) => r.place,
+        Ok(place) => sign_here(s, b, place),
+        Err(r) => r.place,
     }
 }
 
@@ -70,10 +70,10 @@ fn end_stood(s: &[u8], all: bool, at: usize) -> usize
 pub fn bracket_stood(s: &[u8], at: usize) -> usize
     ensures { result ≡ bracket_stood s.now (consume_from 0x29 s.now true at) }
 {
-    let bracket = steps::consume(s, b')', All::At(true, at));
+    let bracket = steps::consume(s, b')', Ok((true, at)));
     match bracket {
-        All::At(all, place) => end_stood(s, all, place),
-        All::Refused(r) => r.place,
+        Ok((all, place)) => end_stood(s, all, place),
+        Err(r) => r.place,
     }
 }
 
@@ -83,7 +83,7 @@ pub fn behind_stood(s: &[u8], at: usize) -> usize
 {
     let behind = steps::skip_ws(s, at);
     match behind {
-        Step::On(place) => end_stood(s, true, place),
-        Step::Refused(r) => r.place,
+        Ok(place) => end_stood(s, true, place),
+        Err(r) => r.place,
     }
 }

@@ -1,7 +1,7 @@
 // The answers of contents and decoded.
 ghost use Rattle.std.specs.Prelude.{◌≡◌};
 ghost use Rattle.lines.specs.Out.{put};
-ghost use Rattle.entries.specs.Contents.{told_contents, told_decoded};
+ghost use Rattle.entries.specs.Contents.{told_contents};
 ghost use Rattle.show.specs.Answers.{answer_text};
 ghost use Rattle.show.specs.Contents.{span_text, bytes_text, wrote_text};
 
@@ -37,7 +37,7 @@ fn wrote(o: &mut [u8], at: usize, s: &[u8]) -> usize
 
 // The buffer is the one that was lent.
 pub fn decoded(o: &mut [u8], at: usize, r: DecodedAnswer, buffer: &[u8]) -> usize
-    ensures { (o.new, result) ≡ put (o.old, at) (answer_text (wrote_text buffer.now) (told_decoded r)) }
+    ensures { (o.new, result) ≡ put (o.old, at) (answer_text (wrote_text buffer.now) (r)) }
 {
     match r {
         DecodedAnswer::Wrote(n) => wrote(o, at, lines::part(buffer, 0, n)),

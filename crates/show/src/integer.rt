@@ -6,7 +6,8 @@ ghost use Rattle.show.specs.Answers.{answer_text};
 ghost use Rattle.show.specs.Integers.{signed_text, typed_text};
 
 use lines::out;
-use sarridok::{IntegerAnswer, Value};
+use sarridok::Value;
+use text::Refusal;
 
 // The sign and digits of a value; zero has no sign.
 fn value(o: &mut [u8], at: usize, v: Value) -> usize
@@ -22,15 +23,15 @@ fn value(o: &mut [u8], at: usize, v: Value) -> usize
 }
 
 // The value and the place behind it, or the refusal.
-pub fn read(o: &mut [u8], at: usize, r: IntegerAnswer) -> usize
+pub fn read(o: &mut [u8], at: usize, r: Result<(Value, usize), Refusal>) -> usize
     ensures { (o.new, result) ≡ put (o.old, at) (answer_text typed_text (told_integer r)) }
 {
     match r {
-        IntegerAnswer::Value(v, end) => {
+        Ok((v, end)) => {
             let a = out::bytes(o, at, b"ok ");
             let b = value(o, a, v);
             out::word(o, b, end as u64)
         }
-        IntegerAnswer::Refused(f) => crate::refused(o, at, f),
+        Err(f) => crate::refused(o, at, f),
     }
 }

@@ -1,7 +1,6 @@
 // The answer of a read, and the entries of its tape.
 ghost use Rattle.std.specs.Prelude.{◌≡◌, cond, [], ltb, length};
 ghost use Rattle.lines.specs.Out.{put};
-ghost use Rattle.read.specs.Read.{told_read};
 ghost use Rattle.rows.specs.Rows.{room_of, entry_at};
 ghost use Rattle.show.specs.Answers.{answer_text};
 ghost use Rattle.show.specs.Readings.{entry_text, tape_text, read_text};
@@ -49,7 +48,7 @@ pub fn accepted(o: &mut [u8], at: usize, n: usize, tape: &[u32], between: u8) ->
 
 // These, or the refusal.
 pub fn read(o: &mut [u8], at: usize, r: ReadAnswer, tape: &[u32], between: u8) -> usize
-    ensures { (o.new, result) ≡ put (o.old, at) (answer_text (read_text between tape.now) (told_read r)) }
+    ensures { (o.new, result) ≡ put (o.old, at) (answer_text (read_text between tape.now) (r)) }
 {
     match r {
         ReadAnswer::Accepted(n) => accepted(o, at, n, tape, between),

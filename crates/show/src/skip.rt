@@ -1,12 +1,12 @@
 // The answer of a skip.
 ghost use Rattle.std.specs.Prelude.{◌≡◌};
 ghost use Rattle.lines.specs.Out.{put};
-ghost use Rattle.sarridok.specs.Skip.{told_skip};
 ghost use Rattle.show.specs.Answers.{answer_text};
 ghost use Rattle.show.specs.Skips.{length_text, cursor_text, moved_text};
 
-use cursor::{ParserCursor, Step};
+use cursor::ParserCursor;
 use lines::out;
+use text::Refusal;
 
 // The whitespace's length, or `mark` for a line that is not closed.
 fn length(o: &mut [u8], at: usize, n: usize) -> usize
@@ -27,14 +27,14 @@ fn cursor(o: &mut [u8], at: usize, c: ParserCursor) -> usize
 }
 
 // The three numbers of the cursor, or the refusal.
-pub fn skipped(o: &mut [u8], at: usize, s: Step) -> usize
-    ensures { (o.new, result) ≡ put (o.old, at) (answer_text moved_text (told_skip s)) }
+pub fn skipped(o: &mut [u8], at: usize, s: Result<ParserCursor, Refusal>) -> usize
+    ensures { (o.new, result) ≡ put (o.old, at) (answer_text moved_text (s)) }
 {
     match s {
-        Step::Moved(c) => {
+        Ok(c) => {
             let a = out::bytes(o, at, b"ok");
             cursor(o, a, c)
         }
-        Step::Refused(r) => crate::refused(o, at, r),
+        Err(r) => crate::refused(o, at, r),
     }
 }

@@ -1,7 +1,6 @@
 // The answer of a struct kind.
 ghost use Rattle.std.specs.Prelude.{◌≡◌};
 ghost use Rattle.lines.specs.Out.{put};
-ghost use Rattle.sarridok.specs.StructKind.{told_struct};
 ghost use Rattle.show.specs.Answers.{answer_text};
 ghost use Rattle.show.specs.StructKinds.{kind_name, kind_text};
 
@@ -23,7 +22,7 @@ fn name(o: &mut [u8], at: usize, kind: StructType) -> usize
 
 // The kind by its name in the crate, or the refusal.
 pub fn kind(o: &mut [u8], at: usize, r: StructAnswer) -> usize
-    ensures { (o.new, result) ≡ put (o.old, at) (answer_text kind_text (told_struct r)) }
+    ensures { (o.new, result) ≡ put (o.old, at) (answer_text kind_text (r)) }
 {
     match r {
         StructAnswer::Kind(k) => {

@@ -3,19 +3,18 @@
 --     tells-apart, tapes-differ     and tells two spelt texts apart whose entries differ
 --     not-all-refused, not-one-tape, not-nothing-written, not-none-counted
 --     some-reader                   there is a reader that meets it
+use Rattle.std.proofs.Common.{Ok, Err}
 use Prim.Native.Nat.{ℕ, ◌*◌, ◌≤◌, ◌<◌}
 use native.Mathlib.Omega.{arith}
 use mathlib.Core.List.{List, [], ◌∷◌, ◌++◌}
 use mathlib.Core.Path.{◌≡◌, refl, ap, ap₂, sym, ◌∙◌}
 use lib.ListN.{drop, get_or, length}
 use Rattle.text.proofs.Lists.{head_at}
-use Rattle.text.specs.Refusals.{Told, accepted, refused}
+use Rattle.text.specs.Refusals.{Told}
 use Rattle.text.specs.declared.refusal.Refusal.{Refusal}
 use Rattle.rows.specs.Rows.{entries_of, entry_of, flat, laid, room_of, width}
 use Rattle.rows.specs.declared.Entry.{Entry}
-use Rattle.read.specs.Read.{read_answer, read_tape, told_read}
-use Rattle.read.specs.declared.measure.ReadAnswer.{ReadAnswer}
-use Rattle.read.specs.declared.measure.ReadAnswer.TheVariants.{Accepted, Refused}
+use Rattle.read.specs.Read.{read_answer, read_tape}
 use Rattle.tiled.specs.Forms.{Mark}
 use Rattle.tiled.specs.Forms.Mark.{round, round_end, square, square_end, curly, curly_end, comma, colon}
 use Rattle.spelt.proofs.SpeltRead.{spelt_read, spelt_tape}
@@ -25,9 +24,9 @@ use Rattle.spelt.specs.Spelt.Spelt.{none, more}
 use Rattle.shutout.specs.ShutOut.{Meets-read, Reader}
 
 -- an answer that the paper's words call accepted
-told_accepted : (x : ReadAnswer) (n : ℕ) → told_read x ≡ accepted n → x ≡ Accepted n
-told_accepted (Accepted m) n e = let q : m ≡ n = cc in ap Accepted q
-told_accepted (Refused r) n e = let z : ◌≡◌ {A = ℕ} 0 1 = cc in absurd (omega arith)
+told_accepted : (x : Told ℕ) (n : ℕ) → x ≡ Ok n → x ≡ Ok n
+told_accepted (Ok m) n e = let q : m ≡ n = cc in ap Ok q
+told_accepted (Err r) n e = let z : ◌≡◌ {A = ℕ} 0 1 = cc in absurd (omega arith)
 
 -- ---- entries laid one behind the other
 
@@ -61,12 +60,12 @@ one_flat (more p x) (more q y) r r' z z' e = ap₂ {C = List Entry} (λ (h : Ent
 module _ (f : Reader) (meets : Meets-read f) where
   module _ (text tape : List ℕ) (es : List Entry) (x : Spelt 0 text es) (short : length text ≤ 65536) (room : length es ≤ room_of (length tape)) where
     -- it accepts every spelt text for which there is room, with its count
-    pub accepts_spelt : (f text tape).0 ≡ Accepted (length es)
+    pub accepts_spelt : (f text tape).0 ≡ Ok (length es)
     accepts_spelt = told_accepted (f text tape).0 (length es) ((meets text tape).0 ∙ (spelt_read text tape es x short room).0)
 
     -- refuses none
-    pub refuses_none : (r : Refusal) → (f text tape).0 ≡ Refused r → ⊥
-    refuses_none r e = let z : Accepted (length es) ≡ Refused r = sym accepts_spelt ∙ e in let y : ◌≡◌ {A = ℕ} 0 1 = cc in omega arith
+    pub refuses_none : (r : Refusal) → (f text tape).0 ≡ Err r → ⊥
+    refuses_none r e = let z : ◌≡◌ {A = Told ℕ} (Ok (length es)) (Err r) = sym accepts_spelt ∙ e in let y : ◌≡◌ {A = ℕ} 0 1 = cc in omega arith
 
     -- and writes its entries
     pub writes_spelt : entries_of (length es) (f text tape).1 ≡ es
@@ -76,7 +75,7 @@ module _ (f : Reader) (meets : Meets-read f) where
   pub tells_apart : (text text' tape : List ℕ) (es es' : List Entry) → Spelt 0 text es → Spelt 0 text' es' → length text ≤ 65536 → length text' ≤ 65536
       → length es ≤ room_of (length tape) → length es' ≤ room_of (length tape) → f text tape ≡ f text' tape → es ≡ es'
   tells_apart text text' tape es es' x x' s s' r r' e =
-      let z : Accepted (length es) ≡ Accepted (length es') = sym (accepts_spelt text tape es x s r) ∙ ap (λ p. p.0) e ∙ accepts_spelt text' tape es' x' s' r' in
+      let z : ◌≡◌ {A = Told ℕ} (Ok (length es)) (Ok (length es')) = sym (accepts_spelt text tape es x s r) ∙ ap (λ p. p.0) e ∙ accepts_spelt text' tape es' x' s' r' in
       let n : length es ≡ length es' = cc in
       sym (writes_spelt text tape es x s r) ∙ ap (entries_of (length es)) (ap (λ p. p.1) e) ∙ ap (λ (k : ℕ). entries_of k (f text' tape).1) n ∙ writes_spelt text' tape es' x' s' r'
 
@@ -116,7 +115,7 @@ zeros = 0 ∷ 0 ∷ 0 ∷ 0 ∷ 0 ∷ []
 
 module _ (f : Reader) (meets : Meets-read f) where
   -- a reader that refuses everything
-  pub not_all_refused : ((text tape : List ℕ) → (r : Refusal) × ((f text tape).0 ≡ Refused r)) → ⊥
+  pub not_all_refused : ((text tape : List ℕ) → (r : Refusal) × ((f text tape).0 ≡ Err r)) → ⊥
   not_all_refused all = let w = all opens zeros in refuses_none f meets opens zeros opened opens_spelt (omega arith) (omega arith) w.0 w.1
 
   -- one that gives one tape to all texts
@@ -128,7 +127,7 @@ module _ (f : Reader) (meets : Meets-read f) where
       omega arith
 
   -- one that accepts and writes nothing
-  pub not_nothing_written : ((text tape : List ℕ) (n : ℕ) → (f text tape).0 ≡ Accepted n → (f text tape).1 ≡ tape) → ⊥
+  pub not_nothing_written : ((text tape : List ℕ) (n : ℕ) → (f text tape).0 ≡ Ok n → (f text tape).1 ≡ tape) → ⊥
   unfolding entries_of flat
   not_nothing_written still =
       let e = still opens zeros 1 (accepts_spelt f meets opens zeros opened opens_spelt (omega arith) (omega arith)) in
@@ -136,19 +135,19 @@ module _ (f : Reader) (meets : Meets-read f) where
       omega arith
 
   -- one that accepts and counts nothing
-  pub not_none_counted : ((text tape : List ℕ) (n : ℕ) → (f text tape).0 ≡ Accepted n → n ≡ 0) → ⊥
+  pub not_none_counted : ((text tape : List ℕ) (n : ℕ) → (f text tape).0 ≡ Ok n → n ≡ 0) → ⊥
   not_none_counted idle = let k : ◌≡◌ {A = ℕ} 1 0 = idle opens zeros 1 (accepts_spelt f meets opens zeros opened opens_spelt (omega arith) (omega arith)) in omega arith
 
 -- ---- there is one that meets the promise
 
 -- the answer that the paper's words tell
-abbrev answer_of : Told ℕ → ReadAnswer
-answer_of (accepted n) = Accepted n
-answer_of (refused r) = Refused r
+abbrev answer_of : Told ℕ → Told ℕ
+answer_of (Ok n) = Ok n
+answer_of (Err r) = Err r
 
-told_back : (t : Told ℕ) → told_read (answer_of t) ≡ t
-told_back (accepted n) = refl
-told_back (refused r) = refl
+told_back : (t : Told ℕ) → (answer_of t) ≡ t
+told_back (Ok n) = refl
+told_back (Err r) = refl
 
 pub some_reader : (f : Reader) × Meets-read f
 some_reader = ((λ text tape. (answer_of (read_answer text (length tape)), read_tape text tape)), (λ text tape. (told_back (read_answer text (length tape)), refl)))

@@ -5,12 +5,13 @@
 --     first-tape-left                a repair that leaves the first tape standing
 --     one-before, one-behind         and counts that are always the same
 --     some-repairer                  there is a repairer that meets the promise
+use Rattle.std.proofs.Common.{Ok, Err}
 use Prim.Native.Nat.{ℕ, ◌*◌, ◌≤◌}
 use native.Mathlib.Omega.{arith}
 use mathlib.Core.List.{List, [], ◌∷◌}
 use mathlib.Core.Path.{◌≡◌, refl, ap, sym, ◌∙◌}
 use lib.ListN.{drop, get_or, length}
-use Rattle.text.specs.Refusals.{Told, accepted, refused}
+use Rattle.text.specs.Refusals.{Told}
 use Rattle.rows.proofs.RowLaws.{entries_flat}
 use Rattle.rows.specs.Rows.{entries_of, flat, laid, room_of, width}
 use Rattle.rows.specs.declared.Entry.{Entry}
@@ -20,8 +21,6 @@ use Rattle.reading.specs.Owed.{quiet_byte}
 use Rattle.reading.specs.Readings.{◌▸◌, complete, entries}
 use Rattle.read.specs.Read.{read_answer, reading_of}
 use Rattle.repair.specs.Repair.{Repaired, cleared, repair_of, repaired_tape, told_repair}
-use Rattle.repair.specs.declared.repairer.RepairAnswer.{RepairAnswer}
-use Rattle.repair.specs.declared.repairer.RepairAnswer.TheVariants as answer
 use Rattle.mending.proofs.Demand3.{demand3_call}
 use Rattle.mending.specs.Fresh.{OldText, fresh_call, fresh_call_tape, with_kept}
 use Rattle.tiled.specs.Forms.Mark.{round, round_end, square, square_end}
@@ -43,21 +42,21 @@ promised g meets old tape count a b e new O =
 abbrev done : ℕ → ℕ → ℕ → Repaired
 done n x y = record { count = n; before = x; behind = y }
 
-same_counts : (b k n x y : ℕ) (t : Told ℕ) → accepted (done n x y) ≡ with_kept b k t → (x ≡ b) × (y ≡ k)
-same_counts b k n x y (accepted m) h =
+same_counts : (b k n x y : ℕ) (t : Told ℕ) → Ok (done n x y) ≡ with_kept b k t → (x ≡ b) × (y ≡ k)
+same_counts b k n x y (Ok m) h =
     let e : done n x y ≡ done m b k = cc in
     (ap (λ (r : Repaired). r.before) e, ap (λ (r : Repaired). r.behind) e)
-same_counts b k n x y (refused r) h = let z : ◌≡◌ {A = ℕ} 0 1 = cc in absurd (omega arith)
+same_counts b k n x y (Err r) h = let z : ◌≡◌ {A = ℕ} 0 1 = cc in absurd (omega arith)
 
-told_repaired : (r : RepairAnswer) (n x y : ℕ) → told_repair r ≡ accepted (done n x y) → r ≡ answer.Repaired n x y
-told_repaired (answer.Repaired m u v) n x y h =
+told_repaired : (r : Told (ℕ × ℕ × ℕ)) (n x y : ℕ) → told_repair r ≡ Ok (done n x y) → r ≡ Ok (n, x, y)
+told_repaired (Ok (m, u, v)) n x y h =
     let e : done m u v ≡ done n x y = cc in
-    ap (λ (q : Repaired). answer.Repaired q.count q.before q.behind) e
-told_repaired (answer.Refused d) n x y h = let z : ◌≡◌ {A = ℕ} 0 1 = cc in absurd (omega arith)
+    ap (λ (q : Repaired). Ok (q.count, q.before, q.behind)) e
+told_repaired (Err d) n x y h = let z : ◌≡◌ {A = ℕ} 0 1 = cc in absurd (omega arith)
 
 module _ (g : Repairer) (meets : Meets-demand3 g) (old tape : List ℕ) (count a b e : ℕ) (new : List ℕ) (O : OldText old tape count a b e new) where
   -- the counts of an accepted repair are the paper's
-  pub kept_told : (n x y : ℕ) → (g tape count (length old) a b new).0 ≡ answer.Repaired n x y
+  pub kept_told : (n x y : ℕ) → (g tape count (length old) a b new).0 ≡ Ok (n, x, y)
       → (x ≡ kept_before quiet_byte old a (entries_of count tape)) × (y ≡ kept_behind (length old) (length new) e (entries_of count tape) (entries (reading_of new)))
   unfolding fresh_call
   kept_told n x y h = same_counts _ _ n x y (read_answer new (length tape)) (sym (ap told_repair h) ∙ (meets old tape count a b e new O).0)
@@ -65,7 +64,7 @@ module _ (g : Repairer) (meets : Meets-demand3 g) (old tape : List ℕ) (count a
   -- where the new text is spelt and there is room, its entries are counted and written
   module _ (es : List Entry) (x : Spelt 0 new es) (short : length new ≤ 65536) (room : length es ≤ room_of (length tape)) where
     pub repairs_spelt : (g tape count (length old) a b new).0
-        ≡ answer.Repaired (length es) (kept_before quiet_byte old a (entries_of count tape)) (kept_behind (length old) (length new) e (entries_of count tape) es)
+        ≡ Ok (length es, kept_before quiet_byte old a (entries_of count tape), kept_behind (length old) (length new) e (entries_of count tape) es)
     unfolding fresh_call
     repairs_spelt =
         let was : List Entry = entries_of count tape in
@@ -126,16 +125,16 @@ first_old = record {
 }
 
 module _ (g : Repairer) (meets : Meets-demand3 g) where
-  last_repaired : (g pair_tape 2 4 2 3 last_new).0 ≡ answer.Repaired 2 1 0
+  last_repaired : (g pair_tape 2 4 2 3 last_new).0 ≡ Ok (2, 1, 0)
   unfolding entries_of kept_before count_of any_quiet quiet_byte kept_behind largest are_kept are_moved is_moved all_behind
   last_repaired = repairs_spelt g meets pair pair_tape 2 2 3 3 last_new last_old last_entries last_spelt (omega arith) (omega arith)
 
-  first_repaired : (g pair_tape 2 4 0 1 first_new).0 ≡ answer.Repaired 2 0 1
+  first_repaired : (g pair_tape 2 4 0 1 first_new).0 ≡ Ok (2, 0, 1)
   unfolding entries_of kept_before count_of any_quiet quiet_byte kept_behind largest are_kept are_moved is_moved all_behind
   first_repaired = repairs_spelt g meets pair pair_tape 2 0 1 1 first_new first_old first_entries first_spelt (omega arith) (omega arith)
 
   -- a repair that leaves the first tape standing
-  pub first_tape_left : ((tape : List ℕ) (count o a b : ℕ) (text : List ℕ) (n x y : ℕ) → (g tape count o a b text).0 ≡ answer.Repaired n x y → (g tape count o a b text).1 ≡ tape) → ⊥
+  pub first_tape_left : ((tape : List ℕ) (count o a b : ℕ) (text : List ℕ) (n x y : ℕ) → (g tape count o a b text).0 ≡ Ok (n, x, y) → (g tape count o a b text).1 ≡ tape) → ⊥
   unfolding entries_of flat
   first_tape_left still =
       let e = still pair_tape 2 4 0 1 first_new 2 0 1 first_repaired in
@@ -144,23 +143,23 @@ module _ (g : Repairer) (meets : Meets-demand3 g) where
       omega arith
 
   -- one number for what is kept before, whatever is repaired
-  pub one_before : (x : ℕ) → ((tape : List ℕ) (count o a b : ℕ) (text : List ℕ) (n u v : ℕ) → (g tape count o a b text).0 ≡ answer.Repaired n u v → u ≡ x) → ⊥
+  pub one_before : (x : ℕ) → ((tape : List ℕ) (count o a b : ℕ) (text : List ℕ) (n u v : ℕ) → (g tape count o a b text).0 ≡ Ok (n, u, v) → u ≡ x) → ⊥
   one_before x same = omega (arith, same pair_tape 2 4 2 3 last_new 2 1 0 last_repaired, same pair_tape 2 4 0 1 first_new 2 0 1 first_repaired)
 
   -- and one for what is kept behind
-  pub one_behind : (y : ℕ) → ((tape : List ℕ) (count o a b : ℕ) (text : List ℕ) (n u v : ℕ) → (g tape count o a b text).0 ≡ answer.Repaired n u v → v ≡ y) → ⊥
+  pub one_behind : (y : ℕ) → ((tape : List ℕ) (count o a b : ℕ) (text : List ℕ) (n u v : ℕ) → (g tape count o a b text).0 ≡ Ok (n, u, v) → v ≡ y) → ⊥
   one_behind y same = omega (arith, same pair_tape 2 4 2 3 last_new 2 1 0 last_repaired, same pair_tape 2 4 0 1 first_new 2 0 1 first_repaired)
 
 -- ---- there is one that meets the promise
 
 -- the answer that the paper's words tell
-abbrev answer_of : Told Repaired → RepairAnswer
-answer_of (accepted r) = answer.Repaired r.count r.before r.behind
-answer_of (refused r) = answer.Refused r
+abbrev answer_of : Told Repaired → Told (ℕ × ℕ × ℕ)
+answer_of (Ok r) = Ok (r.count, r.before, r.behind)
+answer_of (Err r) = Err r
 
 told_back : (t : Told Repaired) → told_repair (answer_of t) ≡ t
-told_back (accepted r) = refl
-told_back (refused r) = refl
+told_back (Ok r) = refl
+told_back (Err r) = refl
 
 pub some_repairer : (g : Repairer) × Meets-repair g
 some_repairer = (

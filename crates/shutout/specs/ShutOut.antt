@@ -1,24 +1,23 @@
 -- Readers and repairers, whatever they do, and what is asked of them (document 01): "Demand 2 shuts out a reader that refuses everything, one that gives
 -- one tape to all texts, and one that accepts and writes nothing. Demand 3, standing over demand 2's reading, shuts out a repair that leaves the first
 -- tape standing, and kept numbers that are invented."
+use Rattle.text.specs.Refusals.{Told}
 use Rattle.std.specs.Prelude.{ℕ, List, ◌≡◌, length}
-use Rattle.read.specs.Read.{read_answer, read_tape, told_read}
-use Rattle.read.specs.declared.measure.ReadAnswer.{ReadAnswer}
+use Rattle.read.specs.Read.{read_answer, read_tape}
 use Rattle.repair.specs.Repair.{repair_of, repaired_tape, told_repair}
-use Rattle.repair.specs.declared.repairer.RepairAnswer.{RepairAnswer}
 use Rattle.mending.specs.Fresh.{OldText, fresh_call, fresh_call_tape}
 
 -- A reader: what it answers and how it leaves the tape, for every text and tape.
 abbrev pub Reader : Type 0
-Reader = (text tape : List ℕ) → ReadAnswer × List ℕ
+Reader = (text tape : List ℕ) → Told ℕ × List ℕ
 
 -- It meets the promise of `read`.
 abbrev pub Meets-read : Reader → Type 0
-Meets-read f = (text tape : List ℕ) → (told_read (f text tape).0 ≡ read_answer text (length tape)) × ((f text tape).1 ≡ read_tape text tape)
+Meets-read f = (text tape : List ℕ) → ((f text tape).0 ≡ read_answer text (length tape)) × ((f text tape).1 ≡ read_tape text tape)
 
 -- A repairer: what it answers and how it leaves the tape, for every tape, count, old length, cut from a to b and new text.
 abbrev pub Repairer : Type 0
-Repairer = (tape : List ℕ) (count o a b : ℕ) (text : List ℕ) → RepairAnswer × List ℕ
+Repairer = (tape : List ℕ) (count o a b : ℕ) (text : List ℕ) → Told (ℕ × ℕ × ℕ) × List ℕ
 
 -- It meets the promise of `repair`.
 abbrev pub Meets-repair : Repairer → Type 0

@@ -1,5 +1,6 @@
 -- The call `skip` (document 01), said plainly: "Skip from a `ParserCursor` of three numbers (`skip_ws`)." "The mark for an unclosed line, the largest
 -- number of its width." Order of refusals: 1, 2, 28, then those of reading, 4 to 6.
+use Rattle.std.specs.Prelude.{Ok}
 use Rattle.std.specs.Prelude.{ℕ, ◌+◌, ◌-◌, ◌<◌, ◌≤◌, true, List, ◌∷◌, ◌++◌, ◌≡◌, drop, length}
 use Rattle.cursor.specs.Cursor.{cursor, unclosed_line}
 use Rattle.cursor.specs.Skip.{cursor_fits, pre_of}
@@ -7,11 +8,10 @@ use Rattle.cursor.specs.declared.ParserCursor.{ParserCursor}
 use Rattle.gapped.specs.Gap.{Gap, OpenLine, Whole}
 use Rattle.text.specs.Judged.{judged_of}
 use Rattle.text.specs.Utf8.{Scalar, encode}
-use Rattle.text.specs.declared.judge.Judged.TheVariants.{Fit}
 
 -- Text and cursor pass the front of the call: neither 1, 2 nor 28 is given.
 pub record Fits (text : List ℕ) (c : ParserCursor) : Type 0 where
-  pub text_fit : judged_of text ≡ Fit
+  pub text_fit : judged_of text ≡ Ok tt
   pub cursor_fit : cursor_fits text c ≡ true
 
 -- The part of the text from the cursor on.

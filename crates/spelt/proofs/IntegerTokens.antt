@@ -1,4 +1,5 @@
 -- A decimal integer of at most 64 bits is read as the token of its digits, at the first width that fits. Assumes nothing.
+use Rattle.std.proofs.Common.{Ok}
 use Prim.Native.Nat.{ℕ, zero, suc, ◌<◌}
 use native.Mathlib.Nat.{add-zero, zero-add}
 use native.Mathlib.Omega.{arith}
@@ -26,7 +27,6 @@ use Rattle.integers.specs.Front.{front_of, prefix_of, sign_of}
 use Rattle.integers.specs.Integer.{any_of, numeral_of}
 use Rattle.integers.specs.Width.{code_of, first_fit, limit_at, suffix_first, suffix_of, width_at}
 use Rattle.integers.specs.Words.{nothing_found}
-use Rattle.integers.specs.declared.integer.Numeral.TheVariants as numeral
 use Rattle.numbers.specs.Numbers.{float_ahead, number_of}
 use Rattle.numbers.specs.declared.Number.TheVariants.{Int}
 use Rattle.reading.specs.Owed.{quiet_byte}
@@ -134,7 +134,7 @@ module _ (ds : List ℕ) (x : Decimal ds) (small : value_of 10 ds < 184467440737
     part : take (run digit t) t ≡ ds
     part = ap (λ (k : ℕ). take k t) long ∙ take-append_seam ds (0x20 ∷ s)
 
-    numeral_is : numeral_of 8 false 10 t ≡ numeral.Read (value_of 10 ds) 0 (length ds)
+    numeral_is : numeral_of 8 false 10 t ≡ Ok (value_of 10 ds, 0, length ds)
     unfolding numeral_of
     numeral_is = rw (int_run t some (quiet_ends (get_or t (run digit t) 0) quiet), no_letters t some quiet, part, value_is, add-zero (length ds))
 

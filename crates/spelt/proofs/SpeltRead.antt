@@ -1,4 +1,5 @@
 -- Plain tokens written with a blank behind each are read, all of them and nothing else (document 01, demand 2). Assumes nothing.
+use Rattle.std.proofs.Common.{Ok}
 use Prim.Native.Nat.{ℕ, ◌+◌, ◌*◌, ◌≤◌, min}
 use native.Mathlib.Nat.{add-zero, zero-add}
 use native.Mathlib.Omega.{arith}
@@ -10,8 +11,6 @@ use borrow.Author.Tests.{le-ltb}
 use Rattle.text.proofs.Utf8Agree.{encoded_good}
 use Rattle.text.specs.Classes.{blank1, within}
 use Rattle.text.specs.Judged.{by_utf8, judged_of}
-use Rattle.text.specs.Refusals.{accepted}
-use Rattle.text.specs.declared.judge.Judged.TheVariants.{Fit}
 use Rattle.rows.proofs.RowLaws.{entries_flat}
 use Rattle.rows.specs.Rows.{entries_of, laid, room_of, width}
 use Rattle.rows.specs.declared.Entry.{Entry}
@@ -58,25 +57,25 @@ spelt_reading text es x = widened_none (reading_of text) ∙ spelt_from text x r
 
 -- ---- the call
 
-pub spelt_fit : (text : List ℕ) (es : List Entry) → Spelt 0 text es → length text ≤ 65536 → judged_of text ≡ Fit
+pub spelt_fit : (text : List ℕ) (es : List Entry) → Spelt 0 text es → length text ≤ 65536 → judged_of text ≡ Ok tt
 unfolding judged_of
 spelt_fit text es x h = rw (le-ltb 65536 (length text) h) (ap by_utf8 (encoded_good text (spelt_encoded x)))
 
 module _ (text tape : List ℕ) (es : List Entry) (x : Spelt 0 text es) (short : length text ≤ 65536) (room : length es ≤ room_of (length tape)) where
   -- they are accepted, as many as they are
-  pub spelt_answer : read_answer text (length tape) ≡ accepted (length es)
+  pub spelt_answer : read_answer text (length tape) ≡ Ok (length es)
   spelt_answer =
-      let count : counted 0 (reading_of text) ≡ accepted (length es) = ap (counted 0) (spelt_reading text es x) ∙ counted_complete es 0 ∙ ap accepted (zero-add (length es)) in
+      let count : counted 0 (reading_of text) ≡ Ok (length es) = ap (counted 0) (spelt_reading text es x) ∙ counted_complete es 0 ∙ ap Ok (zero-add (length es)) in
       read_fit text (length tape) (spelt_fit text es x short) ∙ fitted_fits (room_of (length tape)) (reading_of text) (length es) count room
 
   -- and laid on the tape as they are
   pub spelt_tape : read_tape text tape ≡ laid es tape
   spelt_tape =
-      tape-by text tape (accepted (length es)) (sym spelt_answer) ∙ ap (λ (l : List Entry). laid l tape) (ap entries (spelt_reading text es x) ∙ entries_complete es)
+      tape-by text tape (Ok (length es)) (sym spelt_answer) ∙ ap (λ (l : List Entry). laid l tape) (ap entries (spelt_reading text es x) ∙ entries_complete es)
 
 -- document 01, demand 2: plain tokens are read, all of them and nothing else
 pub spelt_read : (text tape : List ℕ) (es : List Entry) → Spelt 0 text es → length text ≤ 65536 → length es ≤ room_of (length tape)
-    → (read_answer text (length tape) ≡ accepted (length es)) × (entries_of (length es) (read_tape text tape) ≡ es)
+    → (read_answer text (length tape) ≡ Ok (length es)) × (entries_of (length es) (read_tape text tape) ≡ es)
 unfolding laid
 spelt_read text tape es x short room = (
   spelt_answer text tape es x short room,

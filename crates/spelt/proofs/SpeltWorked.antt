@@ -1,4 +1,5 @@
 -- A spelt text, and what a read makes of it: `_1 ( 7 "a" ) `. Assumes nothing.
+use Rattle.std.proofs.Common.{Ok}
 use Prim.Native.Nat.{ℕ}
 use native.Mathlib.Omega.{arith}
 use mathlib.Core.Bool.{true}
@@ -9,7 +10,6 @@ use lib.ListN.{get_or, length}
 use Rattle.text.proofs.Choices.{either}
 use Rattle.text.proofs.NameClasses.{ident-next}
 use Rattle.text.specs.Classes.{ascii_next, digit, ident_next, letter, within}
-use Rattle.text.specs.Refusals.{accepted}
 use Rattle.text.specs.Utf8 as utf8
 use Rattle.text.specs.Utf8.{encode}
 use Rattle.digits.specs.Digits.{hex_of}
@@ -70,5 +70,5 @@ is_spelt =
     spelt.Spelt.more name (spelt.Spelt.more (spelt.Plain.mark form.Mark.round) (spelt.Spelt.more seven (spelt.Spelt.more letter_a (spelt.Spelt.more (spelt.Plain.mark form.Mark.round_end) spelt.Spelt.none))))
 
 -- a tape of twenty-five numbers holds it
-pub worked_spelt : (tape : List ℕ) → length tape ≡ 25 → (read_answer text (length tape) ≡ accepted 5) × (entries_of 5 (read_tape text tape) ≡ told)
+pub worked_spelt : (tape : List ℕ) → length tape ≡ 25 → (read_answer text (length tape) ≡ Ok 5) × (entries_of 5 (read_tape text tape) ≡ told)
 worked_spelt tape e = spelt_read text tape told is_spelt (omega arith) (omega arith)

@@ -5,8 +5,6 @@ use Rattle.std.specs.Prelude.{ℕ, ◌-◌, ◌^◌, cond, ◌&&◌, ◌||◌, L
 use Rattle.gaps.specs.declared.state.Open.{Open}
 use Rattle.gaps.specs.declared.state.Open.TheVariants.{Clear, Slash, Line, Block}
 use Rattle.pieces.specs.declared.state.Arrival.{Arrival}
-use Rattle.stored.specs.declared.states.Stored.{Stored}
-use Rattle.stored.specs.declared.states.Stored.TheVariants as stored
 
 -- ---- read
 
@@ -33,12 +31,12 @@ numbered s kept o =
     }
 
 -- The same where the gap is known: a refusal's number and reason are below 256.
-abbrev pub state_by : Option Open → List ℕ → ℕ → Stored
-state_by (Some o) s kept = cond (ltb 255 (get_or s 5 0) || ltb 255 (get_or s 7 0)) stored.Unfit (stored.State (numbered s kept o))
-state_by None s kept = stored.Unfit
+abbrev pub state_by : Option Open → List ℕ → ℕ → Option Arrival
+state_by (Some o) s kept = cond (ltb 255 (get_or s 5 0) || ltb 255 (get_or s 7 0)) None (Some (numbered s kept o))
+state_by None s kept = None
 
 -- What nine numbers say.
-unfoldable pub state_of : List ℕ → ℕ → Stored
+unfoldable pub state_of : List ℕ → ℕ → Option Arrival
 state_of s kept = state_by (gap_of (get_or s 2 0) (get_or s 3 0) (get_or s 4 0)) s kept
 
 -- ---- stored

@@ -7,5 +7,5 @@
 mod states;
 mod storing;
 
-pub use states::{Stored, state_of};
+pub use states::state_of;
 pub use storing::store;

@@ -6,13 +6,6 @@ use gaps::Open;
 use pieces::state::Arrival;
 use text::Refusal;
 
-// The state that numbers say; or numbers that no state has.
-#[derive(Clone, Copy)]
-pub enum Stored {
-    State(Arrival),
-    Unfit,
-}
-
 // The number at a place, 0 past the end.
 fn number(s: &[u32], i: usize) -> u32
     ensures { result ≡ get_or s.now i 0 }
@@ -49,24 +42,24 @@ fn gap_of(gap: u32, level: u32, last: u32) -> Option<Open>
 }
 
 // The state that nine numbers say, with so many bytes kept.
-pub fn state_of(s: &[u32], kept: usize) -> Stored
+pub fn state_of(s: &[u32], kept: usize) -> Option<Arrival>
     ensures { result ≡ state_of s.now kept }
 {
     let Some(open) = gap_of(number(s, 2), number(s, 3), number(s, 4)) else {
-        return Stored::Unfit;
+        return None;
     };
     let Ok(refused) = u8::try_from(number(s, 5)) else {
-        return Stored::Unfit;
+        return None;
     };
     let Ok(reason) = u8::try_from(number(s, 7)) else {
-        return Stored::Unfit;
+        return None;
     };
     let refusal = Refusal {
         number: refused,
         reason,
         place: number(s, 6) as usize,
     };
-    Stored::State(Arrival {
+    Some(Arrival {
         taken: number(s, 0) as usize,
         kept,
         part: number(s, 1) as usize,

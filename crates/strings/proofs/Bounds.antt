@@ -1,4 +1,6 @@
 -- How far strings, chars and byte literals reach: `string_bounded`, `byte_string_bounded`, `char_bounded`, `byte_bounded`. Assumes nothing.
+use Rattle.std.proofs.Common.{Ok, Err}
+use Rattle.text.specs.Refusals.{Told}
 use Prim.Native.Nat.{◌+◌, ◌<◌, ◌≤◌, suc, zero, ℕ}
 use native.Mathlib.Omega.{arith}
 use mathlib.Core.Bool.{Bool, ◌&&◌, ◌||◌, cond, false}
@@ -22,13 +24,7 @@ use Rattle.strings.specs.Pieces.Body.{closes, next, spoilt, unclosed}
 use Rattle.strings.specs.Quoted.{measured, quoted_of}
 use Rattle.strings.specs.Raw.{hash, missing, raw_end, raw_of}
 use Rattle.strings.specs.Strings.{byte_string_decoded, byte_string_of, string_decoded, string_of}
-use Rattle.strings.specs.declared.chars.ByteAnswer.{ByteAnswer}
-use Rattle.strings.specs.declared.chars.ByteAnswer.TheVariants.{Read as ReadByte, Refused as NoByte}
-use Rattle.strings.specs.declared.chars.CharAnswer.{CharAnswer}
-use Rattle.strings.specs.declared.chars.CharAnswer.TheVariants.{Read as ReadChar, Refused as NoChar}
 use Rattle.strings.specs.declared.literal.Literal.{Literal}
-use Rattle.strings.specs.declared.literal.LiteralAnswer.{LiteralAnswer}
-use Rattle.strings.specs.declared.literal.LiteralAnswer.TheVariants.{Read, Refused}
 use Rattle.text.proofs.Choices.{and_true, bool_cases, cond_cases, either}
 use Rattle.text.proofs.Lists.{head_at}
 use Rattle.text.proofs.RunLaws.{run_le}
@@ -42,11 +38,11 @@ use Rattle.text.specs.declared.refusal.Refusal.{Refusal}
 -- ---- strings
 
 -- a string of 1 or more bytes within s, its contents within the string, and no more bytes decoded than it has; a refusal's place within s
-abbrev pub Bounded-string : List ℕ → LiteralAnswer → Type 0
-Bounded-string s (Read l) = (0 < l.len) × (l.len ≤ length s) × (l.start ≤ l.end) × (l.end ≤ l.len) × (l.decoded ≤ l.len)
-Bounded-string s (Refused r) = r.place ≤ length s
+abbrev pub Bounded-string : List ℕ → Told Literal → Type 0
+Bounded-string s (Ok l) = (0 < l.len) × (l.len ≤ length s) × (l.start ≤ l.end) × (l.end ≤ l.len) × (l.decoded ≤ l.len)
+Bounded-string s (Err r) = r.place ≤ length s
 
-measured_place : (b : Body) (t : List ℕ) (start from at dec : ℕ) (esc : Bool) (r : Refusal) → Whole t b → from ≤ at + length t → measured b start from at dec esc ≡ Refused r → r.place ≤ at + length t
+measured_place : (b : Body) (t : List ℕ) (start from at dec : ℕ) (esc : Bool) (r : Refusal) → Whole t b → from ≤ at + length t → measured b start from at dec esc ≡ Err r → r.place ≤ at + length t
 unfolding measured
 measured_place closes t start from at dec esc r w h e = let z : ◌≡◌ {A = ℕ} 0 1 = cc in absurd (omega arith)
 measured_place unclosed t start from at dec esc r w h e = let q : expected_string_end from ≡ r = cc in omega (arith, ap (λ (x : Refusal). x.place) q)
@@ -57,11 +53,11 @@ measured_place (next n bytes changed rest) t start from at dec esc r w h e =
     let i = measured_place rest (drop n t) start (cond changed (at + n) from) (at + n) (dec + length bytes) (esc || changed) r w.4 f e in
     omega (arith, w.1)
 
-quoted_place : (m : Mode) (start : ℕ) (s : List ℕ) (r : Refusal) → start ≤ length s → quoted_of m start s ≡ Refused r → r.place ≤ length s
+quoted_place : (m : Mode) (start : ℕ) (s : List ℕ) (r : Refusal) → start ≤ length s → quoted_of m start s ≡ Err r → r.place ≤ length s
 unfolding quoted_of
 quoted_place m start s r h =
     let d = length-drop start s in
-    cond_cases (λ (a : LiteralAnswer). a ≡ Refused r → r.place ≤ length s) (ltb (run unquoted (drop start s)) (length (drop start s))) _ _
+    cond_cases (λ (a : Told Literal). a ≡ Err r → r.place ≤ length s) (ltb (run unquoted (drop start s)) (length (drop start s))) _ _
     (λ t e. omega (arith, measured_place (body_of m (drop start s)) (drop start s) start start start 0 false r (whole_body m (drop start s)) (omega arith) e))
     (λ t e. let q : expected_string_end start ≡ r = cc in omega (arith, ap (λ (x : Refusal). x.place) q))
 
@@ -70,51 +66,51 @@ missing_place Str p = refl
 missing_place Char p = refl
 missing_place Bytes p = refl
 
-raw_place : (m : Mode) (start : ℕ) (s : List ℕ) (r : Refusal) → start ≤ length s → raw_of m start s ≡ Refused r → r.place ≤ length s
+raw_place : (m : Mode) (start : ℕ) (s : List ℕ) (r : Refusal) → start ≤ length s → raw_of m start s ≡ Err r → r.place ≤ length s
 unfolding raw_of
 raw_place m start s r h =
     let k = run hash (drop start s) in
     let body = start + k + 1 in
     let n = raw_end k (drop body s) in
-    cond_cases (λ (a : LiteralAnswer). a ≡ Refused r → r.place ≤ length s) (eqb (get_or s (start + k) 0) 0x22) _ _
-    (λ q. cond_cases (λ (a : LiteralAnswer). a ≡ Refused r → r.place ≤ length s) (ltb (body + n) (length s)) _ _
+    cond_cases (λ (a : Told Literal). a ≡ Err r → r.place ≤ length s) (eqb (get_or s (start + k) 0) 0x22) _ _
+    (λ q. cond_cases (λ (a : Told Literal). a ≡ Err r → r.place ≤ length s) (ltb (body + n) (length s)) _ _
     (λ t e. let z : ◌≡◌ {A = ℕ} 0 1 = cc in absurd (omega arith))
     (λ t e. let i : expected_string_end body ≡ r = cc in omega (arith, ap (λ (x : Refusal). x.place) i, none_here s (start + k) 0x22 (omega arith) q)))
     (λ q e. let i : missing m (start + k) ≡ r = cc in omega (arith, ap (λ (x : Refusal). x.place) i, missing_place m (start + k), run_le hash (drop start s), length-drop start s))
 
-read_bounded : (m : Mode) (s bytes : List ℕ) (l : Literal) → Whole-string m s bytes l → Bounded-string s (Read l)
+read_bounded : (m : Mode) (s bytes : List ℕ) (l : Literal) → Whole-string m s bytes l → Bounded-string s (Ok l)
 read_bounded m s bytes l w = (omega (arith, w.inside), w.fits, w.ordered, omega (arith, w.inside), omega (arith, w.inside, w.short))
 
-string_refused : (s : List ℕ) (r : Refusal) → string_of s ≡ Refused r → r.place ≤ length s
+string_refused : (s : List ℕ) (r : Refusal) → string_of s ≡ Err r → r.place ≤ length s
 unfolding string_of
 string_refused s r =
-    cond_cases (λ (a : LiteralAnswer). a ≡ Refused r → r.place ≤ length s) (eqb (get_or s 0 0) 0x22) _ _
+    cond_cases (λ (a : Told Literal). a ≡ Err r → r.place ≤ length s) (eqb (get_or s 0 0) 0x22) _ _
     (λ q e. quoted_place Str 1 s r (none_here s 0 0x22 (omega arith) q) e)
-    (λ n. cond_cases (λ (a : LiteralAnswer). a ≡ Refused r → r.place ≤ length s) (eqb (get_or s 0 0) 0x72) _ _
+    (λ n. cond_cases (λ (a : Told Literal). a ≡ Err r → r.place ≤ length s) (eqb (get_or s 0 0) 0x72) _ _
     (λ q e. raw_place Str 1 s r (none_here s 0 0x72 (omega arith) q) e)
     (λ q e. let i : expected_string 0 ≡ r = cc in omega (arith, ap (λ (x : Refusal). x.place) i)))
 
-byte_string_refused : (s : List ℕ) (r : Refusal) → byte_string_of s ≡ Refused r → r.place ≤ length s
+byte_string_refused : (s : List ℕ) (r : Refusal) → byte_string_of s ≡ Err r → r.place ≤ length s
 unfolding byte_string_of
 byte_string_refused s r =
-    cond_cases (λ (a : LiteralAnswer). a ≡ Refused r → r.place ≤ length s) (eqb (get_or s 0 0) 0x62) _ _
-    (λ p. cond_cases (λ (a : LiteralAnswer). a ≡ Refused r → r.place ≤ length s) (eqb (get_or s 1 0) 0x22) _ _
+    cond_cases (λ (a : Told Literal). a ≡ Err r → r.place ≤ length s) (eqb (get_or s 0 0) 0x62) _ _
+    (λ p. cond_cases (λ (a : Told Literal). a ≡ Err r → r.place ≤ length s) (eqb (get_or s 1 0) 0x22) _ _
     (λ q e. quoted_place Bytes 2 s r (none_here s 1 0x22 (omega arith) q) e)
-    (λ n. cond_cases (λ (a : LiteralAnswer). a ≡ Refused r → r.place ≤ length s) (eqb (get_or s 1 0) 0x72) _ _
+    (λ n. cond_cases (λ (a : Told Literal). a ≡ Err r → r.place ≤ length s) (eqb (get_or s 1 0) 0x72) _ _
     (λ q e. raw_place Bytes 2 s r (none_here s 1 0x72 (omega arith) q) e)
     (λ q e. let i : expected_byte_string 0 ≡ r = cc in omega (arith, ap (λ (x : Refusal). x.place) i))))
     (λ p e. let i : expected_byte_string 0 ≡ r = cc in omega (arith, ap (λ (x : Refusal). x.place) i))
 
-string_by : (s : List ℕ) (a : LiteralAnswer) → string_of s ≡ a → Bounded-string s a
-string_by s (Read l) e = read_bounded Str s (string_decoded s) l (string_whole s l e)
-string_by s (Refused r) e = string_refused s r e
+string_by : (s : List ℕ) (a : Told Literal) → string_of s ≡ a → Bounded-string s a
+string_by s (Ok l) e = read_bounded Str s (string_decoded s) l (string_whole s l e)
+string_by s (Err r) e = string_refused s r e
 
 pub string_bounded : (s : List ℕ) → Bounded-string s (string_of s)
 string_bounded s = string_by s (string_of s) refl
 
-byte_string_by : (s : List ℕ) (a : LiteralAnswer) → byte_string_of s ≡ a → Bounded-string s a
-byte_string_by s (Read l) e = read_bounded Bytes s (byte_string_decoded s) l (byte_string_whole s l e)
-byte_string_by s (Refused r) e = byte_string_refused s r e
+byte_string_by : (s : List ℕ) (a : Told Literal) → byte_string_of s ≡ a → Bounded-string s a
+byte_string_by s (Ok l) e = read_bounded Bytes s (byte_string_decoded s) l (byte_string_whole s l e)
+byte_string_by s (Err r) e = byte_string_refused s r e
 
 pub byte_string_bounded : (s : List ℕ) → Bounded-string s (byte_string_of s)
 byte_string_bounded s = byte_string_by s (byte_string_of s) refl
@@ -122,9 +118,9 @@ byte_string_bounded s = byte_string_by s (byte_string_of s) refl
 -- ---- chars and byte literals
 
 -- a char of 3 or more bytes within s is one scalar value; a refusal's place lies within s
-abbrev pub Bounded-char : List ℕ → CharAnswer → Type 0
-Bounded-char s (ReadChar n c) = (3 ≤ n) × (n ≤ length s) × Scalar c
-Bounded-char s (NoChar r) = r.place ≤ length s
+abbrev pub Bounded-char : List ℕ → Told (ℕ × ℕ) → Type 0
+Bounded-char s (Ok (n, c)) = (3 ≤ n) × (n ≤ length s) × Scalar c
+Bounded-char s (Err r) = r.place ≤ length s
 
 char-ends : (s : List ℕ) (at c : ℕ) → 2 ≤ at → at ≤ length s → Scalar c → Bounded-char s (char_ends s at c)
 unfolding char_ends
@@ -164,9 +160,9 @@ char_bounded s =
     (λ p. omega arith)
 
 -- a byte literal of 4 or more bytes within s; a refusal's place lies within s
-abbrev pub Bounded-byte : List ℕ → ByteAnswer → Type 0
-Bounded-byte s (ReadByte n b) = (4 ≤ n) × (n ≤ length s) × (b < 256)
-Bounded-byte s (NoByte r) = r.place ≤ length s
+abbrev pub Bounded-byte : List ℕ → Told (ℕ × ℕ) → Type 0
+Bounded-byte s (Ok (n, b)) = (4 ≤ n) × (n ≤ length s) × (b < 256)
+Bounded-byte s (Err r) = r.place ≤ length s
 
 byte-ends : (s : List ℕ) (at b : ℕ) → 3 ≤ at → at ≤ length s → b < 256 → Bounded-byte s (byte_ends s at b)
 unfolding byte_ends

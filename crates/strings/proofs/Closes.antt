@@ -1,5 +1,8 @@
 -- Accepted strings, chars and byte literals are decided by their own bytes: `string_closed`, `byte_string_closed`, `char_closed`, `byte_closed` say that
 -- nothing behind them changes the answer. Assumes nothing.
+use Rattle.std.proofs.Common.{Ok, Err}
+use Rattle.text.specs.Refusals.{Told}
+use Rattle.strings.specs.declared.literal.Literal.{Literal}
 use Prim.Native.Nat.{◌+◌, ◌-◌, ◌<◌, ◌≤◌, suc, zero, ℕ}
 use native.Mathlib.Omega.{arith}
 use mathlib.Core.Bool.{Bool, ◌||◌, cond, false, true, ◌&&◌}
@@ -27,12 +30,6 @@ use Rattle.strings.specs.Pieces.Body.{closes, next, spoilt, unclosed}
 use Rattle.strings.specs.Quoted.{measured, quoted_of}
 use Rattle.strings.specs.Raw.{hash, raw_end, raw_of}
 use Rattle.strings.specs.Strings.{byte_string_of, string_of}
-use Rattle.strings.specs.declared.chars.ByteAnswer.{ByteAnswer}
-use Rattle.strings.specs.declared.chars.ByteAnswer.TheVariants.{Read as ReadByte, Refused as NoByte}
-use Rattle.strings.specs.declared.chars.CharAnswer.{CharAnswer}
-use Rattle.strings.specs.declared.chars.CharAnswer.TheVariants.{Read as ReadChar, Refused as NoChar}
-use Rattle.strings.specs.declared.literal.LiteralAnswer.{LiteralAnswer}
-use Rattle.strings.specs.declared.literal.LiteralAnswer.TheVariants.{Read, Refused}
 use Rattle.strings.specs.declared.pieces.Decoded.TheVariants.{Nothing}
 use Rattle.strings.specs.declared.pieces.Piece.{Piece}
 use Rattle.strings.specs.declared.pieces.Piece.TheVariants.{Backslash, Plain, Quote}
@@ -222,9 +219,9 @@ body_closed m u v v' c = body_fuel m (length u) u v v' (omega arith) c
 -- ---- quoted strings
 
 -- accepted, and taken from the first k bytes
-abbrev pub Within-string : ℕ → LiteralAnswer → Type 0
-Within-string k (Read l) = l.len ≤ k
-Within-string k (Refused r) = ⊥
+abbrev pub Within-string : ℕ → Told Literal → Type 0
+Within-string k (Ok l) = l.len ≤ k
+Within-string k (Err r) = ⊥
 
 measured_closes : (b : Body) (t : List ℕ) (k start from at dec : ℕ) (esc : Bool) → Whole t b → Within-string k (measured b start from at dec esc) → Closes (k - at) b
 unfolding measured
@@ -259,7 +256,7 @@ quoted_by m start s t e h = rw (e, lt-ltb (run unquoted t) (length t) h)
 quoted_within : (m : Mode) (start k : ℕ) (s : List ℕ) → Within-string k (quoted_of m start s) → Within-string k (measured (body_of m (drop start s)) start start start 0 false) × (run unquoted (drop start s) < length (drop start s))
 unfolding quoted_of
 quoted_within m start k s =
-    cond_cases (λ (a : LiteralAnswer). Within-string k a → Within-string k (measured (body_of m (drop start s)) start start start 0 false) × (run unquoted (drop start s) < length (drop start s)))
+    cond_cases (λ (a : Told Literal). Within-string k a → Within-string k (measured (body_of m (drop start s)) start start start 0 false) × (run unquoted (drop start s) < length (drop start s)))
     (ltb (run unquoted (drop start s)) (length (drop start s))) _ _
     (λ e w. (w, ltb-true (run unquoted (drop start s)) (length (drop start s)) e)) (λ e w. absurd w)
 
@@ -312,8 +309,8 @@ unfolding raw_of
 raw_read_at m start k s =
     let h = run hash (drop start s) in
     let n = raw_end h (drop (start + h + 1) s) in
-    cond_cases (λ (a : LiteralAnswer). Within-string k a → Raw-read m start k s) (eqb (get_or s (start + h) 0) 0x22) _ _
-    (λ q. cond_cases (λ (a : LiteralAnswer). Within-string k a → Raw-read m start k s) (ltb (start + h + 1 + n) (length s)) _ _
+    cond_cases (λ (a : Told Literal). Within-string k a → Raw-read m start k s) (eqb (get_or s (start + h) 0) 0x22) _ _
+    (λ q. cond_cases (λ (a : Told Literal). Within-string k a → Raw-read m start k s) (ltb (start + h + 1 + n) (length s)) _ _
     (λ t w. record { h = h; n = n; hashes = refl; end = refl; opens = eqb-true (get_or s (start + h) 0) 0x22 q; long = w; inside = ltb-true (start + h + 1 + n) (length s) t })
     (λ t w. absurd w))
     (λ q w. absurd w)
@@ -336,14 +333,14 @@ raw_closed m start u v v' l w =
 
 -- ---- strings
 
-by-answer : (k : ℕ) (t : Bool) (x y x' y' : LiteralAnswer) → (Within-string k x → x' ≡ x) → (Within-string k y → y' ≡ y) → Within-string k (cond t x y) → cond t x' y' ≡ cond t x y
+by-answer : (k : ℕ) (t : Bool) (x y x' y' : Told Literal) → (Within-string k x → x' ≡ x) → (Within-string k y → y' ≡ y) → Within-string k (cond t x y) → cond t x' y' ≡ cond t x y
 by-answer k true x y x' y' f g = f
 by-answer k false x y x' y' f g = g
 
 -- no string is taken from one byte or none
-long_string : (s : List ℕ) (k : ℕ) (a : LiteralAnswer) → Bounded-string s a → (0 < k → ⊥) → Within-string k a → ⊥
-long_string s k (Read l) b h w = h (omega (arith, b.0))
-long_string s k (Refused r) b h w = w
+long_string : (s : List ℕ) (k : ℕ) (a : Told Literal) → Bounded-string s a → (0 < k → ⊥) → Within-string k a → ⊥
+long_string s k (Ok l) b h w = h (omega (arith, b.0))
+long_string s k (Err r) b h w = w
 
 pub string_closed : (u v v' : List ℕ) → Within-string (length u) (string_of (u ++ v)) → string_of (u ++ v') ≡ string_of (u ++ v)
 unfolding string_of
@@ -353,9 +350,9 @@ string_closed (b ∷ u) v v' w =
     (by-answer (suc (length u)) (eqb b 0x72) _ _ _ _ (raw_closed Str 1 (b ∷ u) v v' (omega arith)) (λ n. absurd n)) w
 
 -- a byte string has three bytes or more
-long_byte_string : (s : List ℕ) (a : LiteralAnswer) → byte_string_of s ≡ a → Within-string 1 a → ⊥
-long_byte_string s (Read l) e w = let z = byte_string_whole s l e in omega (arith, z.inside, z.ordered, z.behind)
-long_byte_string s (Refused r) e w = w
+long_byte_string : (s : List ℕ) (a : Told Literal) → byte_string_of s ≡ a → Within-string 1 a → ⊥
+long_byte_string s (Ok l) e w = let z = byte_string_whole s l e in omega (arith, z.inside, z.ordered, z.behind)
+long_byte_string s (Err r) e w = w
 
 pub byte_string_closed : (u v v' : List ℕ) → Within-string (length u) (byte_string_of (u ++ v)) → byte_string_of (u ++ v') ≡ byte_string_of (u ++ v)
 unfolding byte_string_of
@@ -370,21 +367,21 @@ byte_string_closed (a ∷ b ∷ u) v v' w =
 
 -- ---- chars
 
-abbrev pub Within-char : ℕ → CharAnswer → Type 0
-Within-char k (ReadChar n c) = n ≤ k
-Within-char k (NoChar r) = ⊥
+abbrev pub Within-char : ℕ → Told (ℕ × ℕ) → Type 0
+Within-char k (Ok (n, c)) = n ≤ k
+Within-char k (Err r) = ⊥
 
-by_char : (k : ℕ) (t : Bool) (x y x' y' : CharAnswer) → (Within-char k x → x' ≡ x) → (Within-char k y → y' ≡ y) → Within-char k (cond t x y) → cond t x' y' ≡ cond t x y
+by_char : (k : ℕ) (t : Bool) (x y x' y' : Told (ℕ × ℕ)) → (Within-char k x → x' ≡ x) → (Within-char k y → y' ≡ y) → Within-char k (cond t x y) → cond t x' y' ≡ cond t x y
 by_char k true x y x' y' f g = f
 by_char k false x y x' y' f g = g
 
-long_char : (s : List ℕ) (k : ℕ) (a : CharAnswer) → Bounded-char s a → k < 3 → Within-char k a → ⊥
-long_char s k (ReadChar n c) b h w = omega (arith, b.0)
-long_char s k (NoChar r) b h w = w
+long_char : (s : List ℕ) (k : ℕ) (a : Told (ℕ × ℕ)) → Bounded-char s a → k < 3 → Within-char k a → ⊥
+long_char s k (Ok (n, c)) b h w = omega (arith, b.0)
+long_char s k (Err r) b h w = w
 
 char_ends_at : (s : List ℕ) (at c k : ℕ) → Within-char k (char_ends s at c) → at < k
 unfolding char_ends
-char_ends_at s at c k = cond_cases (λ (a : CharAnswer). Within-char k a → at < k) (eqb (get_or s at 0) 0x27) _ _ (λ e w. omega arith) (λ e w. absurd w)
+char_ends_at s at c k = cond_cases (λ (a : Told (ℕ × ℕ)). Within-char k a → at < k) (eqb (get_or s at 0) 0x27) _ _ (λ e w. omega arith) (λ e w. absurd w)
 
 char_ends_same : (u v v' : List ℕ) (at c : ℕ) → at < length u → char_ends (u ++ v') at c ≡ char_ends (u ++ v) at c
 unfolding char_ends
@@ -409,7 +406,7 @@ unfolding char_ends
 none_ends s c k e w = rw e at w
 
 char_of_two : (a b : ℕ) (t : List ℕ)
-    → char_of (a ∷ b ∷ t) ≡ cond (eqb a 0x27) (cond (eqb b 0x5C) (by_char_escape (a ∷ b ∷ t) (escape_of Char t)) (char_ends (a ∷ b ∷ t) (1 + char_len (b ∷ t)) (code_of (b ∷ t)))) (NoChar (expected_char 0))
+    → char_of (a ∷ b ∷ t) ≡ cond (eqb a 0x27) (cond (eqb b 0x5C) (by_char_escape (a ∷ b ∷ t) (escape_of Char t)) (char_ends (a ∷ b ∷ t) (1 + char_len (b ∷ t)) (code_of (b ∷ t)))) (Err (expected_char 0))
 unfolding char_of
 char_of_two a b t = rw (ne_eqb (suc (suc (length t))) 1 (λ e. omega arith))
 
@@ -451,28 +448,28 @@ char_closed (a ∷ b ∷ u) v v' w =
 
 -- ---- byte literals
 
-abbrev pub Within-byte : ℕ → ByteAnswer → Type 0
-Within-byte k (ReadByte n b) = n ≤ k
-Within-byte k (NoByte r) = ⊥
+abbrev pub Within-byte : ℕ → Told (ℕ × ℕ) → Type 0
+Within-byte k (Ok (n, b)) = n ≤ k
+Within-byte k (Err r) = ⊥
 
-by_byte : (k : ℕ) (t : Bool) (x y x' y' : ByteAnswer) → (Within-byte k x → x' ≡ x) → (Within-byte k y → y' ≡ y) → Within-byte k (cond t x y) → cond t x' y' ≡ cond t x y
+by_byte : (k : ℕ) (t : Bool) (x y x' y' : Told (ℕ × ℕ)) → (Within-byte k x → x' ≡ x) → (Within-byte k y → y' ≡ y) → Within-byte k (cond t x y) → cond t x' y' ≡ cond t x y
 by_byte k true x y x' y' f g = f
 by_byte k false x y x' y' f g = g
 
-long_byte : (s : List ℕ) (k : ℕ) (a : ByteAnswer) → Bounded-byte s a → k < 4 → Within-byte k a → ⊥
-long_byte s k (ReadByte n b) i h w = omega (arith, i.0)
-long_byte s k (NoByte r) i h w = w
+long_byte : (s : List ℕ) (k : ℕ) (a : Told (ℕ × ℕ)) → Bounded-byte s a → k < 4 → Within-byte k a → ⊥
+long_byte s k (Ok (n, b)) i h w = omega (arith, i.0)
+long_byte s k (Err r) i h w = w
 
 byte_ends_at : (s : List ℕ) (at c k : ℕ) → Within-byte k (byte_ends s at c) → at < k
 unfolding byte_ends
-byte_ends_at s at c k = cond_cases (λ (a : ByteAnswer). Within-byte k a → at < k) (eqb (get_or s at 0) 0x27) _ _ (λ e w. omega arith) (λ e w. absurd w)
+byte_ends_at s at c k = cond_cases (λ (a : Told (ℕ × ℕ)). Within-byte k a → at < k) (eqb (get_or s at 0) 0x27) _ _ (λ e w. omega arith) (λ e w. absurd w)
 
 byte_ends_same : (u v v' : List ℕ) (at c : ℕ) → at < length u → byte_ends (u ++ v') at c ≡ byte_ends (u ++ v) at c
 unfolding byte_ends
 byte_ends_same u v v' at c h = rw (same_at u v v' at h)
 
 byte_of_three : (a b c : ℕ) (t : List ℕ)
-    → byte_of (a ∷ b ∷ c ∷ t) ≡ cond (eqb a 0x62 && eqb b 0x27) (cond (eqb c 0x5C) (by_byte_escape (a ∷ b ∷ c ∷ t) (escape_of Bytes t)) (cond (ltb c 0x80) (byte_ends (a ∷ b ∷ c ∷ t) 3 c) (NoByte (expected_byte_literal (2 + char_len (c ∷ t)))))) (NoByte (expected_byte_literal 0))
+    → byte_of (a ∷ b ∷ c ∷ t) ≡ cond (eqb a 0x62 && eqb b 0x27) (cond (eqb c 0x5C) (by_byte_escape (a ∷ b ∷ c ∷ t) (escape_of Bytes t)) (cond (ltb c 0x80) (byte_ends (a ∷ b ∷ c ∷ t) 3 c) (Err (expected_byte_literal (2 + char_len (c ∷ t)))))) (Err (expected_byte_literal 0))
 unfolding byte_of
 byte_of_three a b c t = rw (ne_eqb (suc (suc (suc (length t)))) 2 (λ e. omega arith))
 

@@ -1,4 +1,6 @@
 -- Chars and byte literals read by a cursor: each step answers what their definitions do. Assumes nothing.
+use Rattle.std.proofs.Common.{Ok, Err}
+use Rattle.text.specs.Refusals.{Told}
 use Prim.Native.Nat.{◌+◌, ◌<◌, ◌≤◌, ℕ}
 use native.Mathlib.Omega.{arith}
 use mathlib.Core.Bool.{false, true}
@@ -12,22 +14,14 @@ use Rattle.cursor.specs.Cursor.{cursor_at, moved_by}
 use Rattle.cursor.specs.inner.Chars.{expected_of, next_of}
 use Rattle.cursor.specs.inner.Escape.{behind_escape, escaped_of}
 use Rattle.cursor.specs.declared.ParserCursor.{ParserCursor}
-use Rattle.cursor.specs.declared.chars.Next.{Next}
-use Rattle.cursor.specs.declared.chars.Next.TheVariants as next
 use Rattle.cursor.specs.declared.escape.Escaped.{Escaped}
 use Rattle.cursor.specs.declared.escape.Escaped.TheVariants as escaped
-use Rattle.cursor.specs.declared.skip.Step.{Step}
-use Rattle.cursor.specs.declared.skip.Step.TheVariants as step
 use Rattle.escapes.specs.Escapes.{escape_of}
 use Rattle.escapes.specs.declared.answers.EscapeAnswer.{EscapeAnswer}
 use Rattle.escapes.specs.declared.answers.EscapeAnswer.TheVariants.{Ascii, Utf8, Refused}
 use Rattle.escapes.specs.declared.answers.Mode.TheVariants.{Char, Bytes}
 use Rattle.strings.proofs.Wholes.{none_here}
 use Rattle.strings.specs.Chars.{by_byte_escape, by_char_escape, byte_ends, byte_of, char_ends, char_of}
-use Rattle.strings.specs.declared.chars.ByteAnswer.{ByteAnswer}
-use Rattle.strings.specs.declared.chars.ByteAnswer.TheVariants.{Read as ReadByte, Refused as NoByte}
-use Rattle.strings.specs.declared.chars.CharAnswer.{CharAnswer}
-use Rattle.strings.specs.declared.chars.CharAnswer.TheVariants.{Read as ReadChar, Refused as NoChar}
 use Rattle.text.proofs.Choices.{bool_cases, either, lt_or_le}
 use Rattle.text.specs.Refusals.{expected_byte_literal, expected_char, invalid_escape}
 use Rattle.text.specs.declared.reason.EscapeReason.TheVariants.{UnicodeInByteLiteral}
@@ -35,13 +29,13 @@ use Rattle.text.specs.Utf8.{char_len}
 
 -- ---- the closing quote
 
-abbrev pub char_closing : ℕ → Step → CharAnswer
-char_closing code (step.Moved c) = ReadChar c.cursor code
-char_closing code (step.Refused r) = NoChar r
+abbrev pub char_closing : ℕ → Told ParserCursor → Told (ℕ × ℕ)
+char_closing code (Ok c) = Ok (c.cursor, code)
+char_closing code (Err r) = Err r
 
-abbrev pub byte_closing : ℕ → Step → ByteAnswer
-byte_closing byte (step.Moved c) = ReadByte c.cursor byte
-byte_closing byte (step.Refused r) = NoByte r
+abbrev pub byte_closing : ℕ → Told ParserCursor → Told (ℕ × ℕ)
+byte_closing byte (Ok c) = Ok (c.cursor, byte)
+byte_closing byte (Err r) = Err r
 
 module _ (s : List ℕ) (c : ParserCursor) where
   pub char_closed : (code : ℕ) → char_closing code (expected_of s c 0x27 (expected_char c.cursor)) ≡ char_ends s c.cursor code
@@ -58,15 +52,15 @@ module _ (s : List ℕ) (c : ParserCursor) where
 
 -- ---- escapes
 
-abbrev pub char_escaped : List ℕ → Escaped → CharAnswer
+abbrev pub char_escaped : List ℕ → Escaped → Told (ℕ × ℕ)
 char_escaped s (escaped.Ascii b c) = char_ends s c.cursor b
 char_escaped s (escaped.Utf8 p c) = char_ends s c.cursor p
-char_escaped s (escaped.Refused r) = NoChar r
+char_escaped s (escaped.Refused r) = Err r
 
-abbrev pub byte_escaped : List ℕ → Escaped → ByteAnswer
+abbrev pub byte_escaped : List ℕ → Escaped → Told (ℕ × ℕ)
 byte_escaped s (escaped.Ascii b c) = byte_ends s c.cursor b
-byte_escaped s (escaped.Utf8 p c) = NoByte (invalid_escape UnicodeInByteLiteral c.cursor)
-byte_escaped s (escaped.Refused r) = NoByte r
+byte_escaped s (escaped.Utf8 p c) = Err (invalid_escape UnicodeInByteLiteral c.cursor)
+byte_escaped s (escaped.Refused r) = Err r
 
 module _ (s : List ℕ) (c : ParserCursor) where
   char_by : c.cursor ≡ 2 → (a : EscapeAnswer) → char_escaped s (behind_escape c a) ≡ by_char_escape s a
@@ -89,12 +83,12 @@ module _ (s : List ℕ) (c : ParserCursor) where
 
 -- ---- the whole char
 
-abbrev pub char_next : List ℕ → Next → CharAnswer
-char_next s (next.Char code c) = char_ends s c.cursor code
-char_next s (next.Refused r) = NoChar r
+abbrev pub char_next : List ℕ → Told (ℕ × ParserCursor) → Told (ℕ × ℕ)
+char_next s (Ok (code, c)) = char_ends s c.cursor code
+char_next s (Err r) = Err r
 
 module _ (s : List ℕ) where
-  pub char_none : eqb (get_or s 0 0) 0x27 ≡ false → NoChar (expected_char 0) ≡ char_of s
+  pub char_none : eqb (get_or s 0 0) 0x27 ≡ false → Err (expected_char 0) ≡ char_of s
   unfolding char_of
   char_none q = rw q
 
@@ -112,20 +106,20 @@ module _ (s : List ℕ) where
 
 -- ---- the whole byte literal
 
-abbrev pub byte_next : List ℕ → Next → ByteAnswer
-byte_next s (next.Char code c) = byte_ends s c.cursor code
-byte_next s (next.Refused r) = NoByte r
+abbrev pub byte_next : List ℕ → Told (ℕ × ParserCursor) → Told (ℕ × ℕ)
+byte_next s (Ok (code, c)) = byte_ends s c.cursor code
+byte_next s (Err r) = Err r
 
-abbrev pub Narrow : Next → Type 0
-Narrow (next.Char code c) = code < 0x80
-Narrow (next.Refused r) = Unit
+abbrev pub Narrow : Told (ℕ × ParserCursor) → Type 0
+Narrow (Ok (code, c)) = code < 0x80
+Narrow (Err r) = Unit
 
 module _ (s : List ℕ) where
-  pub byte_unnamed : eqb (get_or s 0 0) 0x62 ≡ false → NoByte (expected_byte_literal 0) ≡ byte_of s
+  pub byte_unnamed : eqb (get_or s 0 0) 0x62 ≡ false → Err (expected_byte_literal 0) ≡ byte_of s
   unfolding byte_of
   byte_unnamed p = rw p
 
-  pub byte_unquoted : eqb (get_or s 0 0) 0x62 ≡ true → eqb (get_or s 1 0) 0x27 ≡ false → NoByte (expected_byte_literal 0) ≡ byte_of s
+  pub byte_unquoted : eqb (get_or s 0 0) 0x62 ≡ true → eqb (get_or s 1 0) 0x27 ≡ false → Err (expected_byte_literal 0) ≡ byte_of s
   unfolding byte_of
   byte_unquoted p q = rw (p, q)
 
@@ -140,7 +134,7 @@ module _ (s : List ℕ) where
       (λ l. let z : get_or s 2 0 ≡ 0 = get_or-eq_default s 0 l in absurd (omega (arith, z, h)))
 
   pub byte_wide : eqb (get_or s 0 0) 0x62 ≡ true → eqb (get_or s 1 0) 0x27 ≡ true → eqb (get_or s 2 0) 0x5C ≡ false → 0x80 ≤ get_or s 2 0
-      → NoByte (expected_byte_literal (2 + char_len (drop 2 s))) ≡ byte_of s
+      → Err (expected_byte_literal (2 + char_len (drop 2 s))) ≡ byte_of s
   unfolding byte_of
   byte_wide p q m h = rw (p, q, ne_eqb (length s) 2 (λ e. omega (arith, e, wide_inside h)), m, le-ltb (get_or s 2 0) 0x80 h)
 

@@ -1,4 +1,6 @@
 -- A decoded string is UTF-8 where its text is: `string_encoded`. Assumes nothing.
+use Rattle.std.proofs.Common.{Ok}
+use Rattle.text.specs.Refusals.{Told}
 use Prim.Native.Nat.{◌+◌, ◌<◌, ◌≤◌, suc, zero, ℕ}
 use native.Mathlib.Omega.{arith}
 use mathlib.Core.Bool.{◌&&◌, false, true}
@@ -22,8 +24,6 @@ use Rattle.strings.specs.Pieces.{Body, behind_backslash, body_of, by_escape, by_
 use Rattle.strings.specs.Raw.{hash, raw_contents, raw_end, raw_of}
 use Rattle.strings.specs.Strings.{string_decoded, string_of}
 use Rattle.strings.specs.declared.literal.Literal.{Literal}
-use Rattle.strings.specs.declared.literal.LiteralAnswer.{LiteralAnswer}
-use Rattle.strings.specs.declared.literal.LiteralAnswer.TheVariants.{Read}
 use Rattle.strings.specs.declared.pieces.Piece.{Piece}
 use Rattle.strings.specs.declared.pieces.Piece.TheVariants.{Backslash, Plain, Quote}
 use Rattle.strings.specs.declared.pieces.Piece.TheVariants as pieces
@@ -156,14 +156,14 @@ raw_quote n (b ∷ t) =
     (λ e h. eqb-true b 0x22 (and_true (eqb b 0x22) (leb n (run hash t)) e).0)
     (λ e h. i (omega arith))
 
-raw_encoded : (m : Mode) (s : List ℕ) (l : Literal) → Encoded s → get_or s 0 0 ≡ 0x72 → raw_of m 1 s ≡ Read l → Encoded (raw_contents 1 s)
+raw_encoded : (m : Mode) (s : List ℕ) (l : Literal) → Encoded s → get_or s 0 0 ≡ 0x72 → raw_of m 1 s ≡ Ok l → Encoded (raw_contents 1 s)
 unfolding raw_of raw_contents
 raw_encoded m s l e r =
     let h = run hash (drop 1 s) in
     let body = 1 + h + 1 in
     let k = raw_end h (drop body s) in
-    cond_cases (λ (a : LiteralAnswer). a ≡ Read l → Encoded (take k (drop body s))) (eqb (get_or s (1 + h) 0) 0x22) _ _
-    (λ q. cond_cases (λ (a : LiteralAnswer). a ≡ Read l → Encoded (take k (drop body s))) (ltb (body + k) (length s)) _ _
+    cond_cases (λ (a : Told Literal). a ≡ Ok l → Encoded (take k (drop body s))) (eqb (get_or s (1 + h) 0) 0x22) _ _
+    (λ q. cond_cases (λ (a : Told Literal). a ≡ Ok l → Encoded (take k (drop body s))) (ltb (body + k) (length s)) _ _
     (λ t f. let c : Encoded (drop body s) = encoded_behind body s e (raw_body s r (eqb-true (get_or s (1 + h) 0) 0x22 q)) in
     let g : get_or (drop body s) k 0 ≡ 0x22 = raw_quote h (drop body s) (omega (arith, ltb-true (body + k) (length s) t, length-drop body s)) in
     let i : get_or (drop k (drop body s)) 0 0 < 0x80 = omega (arith, head_at (drop body s) k, g) in
@@ -171,11 +171,11 @@ raw_encoded m s l e r =
     (λ t f. let z : ◌≡◌ {A = ℕ} 0 1 = cc in absurd (omega arith)))
     (λ q f. let z : ◌≡◌ {A = ℕ} 0 1 = cc in absurd (omega arith))
 
-pub string_encoded : (s : List ℕ) (l : Literal) → Encoded s → string_of s ≡ Read l → Encoded (string_decoded s)
+pub string_encoded : (s : List ℕ) (l : Literal) → Encoded s → string_of s ≡ Ok l → Encoded (string_decoded s)
 unfolding string_of string_decoded
 string_encoded s l e =
     either (bool_cases (eqb (get_or s 0 0) 0x22))
     (λ q. rw q (λ f. body_encoded (drop 1 s) (encoded_behind 1 s e (first_ascii s 0x22 (omega arith) (omega arith) (eqb-true (get_or s 0 0) 0x22 q)))))
-    (λ q. rw q (cond_cases (λ (a : LiteralAnswer). a ≡ Read l → Encoded (raw_contents 1 s)) (eqb (get_or s 0 0) 0x72) _ _
+    (λ q. rw q (cond_cases (λ (a : Told Literal). a ≡ Ok l → Encoded (raw_contents 1 s)) (eqb (get_or s 0 0) 0x72) _ _
     (λ t f. raw_encoded Str s l e (eqb-true (get_or s 0 0) 0x72 t) f)
     (λ t f. let z : ◌≡◌ {A = ℕ} 0 1 = cc in absurd (omega arith))))

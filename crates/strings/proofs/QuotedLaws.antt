@@ -1,4 +1,7 @@
 -- Laws of quoted strings: what a body comes to, piece by piece. Assumes nothing.
+use Rattle.std.proofs.Common.{Ok, Err}
+use Rattle.text.specs.Refusals.{Told}
+use Rattle.strings.specs.declared.literal.Literal.{Literal}
 use Prim.Native.Nat.{◌+◌, ◌<◌, ◌≤◌, ℕ, suc, zero}
 use native.Mathlib.Omega.{arith}
 use mathlib.Core.Bool.{Bool, ◌||◌, false, true}
@@ -14,8 +17,6 @@ use Rattle.strings.proofs.PieceLaws.{Fine, body_end, body_step, found}
 use Rattle.strings.specs.Pieces.{Body, body_of, by_piece, decoded_len, piece_of, plain, unquoted}
 use Rattle.strings.specs.Quoted.{literal, measured, quoted_of}
 use Rattle.strings.specs.Strings.{byte_string_of}
-use Rattle.strings.specs.declared.literal.LiteralAnswer.{LiteralAnswer}
-use Rattle.strings.specs.declared.literal.LiteralAnswer.TheVariants.{Read, Refused}
 use Rattle.strings.specs.declared.pieces.Decoded.{Decoded}
 use Rattle.strings.specs.declared.pieces.Piece.{Piece}
 use Rattle.strings.specs.declared.pieces.Piece.TheVariants.{Backslash, Plain, Quote}
@@ -31,7 +32,7 @@ module _ (m : Mode) (s : List ℕ) (start from at dec : ℕ) (esc : Bool) (h : a
       → measured (body_of m (drop at s)) start from at dec esc ≡ measured (by_piece p (drop at s) (λ n. body_of m (drop n (drop at s)))) start from at dec esc
   step p e = ap (λ (b : Body). measured b start from at dec esc) (body_step m (drop at s) p (omega (arith, length-drop at s)) e)
 
-  pub quote_step : Quote ≡ piece_of m (drop at s) → measured (body_of m (drop at s)) start from at dec esc ≡ Read (literal (at + 1) start at dec esc)
+  pub quote_step : Quote ≡ piece_of m (drop at s) → measured (body_of m (drop at s)) start from at dec esc ≡ Ok (literal (at + 1) start at dec esc)
   unfolding measured
   quote_step e = step Quote e
 
@@ -69,12 +70,12 @@ module _ (m : Mode) (s : List ℕ) (start from at dec : ℕ) (esc : Bool) (h : a
       let z = found m (drop at s) (pieces.Refused r) (omega (arith, length-drop at s)) e in omega (arith, z, length-drop at s)
 
   pub spoilt_step : (r : Refusal) → pieces.Refused r ≡ piece_of m (drop at s)
-      → measured (body_of m (drop at s)) start from at dec esc ≡ Refused (placed_behind at r)
+      → measured (body_of m (drop at s)) start from at dec esc ≡ Err (placed_behind at r)
   unfolding measured
   spoilt_step r e = step (pieces.Refused r) e
 
 pub end_step : (m : Mode) (s : List ℕ) (start from at dec : ℕ) (esc : Bool) → length s ≤ at
-    → measured (body_of m (drop at s)) start from at dec esc ≡ Refused (expected_string_end from)
+    → measured (body_of m (drop at s)) start from at dec esc ≡ Err (expected_string_end from)
 unfolding measured
 end_step m s start from at dec esc h =
     ap (λ (b : Body). measured b start from at dec esc) (body_end m (drop at s) (omega (arith, length-drop at s)))
@@ -95,7 +96,7 @@ piece_plain m (b ∷ t) n e h =
 
 -- the run of plain bytes ends at a quote
 plain_body : (m : Mode) (s : List ℕ) (start n : ℕ) → n ≡ run plain (drop start s) → start + n < length s → get_or s (start + n) 0 ≡ 0x22
-    → measured (body_of m (drop start s)) start start start 0 false ≡ Read (literal (start + n + 1) start (start + n) n false)
+    → measured (body_of m (drop start s)) start start start 0 false ≡ Ok (literal (start + n + 1) start (start + n) n false)
 plain_body m s start zero e h q =
     let z : start + 0 ≡ start = omega arith in
     rw z (quote_step m s start start start 0 false (omega arith) (piece_quote m (drop start s) (head_at s start ∙ rw z at q)))
@@ -112,7 +113,7 @@ run_to (b ∷ t) zero e = rw (eq-eqb b 0x22 e) (omega arith)
 run_to (b ∷ t) (suc j) e = let h = run_to t j e in either (bool_cases (eqb b 0x22)) (λ f. rw f (omega arith)) (λ f. rw f (omega arith))
 
 pub quoted_plain : (m : Mode) (s : List ℕ) (start n : ℕ) → n ≡ run plain (drop start s) → start + n < length s → get_or s (start + n) 0 ≡ 0x22
-    → quoted_of m start s ≡ Read (literal (start + n + 1) start (start + n) n false)
+    → quoted_of m start s ≡ Ok (literal (start + n + 1) start (start + n) n false)
 unfolding quoted_of
 quoted_plain m s start n e h q =
     rw (lt-ltb (run unquoted (drop start s)) (length (drop start s)) (omega (arith, run_to (drop start s) n (get_or-drop start s n 0 ∙ q), length-drop start s)))
@@ -123,14 +124,14 @@ plain_unquoted : (b : ℕ) → plain b ≡ true → unquoted b ≡ true
 unfolding plain unquoted
 plain_unquoted b = either (bool_cases (eqb b 0x22)) (λ p e. let z : false ≡ true = rw p at e in rw p z) (λ p e. rw p)
 
-pub quoted_none : (m : Mode) (s : List ℕ) (start n : ℕ) → n ≡ run plain (drop start s) → start ≤ length s → length s ≤ start + n → quoted_of m start s ≡ Refused (expected_string_end start)
+pub quoted_none : (m : Mode) (s : List ℕ) (start n : ℕ) → n ≡ run plain (drop start s) → start ≤ length s → length s ≤ start + n → quoted_of m start s ≡ Err (expected_string_end start)
 unfolding quoted_of
 quoted_none m s start n e h l =
     rw (le-ltb (run unquoted (drop start s)) (length (drop start s)) (omega (arith, run_wider plain unquoted plain_unquoted (drop start s), length-drop start s)))
 
 -- fewer than two bytes begin no byte string
-pub byte_string_short : (s : List ℕ) → length s < 2 → byte_string_of s ≡ Refused (expected_byte_string 0)
+pub byte_string_short : (s : List ℕ) → length s < 2 → byte_string_of s ≡ Err (expected_byte_string 0)
 unfolding byte_string_of
 byte_string_short [] h = refl
-byte_string_short (a ∷ []) h = cond_cases (λ (x : LiteralAnswer). x ≡ Refused (expected_byte_string 0)) (eqb a 0x62) _ _ (λ e. refl) (λ e. refl)
+byte_string_short (a ∷ []) h = cond_cases (λ (x : Told Literal). x ≡ Err (expected_byte_string 0)) (eqb a 0x62) _ _ (λ e. refl) (λ e. refl)
 byte_string_short (a ∷ b ∷ s) h = absurd (omega arith)

@@ -1,4 +1,5 @@
 -- Laws of raw strings. Assumes nothing.
+use Rattle.std.proofs.Common.{Ok, Err}
 use Prim.Native.Nat.{◌+◌, ◌<◌, ◌≤◌, suc, ℕ, ◌-◌}
 use native.Mathlib.Omega.{arith}
 use mathlib.Core.Bool.{Bool, false, true, ◌&&◌}
@@ -12,7 +13,6 @@ use Rattle.escapes.specs.declared.answers.Mode.{Mode}
 use Rattle.strings.specs.Pieces.{unquoted}
 use Rattle.strings.specs.Quoted.{literal}
 use Rattle.strings.specs.Raw.{hash, raw_end, missing, raw_of}
-use Rattle.strings.specs.declared.literal.LiteralAnswer.TheVariants.{Read, Refused}
 use Rattle.text.proofs.Choices.{and_false, bool_cases, either, cond_cases}
 use Rattle.text.proofs.Lists.{front}
 use Rattle.text.specs.Refusals.{expected_string_end}
@@ -82,17 +82,17 @@ at_quote t i k e h =
 -- ---- the whole, by what the code found
 
 module _ (m : Mode) (start : ℕ) (s : List ℕ) (h : ℕ) (e : h ≡ run hash (drop start s)) where
-  pub raw_missing : (get_or s (start + h) 0 ≡ 0x22 → ⊥) → raw_of m start s ≡ Refused (missing m (start + h))
+  pub raw_missing : (get_or s (start + h) 0 ≡ 0x22 → ⊥) → raw_of m start s ≡ Err (missing m (start + h))
   unfolding raw_of
   raw_missing n = rw (sym e, ne_eqb (get_or s (start + h) 0) 0x22 n)
 
   module _ (k : ℕ) (f : k ≡ raw_end h (drop (start + h + 1) s)) (q : get_or s (start + h) 0 ≡ 0x22) where
-    pub raw_unclosed : length s ≤ start + h + 1 + k → raw_of m start s ≡ Refused (expected_string_end (start + h + 1))
+    pub raw_unclosed : length s ≤ start + h + 1 + k → raw_of m start s ≡ Err (expected_string_end (start + h + 1))
     unfolding raw_of
     raw_unclosed l = rw (sym e) (rw (sym f) (rw (eq-eqb (get_or s (start + h) 0) 0x22 q, le-ltb (start + h + 1 + k) (length s) l)))
 
     pub raw_read : start + h + 1 + k < length s
-        → raw_of m start s ≡ Read (literal (start + h + 1 + k + 1 + h) (start + h + 1) (start + h + 1 + k) (start + h + 1 + k - (start + h + 1)) false)
+        → raw_of m start s ≡ Ok (literal (start + h + 1 + k + 1 + h) (start + h + 1) (start + h + 1 + k) (start + h + 1 + k - (start + h + 1)) false)
     unfolding raw_of
     raw_read l = rw (sym e) (rw (sym f) (rw (eq-eqb (get_or s (start + h) 0) 0x22 q, lt-ltb (start + h + 1 + k) (length s) l)))
 

@@ -1,5 +1,7 @@
 -- What holds of every string that was read: its sizes, what it decodes to and to how many bytes, and that the decoding is the part itself where nothing
 -- was escaped. Assumes nothing.
+use Rattle.std.proofs.Common.{Ok}
+use Rattle.text.specs.Refusals.{Told}
 use Prim.Native.Nat.{◌+◌, ◌-◌, ◌<◌, ◌≤◌, suc, zero, ℕ}
 use native.Mathlib.Omega.{arith}
 use mathlib.Core.Bool.{Bool, ◌||◌, cond, false, ◌&&◌, true}
@@ -19,8 +21,6 @@ use Rattle.strings.specs.Quoted.{literal, measured, quoted_of}
 use Rattle.strings.specs.Raw.{hash, raw_contents, raw_end, raw_of}
 use Rattle.strings.specs.Strings.{part_decoded, byte_string_decoded, byte_string_of, string_decoded, string_of}
 use Rattle.strings.specs.declared.literal.Literal.{Literal}
-use Rattle.strings.specs.declared.literal.LiteralAnswer.{LiteralAnswer}
-use Rattle.strings.specs.declared.literal.LiteralAnswer.TheVariants.{Read}
 use Rattle.strings.specs.declared.pieces.Piece.{Piece}
 use Rattle.strings.specs.declared.pieces.Piece.TheVariants.{Backslash, Plain, Quote, Refused}
 use Rattle.text.proofs.Choices.{or_left, or_right, and_true, bool_cases, cond_cases, either, lt_or_le}
@@ -73,7 +73,7 @@ take_join t n k = sym (take-add n k t)
 false_or : (s t : Bool) → (s || t) ≡ false → (s ≡ false) × (t ≡ false)
 false_or s t e = (or_left s t e, or_right s t e)
 
-pub measured_read : (b : Body) (t : List ℕ) (start from at dec : ℕ) (esc : Bool) (l : Literal) → Whole t b → measured b start from at dec esc ≡ Read l → Measured t (decoded_of b) start at dec esc l
+pub measured_read : (b : Body) (t : List ℕ) (start from at dec : ℕ) (esc : Bool) (l : Literal) → Whole t b → measured b start from at dec esc ≡ Ok l → Measured t (decoded_of b) start at dec esc l
 unfolding measured decoded_of
 measured_read closes t start from at dec esc l w e =
     let q : literal (at + 1) start at dec esc ≡ l = cc in
@@ -131,10 +131,10 @@ whole_quoted m start s l p h r =
       part = part_of m (drop l.start s) (decoded_of (body_of m (drop start s))) (l.end - l.start) l.escaped (ap (λ (x : ℕ). decoded_of (body_of m (drop x s))) at) same;
     }
 
-pub quoted_whole : (m : Mode) (start : ℕ) (s : List ℕ) (l : Literal) → 0 < start → start ≤ length s → quoted_of m start s ≡ Read l → Whole-string m s (decoded_of (body_of m (drop start s))) l
+pub quoted_whole : (m : Mode) (start : ℕ) (s : List ℕ) (l : Literal) → 0 < start → start ≤ length s → quoted_of m start s ≡ Ok l → Whole-string m s (decoded_of (body_of m (drop start s))) l
 unfolding quoted_of
 quoted_whole m start s l p h =
-    cond_cases (λ (a : LiteralAnswer). a ≡ Read l → Whole-string m s (decoded_of (body_of m (drop start s))) l)
+    cond_cases (λ (a : Told Literal). a ≡ Ok l → Whole-string m s (decoded_of (body_of m (drop start s))) l)
     (ltb (run unquoted (drop start s)) (length (drop start s))) _ _
     (λ t e. whole_quoted m start s l p h (measured_read (body_of m (drop start s)) (drop start s) start start start 0 false l (whole_body m (drop start s)) e))
     (λ t e. let z : ◌≡◌ {A = ℕ} 0 1 = cc in absurd (omega arith))
@@ -168,14 +168,14 @@ raw_literal m s h body k e p l =
       part = same;
     }
 
-pub raw_whole : (m : Mode) (start : ℕ) (s : List ℕ) (l : Literal) → raw_of m start s ≡ Read l → Whole-string m s (raw_contents start s) l
+pub raw_whole : (m : Mode) (start : ℕ) (s : List ℕ) (l : Literal) → raw_of m start s ≡ Ok l → Whole-string m s (raw_contents start s) l
 unfolding raw_of raw_contents
 raw_whole m start s l =
     let h = run hash (drop start s) in
     let body = start + h + 1 in
     let k = raw_end h (drop body s) in
-    cond_cases (λ (a : LiteralAnswer). a ≡ Read l → Whole-string m s (take k (drop body s)) l) (eqb (get_or s (start + h) 0) 0x22) _ _
-    (λ q. cond_cases (λ (a : LiteralAnswer). a ≡ Read l → Whole-string m s (take k (drop body s)) l) (ltb (body + k) (length s)) _ _
+    cond_cases (λ (a : Told Literal). a ≡ Ok l → Whole-string m s (take k (drop body s)) l) (eqb (get_or s (start + h) 0) 0x22) _ _
+    (λ q. cond_cases (λ (a : Told Literal). a ≡ Ok l → Whole-string m s (take k (drop body s)) l) (ltb (body + k) (length s)) _ _
     (λ t e. let i : literal (body + k + 1 + h) body (body + k) (body + k - body) false ≡ l = cc in
     subst (Whole-string m s (take k (drop body s))) i (raw_literal m s h body k refl (omega arith) (ltb-true (body + k) (length s) t)))
     (λ t e. let z : ◌≡◌ {A = ℕ} 0 1 = cc in absurd (omega arith)))
@@ -186,22 +186,22 @@ raw_whole m start s l =
 pub none_here : (s : List ℕ) (i x : ℕ) → 0 < x → eqb (get_or s i 0) x ≡ true → i < length s
 none_here s i x p e = ⊎_elim (λ h. h) (λ h. (let z : get_or s i 0 ≡ 0 = get_or-eq_default s 0 h in absurd (omega (arith, eqb-true (get_or s i 0) x e)))) (lt_or_le i (length s))
 
-pub string_whole : (s : List ℕ) (l : Literal) → string_of s ≡ Read l → Whole-string Str s (string_decoded s) l
+pub string_whole : (s : List ℕ) (l : Literal) → string_of s ≡ Ok l → Whole-string Str s (string_decoded s) l
 unfolding string_of string_decoded
 string_whole s l =
     either (bool_cases (eqb (get_or s 0 0) 0x22))
     (λ q. rw q (λ e. quoted_whole Str 1 s l (omega arith) (none_here s 0 0x22 (omega arith) q) e))
-    (λ q. rw q (cond_cases (λ (a : LiteralAnswer). a ≡ Read l → Whole-string Str s (raw_contents 1 s) l) (eqb (get_or s 0 0) 0x72) _ _
+    (λ q. rw q (cond_cases (λ (a : Told Literal). a ≡ Ok l → Whole-string Str s (raw_contents 1 s) l) (eqb (get_or s 0 0) 0x72) _ _
     (λ t e. raw_whole Str 1 s l e)
     (λ t e. let z : ◌≡◌ {A = ℕ} 0 1 = cc in absurd (omega arith))))
 
-pub byte_string_whole : (s : List ℕ) (l : Literal) → byte_string_of s ≡ Read l → Whole-string Bytes s (byte_string_decoded s) l
+pub byte_string_whole : (s : List ℕ) (l : Literal) → byte_string_of s ≡ Ok l → Whole-string Bytes s (byte_string_decoded s) l
 unfolding byte_string_of byte_string_decoded
 byte_string_whole s l =
-    cond_cases (λ (a : LiteralAnswer). a ≡ Read l → Whole-string Bytes s (byte_string_decoded s) l) (eqb (get_or s 0 0) 0x62) _ _
+    cond_cases (λ (a : Told Literal). a ≡ Ok l → Whole-string Bytes s (byte_string_decoded s) l) (eqb (get_or s 0 0) 0x62) _ _
     (λ p. either (bool_cases (eqb (get_or s 1 0) 0x22))
     (λ q. rw q (λ e. quoted_whole Bytes 2 s l (omega arith) (none_here s 1 0x22 (omega arith) q) e))
-    (λ q. rw q (cond_cases (λ (a : LiteralAnswer). a ≡ Read l → Whole-string Bytes s (raw_contents 2 s) l) (eqb (get_or s 1 0) 0x72) _ _
+    (λ q. rw q (cond_cases (λ (a : Told Literal). a ≡ Ok l → Whole-string Bytes s (raw_contents 2 s) l) (eqb (get_or s 1 0) 0x72) _ _
     (λ t e. raw_whole Bytes 2 s l e)
     (λ t e. let z : ◌≡◌ {A = ℕ} 0 1 = cc in absurd (omega arith)))))
     (λ p e. let z : ◌≡◌ {A = ℕ} 0 1 = cc in absurd (omega arith))

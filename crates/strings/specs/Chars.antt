@@ -1,5 +1,7 @@
 -- Chars and byte literals (document 01, modules 3 and 4): "in a char only one [`\x`]; in byte literals any byte. `\u` in a byte literal is 13, behind its
 -- `}`." 6: the text ends where a character is needed. 14: char expected. 15: byte literal expected.
+use Rattle.std.specs.Prelude.{Ok, Err}
+use Rattle.text.specs.Refusals.{Told}
 use Rattle.std.specs.Prelude.{ℕ, ◌+◌, List, cond, ◌&&◌, length, get_or, drop, eqb, ltb}
 use Rattle.text.specs.Refusals.{placed_behind, eof, invalid_escape, expected_char, expected_byte_literal}
 use Rattle.text.specs.declared.reason.EscapeReason.TheVariants.{UnicodeInByteLiteral}
@@ -8,45 +10,41 @@ use Rattle.escapes.specs.declared.answers.Mode.TheVariants.{Char, Bytes}
 use Rattle.escapes.specs.declared.answers.EscapeAnswer.{EscapeAnswer}
 use Rattle.escapes.specs.declared.answers.EscapeAnswer.TheVariants.{Ascii, Utf8, Refused}
 use Rattle.escapes.specs.Escapes.{escape_of}
-use Rattle.strings.specs.declared.chars.CharAnswer.{CharAnswer}
-use Rattle.strings.specs.declared.chars.CharAnswer.TheVariants.{Read as ReadChar, Refused as NoChar}
-use Rattle.strings.specs.declared.chars.ByteAnswer.{ByteAnswer}
-use Rattle.strings.specs.declared.chars.ByteAnswer.TheVariants.{Read as ReadByte, Refused as NoByte}
 
 -- Behind the character a closing quote has to stand.
-unfoldable pub char_ends : List ℕ → ℕ → ℕ → CharAnswer
-char_ends s at code = cond (eqb (get_or s at 0) 0x27) (ReadChar (at + 1) code) (NoChar (expected_char at))
+unfoldable pub char_ends : List ℕ → ℕ → ℕ → Told (ℕ × ℕ)
+char_ends s at code = cond (eqb (get_or s at 0) 0x27) (Ok (at + 1, code)) (Err (expected_char at))
 
 -- An escape behind `'\`.
-abbrev pub by_char_escape : List ℕ → EscapeAnswer → CharAnswer
+abbrev pub by_char_escape : List ℕ → EscapeAnswer → Told (ℕ × ℕ)
 by_char_escape s (Ascii b n) = char_ends s (2 + n) b
 by_char_escape s (Utf8 c n) = char_ends s (2 + n) c
-by_char_escape s (Refused r) = NoChar (placed_behind 2 r)
+by_char_escape s (Refused r) = Err (placed_behind 2 r)
 
 -- The char at the front of s.
-unfoldable pub char_of : List ℕ → CharAnswer
+unfoldable pub char_of : List ℕ → Told (ℕ × ℕ)
 char_of s =
     cond (eqb (get_or s 0 0) 0x27)
-    (cond (eqb (length s) 1) (NoChar (eof 1))
+    (cond (eqb (length s) 1) (Err (eof 1))
     (cond (eqb (get_or s 1 0) 0x5C) (by_char_escape s (escape_of Char (drop 2 s)))
     (char_ends s (1 + char_len (drop 1 s)) (code_of (drop 1 s)))))
-    (NoChar (expected_char 0))
+    (Err (expected_char 0))
 
 -- Behind the byte a closing quote has to stand.
-unfoldable pub byte_ends : List ℕ → ℕ → ℕ → ByteAnswer
-byte_ends s at byte = cond (eqb (get_or s at 0) 0x27) (ReadByte (at + 1) byte) (NoByte (expected_byte_literal at))
+unfoldable pub byte_ends : List ℕ → ℕ → ℕ → Told (ℕ × ℕ)
+byte_ends s at byte = cond (eqb (get_or s at 0) 0x27) (Ok (at + 1, byte)) (Err (expected_byte_literal at))
 
 -- An escape behind `b'\`.
-abbrev pub by_byte_escape : List ℕ → EscapeAnswer → ByteAnswer
+abbrev pub by_byte_escape : List ℕ → EscapeAnswer → Told (ℕ × ℕ)
 by_byte_escape s (Ascii b n) = byte_ends s (3 + n) b
-by_byte_escape s (Utf8 c n) = NoByte (invalid_escape UnicodeInByteLiteral (3 + n))
-by_byte_escape s (Refused r) = NoByte (placed_behind 3 r)
+by_byte_escape s (Utf8 c n) = Err (invalid_escape UnicodeInByteLiteral (3 + n))
+by_byte_escape s (Refused r) = Err (placed_behind 3 r)
 
 -- The byte literal at the front of s.
-unfoldable pub byte_of : List ℕ → ByteAnswer
+unfoldable pub byte_of : List ℕ → Told (ℕ × ℕ)
 byte_of s =
     cond (eqb (get_or s 0 0) 0x62 && eqb (get_or s 1 0) 0x27)
-    (cond (eqb (length s) 2) (NoByte (eof 2))
+    (cond (eqb (length s) 2) (Err (eof 2))
     (cond (eqb (get_or s 2 0) 0x5C) (by_byte_escape s (escape_of Bytes (drop 3 s)))
-    (cond (ltb (get_or s 2 0) 0x80) (byte_ends s 3 (get_or s 2 0)) (NoByte (expected_byte_literal (2 + char_len (drop 2 s)))))))
-    (NoByte (expected_byte_literal 0))
+    (cond (ltb (get_or s 2 0) 0x80) (byte_ends s 3 (get_or s 2 0)) (Err (expected_byte_literal (2 + char_len (drop 2 s)))))))
+    (Err (expected_byte_literal 0))

@@ -1,12 +1,13 @@
 -- Raw strings and raw byte strings (document 01, module 4): "A raw string ends at the first quote with its number of hashes."
+use Rattle.std.specs.Prelude.{Ok, Err}
+use Rattle.text.specs.Refusals.{Told}
+use Rattle.strings.specs.declared.literal.Literal.{Literal}
 use Rattle.std.specs.Prelude.{ℕ, suc, ◌+◌, ◌-◌, List, [], ◌∷◌, Bool, false, cond, ◌&&◌, length, get_or, take, drop, eqb, ltb, leb}
 use Rattle.text.specs.declared.refusal.Refusal.{Refusal}
 use Rattle.text.specs.Refusals.{expected_string, expected_string_end, expected_byte_string}
 use Rattle.text.specs.Runs.{run}
 use Rattle.escapes.specs.declared.answers.Mode.{Mode}
 use Rattle.escapes.specs.declared.answers.Mode.TheVariants.{Str, Char, Bytes}
-use Rattle.strings.specs.declared.literal.LiteralAnswer.{LiteralAnswer}
-use Rattle.strings.specs.declared.literal.LiteralAnswer.TheVariants.{Read, Refused}
 use Rattle.strings.specs.Quoted.{literal}
 
 -- A hash.
@@ -25,14 +26,14 @@ missing Char place = expected_string place
 missing Bytes place = expected_byte_string place
 
 -- The raw string whose hashes begin at `start`.
-unfoldable pub raw_of : Mode → ℕ → List ℕ → LiteralAnswer
+unfoldable pub raw_of : Mode → ℕ → List ℕ → Told Literal
 raw_of m start s =
     let hashes = run hash (drop start s) in
     let body = start + hashes + 1 in
     let end = body + raw_end hashes (drop body s) in
     cond (eqb (get_or s (start + hashes) 0) 0x22)
-    (cond (ltb end (length s)) (Read (literal (end + 1 + hashes) body end (end - body) false)) (Refused (expected_string_end body)))
-    (Refused (missing m (start + hashes)))
+    (cond (ltb end (length s)) (Ok (literal (end + 1 + hashes) body end (end - body) false)) (Err (expected_string_end body)))
+    (Err (missing m (start + hashes)))
 
 -- Its contents.
 unfoldable pub raw_contents : ℕ → List ℕ → List ℕ

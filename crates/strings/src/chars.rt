@@ -1,49 +1,33 @@
 // Chars and byte literals, read as the crate reads them: by a cursor that goes over the part from its front.
 //
 // A backslash and what is above U+007F are told by the byte and not by the code point: over bytes that are no UTF-8 the two differ.
+ghost use Rattle.std.specs.Prelude.{Err};
 ghost use Rattle.std.specs.Prelude.{◌≡◌, drop};
 ghost use Rattle.text.specs.Refusals.{expected_byte_literal};
 ghost use Rattle.escapes.specs.Escapes.{escape_of};
 ghost use Rattle.escapes.specs.declared.answers.Mode.TheVariants.{Char, Bytes};
 ghost use Rattle.strings.specs.Chars.{char_ends, by_char_escape, char_of, byte_ends, by_byte_escape, byte_of};
 
-use cursor::{Escaped, Next, ParserCursor, Step};
+use cursor::{Escaped, ParserCursor};
 use escapes::{Mode, in_byte_literal};
 use text::Refusal;
 use text::bytes::peek;
 use text::utf8::char_len;
 
-// A char: how many bytes it takes, and its code point.
-#[derive(Clone, Copy)]
-pub enum CharAnswer {
-    Read { len: usize, code: u32 },
-    Refused(Refusal),
-}
-
-// A byte literal: how many bytes it takes, and the byte.
-#[derive(Clone, Copy)]
-pub enum ByteAnswer {
-    Read { len: usize, byte: u8 },
-    Refused(Refusal),
-}
-
 // Behind the character a closing quote has to stand.
-fn char_ends(s: &[u8], cursor: ParserCursor, code: u32) -> CharAnswer
+fn char_ends(s: &[u8], cursor: ParserCursor, code: u32) -> Result<(usize, u32), Refusal>
     ensures { result ≡ char_ends s.now cursor.cursor code }
 {
     let at = cursor.cursor;
     let closed = cursor.expect_char(s, b'\'', Refusal::expected_char(at));
     match closed {
-        Step::Moved(behind) => CharAnswer::Read {
-            len: behind.cursor,
-            code,
-        },
-        Step::Refused(refusal) => CharAnswer::Refused(refusal),
+        Ok(behind) => Ok((behind.cursor, code)),
+        Err(refusal) => Err(refusal),
     }
 }
 
 // The escape behind `'\`.
-fn escaped_char(s: &[u8], cursor: ParserCursor) -> CharAnswer
+fn escaped_char(s: &[u8], cursor: ParserCursor) -> Result<(usize, u32), Refusal>
     requires { cursor.cursor ≡ 2 }
     ensures { result ≡ by_char_escape s.now (escape_of Char (drop 2 s.now)) }
 {
@@ -51,18 +35,18 @@ fn escaped_char(s: &[u8], cursor: ParserCursor) -> CharAnswer
     match escaped {
         Escaped::Ascii(b, behind) => char_ends(s, behind, b as u32),
         Escaped::Utf8(c, behind) => char_ends(s, behind, c),
-        Escaped::Refused(refusal) => CharAnswer::Refused(refusal),
+        Escaped::Refused(refusal) => Err(refusal),
     }
 }
 
 // The char at the front of a part: 14 without its quotes, 6 where the text ends behind the first.
-pub fn char_literal(s: &[u8]) -> CharAnswer
+pub fn char_literal(s: &[u8]) -> Result<(usize, u32), Refusal>
     ensures { result ≡ char_of s.now }
 {
     let none = Refusal::expected_char(0);
     let opened = ParserCursor::at(0).expect_char(s, b'\'', none);
-    let Step::Moved(inside) = opened else {
-        return CharAnswer::Refused(none);
+    let Ok(inside) = opened else {
+        return Err(none);
     };
     let mark = inside.consume_char(s, b'\\');
     if mark.found {
@@ -71,48 +55,45 @@ pub fn char_literal(s: &[u8]) -> CharAnswer
     }
     let read = inside.next_char(s);
     match read {
-        Next::Char(code, behind) => char_ends(s, behind, code),
-        Next::Refused(refusal) => CharAnswer::Refused(refusal),
+        Ok((code, behind)) => char_ends(s, behind, code),
+        Err(refusal) => Err(refusal),
     }
 }
 
 // 15 at a place.
-fn no_byte(place: usize) -> ByteAnswer
-    ensures { result ≡ ByteAnswer.Refused (expected_byte_literal place) }
+fn no_byte(place: usize) -> Result<(usize, u8), Refusal>
+    ensures { result ≡ Err (expected_byte_literal place) }
 {
-    ByteAnswer::Refused(Refusal::expected_byte_literal(place))
+    Err(Refusal::expected_byte_literal(place))
 }
 
 // Behind the byte a closing quote has to stand.
-fn byte_ends(s: &[u8], cursor: ParserCursor, byte: u8) -> ByteAnswer
+fn byte_ends(s: &[u8], cursor: ParserCursor, byte: u8) -> Result<(usize, u8), Refusal>
     ensures { result ≡ byte_ends s.now cursor.cursor byte }
 {
     let at = cursor.cursor;
     let closed = cursor.expect_char(s, b'\'', Refusal::expected_byte_literal(at));
     match closed {
-        Step::Moved(behind) => ByteAnswer::Read {
-            len: behind.cursor,
-            byte,
-        },
-        Step::Refused(refusal) => ByteAnswer::Refused(refusal),
+        Ok(behind) => Ok((behind.cursor, byte)),
+        Err(refusal) => Err(refusal),
     }
 }
 
 // The escape behind `b'\`; `\u` is refused behind its `}`.
-fn escaped_byte(s: &[u8], cursor: ParserCursor) -> ByteAnswer
+fn escaped_byte(s: &[u8], cursor: ParserCursor) -> Result<(usize, u8), Refusal>
     requires { cursor.cursor ≡ 3 }
     ensures { result ≡ by_byte_escape s.now (escape_of Bytes (drop 3 s.now)) }
 {
     let escaped = cursor.parse_escape(s, Mode::Bytes);
     match escaped {
         Escaped::Ascii(b, behind) => byte_ends(s, behind, b),
-        Escaped::Utf8(_, behind) => ByteAnswer::Refused(in_byte_literal(behind.cursor)),
-        Escaped::Refused(refusal) => ByteAnswer::Refused(refusal),
+        Escaped::Utf8(_, behind) => Err(in_byte_literal(behind.cursor)),
+        Escaped::Refused(refusal) => Err(refusal),
     }
 }
 
 // The byte literal at the front of a part: 15 without `b'` and its quote, or for a character above U+007F; 6 where the text ends behind the first quote.
-pub fn byte_literal(s: &[u8]) -> ByteAnswer
+pub fn byte_literal(s: &[u8]) -> Result<(usize, u8), Refusal>
     ensures { result ≡ byte_of s.now }
 {
     let begun = ParserCursor::at(0).consume_char(s, b'b');
@@ -136,7 +117,7 @@ pub fn byte_literal(s: &[u8]) -> ByteAnswer
     }
     let read = inside.next_char(s);
     match read {
-        Next::Char(code, behind) => byte_ends(s, behind, code as u8),
-        Next::Refused(refusal) => ByteAnswer::Refused(refusal),
+        Ok((code, behind)) => byte_ends(s, behind, code as u8),
+        Err(refusal) => Err(refusal),
     }
 }

@@ -1,8 +1,8 @@
 // Decoding a string that was read: exactly the decoded bytes are written, at the front of `out`.
+ghost use Rattle.std.specs.Prelude.{Ok};
 ghost use Rattle.std.specs.Prelude.{◌≡◌, true, ◌++◌, ◌≤◌, length, drop};
 ghost use Rattle.strings.specs.Pieces.{writable, bytes_of, body_of, decoded_of};
 ghost use Rattle.strings.specs.Strings.{string_of, byte_string_of, string_decoded, byte_string_decoded, part_decoded, into_out};
-ghost use Rattle.strings.specs.declared.literal.LiteralAnswer.TheVariants.{Read};
 
 use crate::Literal;
 use crate::pieces::{Decoded, Piece, decoded_len, next_piece};
@@ -78,7 +78,7 @@ fn decode_part(m: Mode, t: &[u8], n: usize, escaped: bool, out: &mut [u8])
 
 // The string at the front of s, which was found to be l.
 pub fn decode_string(s: &[u8], l: Literal, out: &mut [u8])
-    requires { (string_of s.now ≡ Read l) × (l.decoded ≤ length out.old) }
+    requires { (string_of s.now ≡ Ok l) × (l.decoded ≤ length out.old) }
     ensures { out.new ≡ string_decoded s.now ++ drop l.decoded out.old }
 {
     let start = l.start;
@@ -87,7 +87,7 @@ pub fn decode_string(s: &[u8], l: Literal, out: &mut [u8])
 
 // The byte string at the front of s, which was found to be l.
 pub fn decode_byte_string(s: &[u8], l: Literal, out: &mut [u8])
-    requires { (byte_string_of s.now ≡ Read l) × (l.decoded ≤ length out.old) }
+    requires { (byte_string_of s.now ≡ Ok l) × (l.decoded ≤ length out.old) }
     ensures { out.new ≡ byte_string_decoded s.now ++ drop l.decoded out.old }
 {
     let start = l.start;

@@ -18,15 +18,15 @@ ghost use Rattle.std.specs.Prelude.{◌≡◌};
 ghost use Rattle.strings.specs.Strings.{string_of, byte_string_of};
 
 use escapes::Mode;
-pub use literal::{Literal, LiteralAnswer};
+pub use literal::Literal;
 use text::Refusal;
 
 // The string that the part begins with, quoted or raw.
-pub fn string(s: &[u8]) -> LiteralAnswer
+pub fn string(s: &[u8]) -> Result<Literal, Refusal>
     ensures { result ≡ string_of s.now }
 {
     if s.len() == 0 {
-        return LiteralAnswer::Refused(Refusal::expected_string(0));
+        return Err(Refusal::expected_string(0));
     }
     if s[0] == b'"' {
         return quoted::quoted(Mode::Str, s, 1);
@@ -34,18 +34,18 @@ pub fn string(s: &[u8]) -> LiteralAnswer
     if s[0] == b'r' {
         return raw::raw(Mode::Str, s, 1);
     }
-    LiteralAnswer::Refused(Refusal::expected_string(0))
+    Err(Refusal::expected_string(0))
 }
 
 // The byte string that the part begins with, quoted or raw; after the crate's function of this name, which looks for no base64.
-pub fn byte_string_no_base64(s: &[u8]) -> LiteralAnswer
+pub fn byte_string_no_base64(s: &[u8]) -> Result<Literal, Refusal>
     ensures { result ≡ byte_string_of s.now }
 {
     if s.len() < 2 {
-        return LiteralAnswer::Refused(Refusal::expected_byte_string(0));
+        return Err(Refusal::expected_byte_string(0));
     }
     if s[0] != b'b' {
-        return LiteralAnswer::Refused(Refusal::expected_byte_string(0));
+        return Err(Refusal::expected_byte_string(0));
     }
     if s[1] == b'"' {
         return quoted::quoted(Mode::Bytes, s, 2);
@@ -53,5 +53,5 @@ pub fn byte_string_no_base64(s: &[u8]) -> LiteralAnswer
     if s[1] == b'r' {
         return raw::raw(Mode::Bytes, s, 2);
     }
-    LiteralAnswer::Refused(Refusal::expected_byte_string(0))
+    Err(Refusal::expected_byte_string(0))
 }

@@ -1,4 +1,5 @@
 // What a string is found to be.
+ghost use Rattle.std.specs.Prelude.{Err};
 ghost use Rattle.std.specs.Prelude.{◌≡◌};
 ghost use Rattle.text.specs.Refusals.{expected_string_end};
 
@@ -14,16 +15,9 @@ pub struct Literal {
     pub escaped: bool,
 }
 
-// A string that was read, or a refusal.
-#[derive(Clone, Copy)]
-pub enum LiteralAnswer {
-    Read(Literal),
-    Refused(Refusal),
-}
-
 // No closing quote.
-pub fn unclosed(place: usize) -> LiteralAnswer
-    ensures { result ≡ LiteralAnswer.Refused (expected_string_end place) }
+pub fn unclosed(place: usize) -> Result<Literal, Refusal>
+    ensures { result ≡ Err (expected_string_end place) }
 {
-    LiteralAnswer::Refused(Refusal::expected_string_end(place))
+    Err(Refusal::expected_string_end(place))
 }

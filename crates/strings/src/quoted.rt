@@ -3,15 +3,16 @@ ghost use Rattle.std.specs.Prelude.{◌≡◌, false, ◌≤◌, length, drop};
 ghost use Rattle.strings.specs.Pieces.{body_of};
 ghost use Rattle.strings.specs.Quoted.{measured, quoted_of};
 
+use crate::Literal;
 use crate::literal::unclosed;
 use crate::pieces::{Piece, decoded_len, next_piece, simple_escape};
 use crate::runs::{find_end, find_quote};
-use crate::{Literal, LiteralAnswer};
 use escapes::Mode;
+use text::Refusal;
 use text::refusal::placed_behind;
 
 // The body from `start` on, piece by piece; a later search for the end begins at `from`.
-fn body(m: Mode, s: &[u8], start: usize) -> LiteralAnswer
+fn body(m: Mode, s: &[u8], start: usize) -> Result<Literal, Refusal>
     requires { start ≤ length s.now }
     ensures { result ≡ measured (body_of m (drop start s.now)) start start start 0 false }
 {
@@ -30,7 +31,7 @@ fn body(m: Mode, s: &[u8], start: usize) -> LiteralAnswer
         let p = next_piece(m, &s[at..]);
         match p {
             Piece::Quote => {
-                return LiteralAnswer::Read(Literal {
+                return Ok(Literal {
                     len: at + 1,
                     start,
                     end: at,
@@ -49,7 +50,7 @@ fn body(m: Mode, s: &[u8], start: usize) -> LiteralAnswer
                 escaped = true;
             }
             Piece::Refused(r) => {
-                return LiteralAnswer::Refused(placed_behind(r, at));
+                return Err(placed_behind(r, at));
             }
         }
     }
@@ -57,7 +58,7 @@ fn body(m: Mode, s: &[u8], start: usize) -> LiteralAnswer
 }
 
 // The string whose contents begin at `start`. Most hold no backslash; else a closing quote is searched for before any escape is judged.
-pub fn quoted(m: Mode, s: &[u8], start: usize) -> LiteralAnswer
+pub fn quoted(m: Mode, s: &[u8], start: usize) -> Result<Literal, Refusal>
     requires { start ≤ length s.now }
     ensures { result ≡ quoted_of m start s.now }
 {
@@ -68,7 +69,7 @@ pub fn quoted(m: Mode, s: &[u8], start: usize) -> LiteralAnswer
         return unclosed(start);
     }
     if s[end] == b'"' {
-        return LiteralAnswer::Read(Literal {
+        return Ok(Literal {
             len: end + 1,
             start,
             end,

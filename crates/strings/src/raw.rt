@@ -2,9 +2,9 @@
 ghost use Rattle.std.specs.Prelude.{◌≡◌, ◌≤◌, length};
 ghost use Rattle.strings.specs.Raw.{raw_end, missing, raw_of};
 
+use crate::Literal;
 use crate::literal::unclosed;
 use crate::runs::{count_hashes, find_quote};
-use crate::{Literal, LiteralAnswer};
 use escapes::Mode;
 use text::Refusal;
 
@@ -38,24 +38,24 @@ fn expected(m: Mode, place: usize) -> Refusal
 }
 
 // The raw string whose hashes begin at `start`.
-pub fn raw(m: Mode, s: &[u8], start: usize) -> LiteralAnswer
+pub fn raw(m: Mode, s: &[u8], start: usize) -> Result<Literal, Refusal>
     requires { start ≤ length s.now }
     ensures { result ≡ raw_of m start s.now }
 {
     let hashes = count_hashes(&s[start..]);
     let open = start + hashes;
     if s.len() <= open {
-        return LiteralAnswer::Refused(expected(m, open));
+        return Err(expected(m, open));
     }
     if s[open] != b'"' {
-        return LiteralAnswer::Refused(expected(m, open));
+        return Err(expected(m, open));
     }
     let body = open + 1;
     let end = body + find_raw_end(&s[body..], hashes);
     if s.len() <= end {
         return unclosed(body);
     }
-    LiteralAnswer::Read(Literal {
+    Ok(Literal {
         len: end + 1 + hashes,
         start: body,
         end,

@@ -1,4 +1,7 @@
 -- Laws of what the scan passes over: where it ends, and that this lies within the part. Assumes nothing.
+use Rattle.std.proofs.Common.{Ok, Err}
+use Rattle.text.specs.Refusals.{Told}
+use Rattle.strings.specs.declared.literal.Literal.{Literal}
 use Prim.Native.Nat.{◌+◌, ◌-◌, ◌^◌, ◌<◌, ◌≤◌, ℕ}
 use native.Mathlib.Omega.{arith}
 use mathlib.Core.Bool.{cond}
@@ -16,30 +19,24 @@ use Rattle.comments.specs.declared.gap.Gap.TheVariants as gap
 use Rattle.strings.proofs.Bounds.{Bounded-char, Bounded-string, byte_string_bounded, char_bounded, string_bounded}
 use Rattle.strings.specs.Chars.{char_of}
 use Rattle.strings.specs.Strings.{string_of, byte_string_of}
-use Rattle.strings.specs.declared.chars.CharAnswer.{CharAnswer}
-use Rattle.strings.specs.declared.chars.CharAnswer.TheVariants as char
-use Rattle.strings.specs.declared.literal.LiteralAnswer.{LiteralAnswer}
-use Rattle.strings.specs.declared.literal.LiteralAnswer.TheVariants as literal
 use Rattle.structs.specs.Passes.{Fits, FitsLiteral, behind_char, behind_gap, behind_literal, onward, past_byte_string, past_char, past_gap, past_string}
-use Rattle.structs.specs.declared.passes.Passed.{Passed}
-use Rattle.structs.specs.declared.passes.Passed.TheVariants.{To, Refused}
 
 -- ---- from a place that was reached
 
-module _ (s : List ℕ) (from : Passed) (at : ℕ) (e : from ≡ To at) where
+module _ (s : List ℕ) (from : Told ℕ) (at : ℕ) (e : from ≡ Ok at) where
   pub past-gap : (g : Gap) → gap_of (drop at s) ≡ g → past_gap s from ≡ behind_gap at g
   unfolding past_gap
   past-gap g h = rw (e, h)
 
-  pub past-char : (r : CharAnswer) → char_of (drop at s) ≡ r → past_char s from ≡ behind_char at r
+  pub past-char : (r : Told (ℕ × ℕ)) → char_of (drop at s) ≡ r → past_char s from ≡ behind_char at r
   unfolding past_char
   past-char r h = rw (e, h)
 
-  pub past-string : (r : LiteralAnswer) → string_of (drop at s) ≡ r → past_string s from ≡ behind_literal 16 at r
+  pub past-string : (r : Told Literal) → string_of (drop at s) ≡ r → past_string s from ≡ behind_literal 16 at r
   unfolding past_string
   past-string r h = rw (e, h)
 
-  pub past-byte-string : (r : LiteralAnswer) → byte_string_of (drop at s) ≡ r → past_byte_string s from ≡ behind_literal 18 at r
+  pub past-byte-string : (r : Told Literal) → byte_string_of (drop at s) ≡ r → past_byte_string s from ≡ behind_literal 18 at r
   unfolding past_byte_string
   past-byte-string r h = rw (e, h)
 
@@ -53,18 +50,18 @@ gap_by size at n (gap.Clear m) h b = omega arith
 gap_by size at n (gap.InLine m) h b = omega arith
 gap_by size at n (gap.Refused r) h b = omega arith
 
-char_by : (size at : ℕ) (s : List ℕ) (r : CharAnswer) → at + length s ≤ size → Bounded-char s r → Fits size (behind_char at r)
-char_by size at s (char.Read n c) h b = omega (arith, b.1)
-char_by size at s (char.Refused r) h b = omega arith
+char_by : (size at : ℕ) (s : List ℕ) (r : Told (ℕ × ℕ)) → at + length s ≤ size → Bounded-char s r → Fits size (behind_char at r)
+char_by size at s (Ok (n, c)) h b = omega (arith, b.1)
+char_by size at s (Err r) h b = omega arith
 
-literal_by : (none size at : ℕ) (s : List ℕ) (r : LiteralAnswer) → at + length s ≤ size → Bounded-string s r → Fits size (behind_literal none at r)
-literal_by none size at s (literal.Read l) h b = omega (arith, b.1)
-literal_by none size at s (literal.Refused r) h b =
-    cond_cases (Fits size) (eqb r.number none) (To at) (Refused (placed_behind at r)) (λ e. omega arith) (λ e. omega arith)
+literal_by : (none size at : ℕ) (s : List ℕ) (r : Told Literal) → at + length s ≤ size → Bounded-string s r → Fits size (behind_literal none at r)
+literal_by none size at s (Ok l) h b = omega (arith, b.1)
+literal_by none size at s (Err r) h b =
+    cond_cases (Fits size) (eqb r.number none) (Ok at) (Err (placed_behind at r)) (λ e. omega arith) (λ e. omega arith)
 
-literal_fits : (size at : ℕ) (s : List ℕ) (r : LiteralAnswer) → at + length s ≤ size → size < 2 ^ 64 → Bounded-string s r → FitsLiteral at r
-literal_fits size at s (literal.Read l) h m b = omega (arith, b.1)
-literal_fits size at s (literal.Refused r) h m b = omega arith
+literal_fits : (size at : ℕ) (s : List ℕ) (r : Told Literal) → at + length s ≤ size → size < 2 ^ 64 → Bounded-string s r → FitsLiteral at r
+literal_fits size at s (Ok l) h m b = omega (arith, b.1)
+literal_fits size at s (Err r) h m b = omega arith
 
 module _ (s : List ℕ) (at : ℕ) (h : at ≤ length s) where
   rest : at + length (drop at s) ≤ length s
@@ -73,7 +70,7 @@ module _ (s : List ℕ) (at : ℕ) (h : at ≤ length s) where
   pub gap_at : (g : Gap) → gap_of (drop at s) ≡ g → Fits (length s) (behind_gap at g)
   gap_at g e = gap_by (length s) at (length (drop at s)) g rest (subst (EndsBy (length (drop at s))) e (gap_bounded (drop at s)))
 
-  pub char_at : (r : CharAnswer) → char_of (drop at s) ≡ r → Fits (length s) (behind_char at r)
+  pub char_at : (r : Told (ℕ × ℕ)) → char_of (drop at s) ≡ r → Fits (length s) (behind_char at r)
   char_at r e = char_by (length s) at (drop at s) r rest (subst (Bounded-char (drop at s)) e (char_bounded (drop at s)))
 
   pub string_at : Fits (length s) (behind_literal 16 at (string_of (drop at s)))
@@ -89,22 +86,22 @@ module _ (s : List ℕ) (at : ℕ) (h : at ≤ length s) where
   byte_string_places l = literal_fits (length s) at (drop at s) (byte_string_of (drop at s)) rest l (byte_string_bounded (drop at s))
 
 module _ (s : List ℕ) where
-  pub gap_fits : (from : Passed) → Fits (length s) from → Fits (length s) (past_gap s from)
+  pub gap_fits : (from : Told ℕ) → Fits (length s) from → Fits (length s) (past_gap s from)
   unfolding past_gap
-  gap_fits (To at) h = gap_at s at h (gap_of (drop at s)) refl
-  gap_fits (Refused r) h = h
+  gap_fits (Ok at) h = gap_at s at h (gap_of (drop at s)) refl
+  gap_fits (Err r) h = h
 
-  pub char_fits : (from : Passed) → Fits (length s) from → Fits (length s) (past_char s from)
+  pub char_fits : (from : Told ℕ) → Fits (length s) from → Fits (length s) (past_char s from)
   unfolding past_char
-  char_fits (To at) h = char_at s at h (char_of (drop at s)) refl
-  char_fits (Refused r) h = h
+  char_fits (Ok at) h = char_at s at h (char_of (drop at s)) refl
+  char_fits (Err r) h = h
 
-  pub string_fits : (from : Passed) → Fits (length s) from → Fits (length s) (past_string s from)
+  pub string_fits : (from : Told ℕ) → Fits (length s) from → Fits (length s) (past_string s from)
   unfolding past_string
-  string_fits (To at) h = string_at s at h
-  string_fits (Refused r) h = h
+  string_fits (Ok at) h = string_at s at h
+  string_fits (Err r) h = h
 
-  pub byte_string_fits : (from : Passed) → Fits (length s) from → Fits (length s) (past_byte_string s from)
+  pub byte_string_fits : (from : Told ℕ) → Fits (length s) from → Fits (length s) (past_byte_string s from)
   unfolding past_byte_string
-  byte_string_fits (To at) h = byte_string_at s at h
-  byte_string_fits (Refused r) h = h
+  byte_string_fits (Ok at) h = byte_string_at s at h
+  byte_string_fits (Err r) h = h

@@ -1,4 +1,7 @@
 -- Laws of the scan, at an index of the text, as the loop asks for them; and its refusals' places. Assumes nothing.
+use Rattle.std.proofs.Common.{Ok, Err}
+use Rattle.text.specs.Refusals.{Told}
+use Rattle.structs.specs.declared.kinds.StructType.{StructType}
 use Prim.Native.Nat.{◌+◌, ◌-◌, ◌^◌, ◌<◌, ◌≤◌, pred, suc, zero, ℕ}
 use native.Mathlib.Nat.{add-zero, le_of_suc-le-suc, not-suc-le-zero}
 use native.Mathlib.Omega.{arith}
@@ -15,24 +18,20 @@ use Rattle.structs.proofs.StepLaws.{Sized, step_none, step_sized}
 use Rattle.structs.specs.Kinds.{Fitting, placed_kind}
 use Rattle.structs.specs.Passes.{Fits, past_gap}
 use Rattle.structs.specs.Scan.{after_comma, by_step, comma_then, scan_from, scan_of, step_of}
-use Rattle.structs.specs.declared.kinds.StructAnswer.{StructAnswer}
-use Rattle.structs.specs.declared.kinds.StructAnswer.TheVariants as answer
 use Rattle.structs.specs.declared.kinds.StructType.TheVariants as kind
-use Rattle.structs.specs.declared.passes.Passed.{Passed}
-use Rattle.structs.specs.declared.passes.Passed.TheVariants as passed
 use Rattle.structs.specs.declared.steps.Step.{Step}
 use Rattle.structs.specs.declared.steps.Step.TheVariants.{Closing, Comma, Opening, Plain, Refused}
 
 -- ---- one turn
 
 -- what a step comes to, where both ways on and both deciding commas are the same
-same : (t : List ℕ) (x : Step) (b : ℕ) (f g : ℕ → ℕ → StructAnswer) (p q : ℕ → StructAnswer) (at : ℕ) → Sized t x
+same : (t : List ℕ) (x : Step) (b : ℕ) (f g : ℕ → ℕ → Told StructType) (p q : ℕ → Told StructType) (at : ℕ) → Sized t x
     → ((n level : ℕ) → 0 < n → n ≤ length t → f n level ≡ g n level) → ((n : ℕ) → p n ≡ q n) → by_step x b f p at ≡ by_step x b g q at
 same t (Opening n) b f g p q at z on comma = on n (b + 1) z.0 z.1
 same t (Closing n) b f g p q at z on comma =
-    ap (λ (a : StructAnswer). cond (eqb (b - 1) 0) (answer.Kind kind.NewtypeTuple) a) (on n (b - 1) z.0 z.1)
+    ap (λ (a : Told StructType). cond (eqb (b - 1) 0) (Ok kind.NewtypeTuple) a) (on n (b - 1) z.0 z.1)
 same t (Comma n) b f g p q at z on comma =
-    ap (λ (a : StructAnswer). cond (eqb b 1) a (f n b)) (comma n) ∙ ap (cond (eqb b 1) (q n)) (on n b z.0 z.1)
+    ap (λ (a : Told StructType). cond (eqb b 1) a (f n b)) (comma n) ∙ ap (cond (eqb b 1) (q n)) (on n b z.0 z.1)
 same t (Plain n) b f g p q at z on comma = on n b z.0 z.1
 same t (Refused r) b f g p q at z on comma = refl
 
@@ -56,9 +55,9 @@ first : (a : ℕ) (s : List ℕ) (b at : ℕ)
 unfolding scan_from
 first a s b at = refl
 
-ended : (b at : ℕ) → scan_from [] 0 b at ≡ answer.Refused (placed_behind at (eof 0))
+ended : (b at : ℕ) → scan_from [] 0 b at ≡ Err (placed_behind at (eof 0))
 unfolding scan_from
-ended b at = ap (λ (p : ℕ). answer.Refused (refusal 6 p)) (sym (add-zero at))
+ended b at = ap (λ (p : ℕ). Err (refusal 6 p)) (sym (add-zero at))
 
 turn : (t : List ℕ) (x : Step) (b at : ℕ) → step_of t ≡ x
     → scan_from t 0 b at ≡ by_step x b (λ n level. scan_from (drop n t) 0 level (at + n)) (λ n. placed_kind (at + n) (after_comma (drop n t))) at
@@ -80,33 +79,33 @@ scan_at s i b x h =
 
 -- ---- a refusal's place lies within the part
 
-abbrev pub Within : ℕ → StructAnswer → Type 0
-Within m (answer.Kind k) = Unit {0}
-Within m (answer.Refused r) = r.place ≤ m
+abbrev pub Within : ℕ → Told StructType → Type 0
+Within m (Ok k) = Unit {0}
+Within m (Err r) = r.place ≤ m
 
-pub placed_within : (m n place : ℕ) (a : StructAnswer) → Within n a → place + n ≤ m → Within m (placed_kind place a)
-placed_within m n place (answer.Kind k) w h = tt
-placed_within m n place (answer.Refused r) w h = omega arith
+pub placed_within : (m n place : ℕ) (a : Told StructType) → Within n a → place + n ≤ m → Within m (placed_kind place a)
+placed_within m n place (Ok k) w h = tt
+placed_within m n place (Err r) w h = omega arith
 
-pub placed_fits : (n place : ℕ) (a : StructAnswer) → Within n a → place + n < 2 ^ 64 → Fitting place a
-placed_fits n place (answer.Kind k) w h = tt
-placed_fits n place (answer.Refused r) w h = omega arith
+pub placed_fits : (n place : ℕ) (a : Told StructType) → Within n a → place + n < 2 ^ 64 → Fitting place a
+placed_fits n place (Ok k) w h = tt
+placed_fits n place (Err r) w h = omega arith
 
-comma_by : (s : List ℕ) (p : Passed) → Fits (length s) p → Within (length s) (comma_then s p)
-comma_by s (passed.To i) h = tt
-comma_by s (passed.Refused r) h = h
+comma_by : (s : List ℕ) (p : Told ℕ) → Fits (length s) p → Within (length s) (comma_then s p)
+comma_by s (Ok i) h = tt
+comma_by s (Err r) h = h
 
 pub comma_within : (s : List ℕ) → Within (length s) (after_comma s)
 unfolding after_comma
-comma_within s = comma_by s (past_gap s (passed.To 0)) (gap_fits s (passed.To 0) (omega arith))
+comma_within s = comma_by s (past_gap s (Ok 0)) (gap_fits s (Ok 0) (omega arith))
 
 pub comma_fits : (s : List ℕ) (i : ℕ) → i ≤ length s → length s < 2 ^ 64 → Fitting i (after_comma (drop i s))
 comma_fits s i h l = placed_fits (length (drop i s)) i (after_comma (drop i s)) (comma_within (drop i s)) (omega (arith, length-drop i s))
 
-step_ends : (t : List ℕ) (x : Step) (b : ℕ) (on : ℕ → ℕ → StructAnswer) (comma : ℕ → StructAnswer) (at m : ℕ) → Sized t x
+step_ends : (t : List ℕ) (x : Step) (b : ℕ) (on : ℕ → ℕ → Told StructType) (comma : ℕ → Told StructType) (at m : ℕ) → Sized t x
     → ((n level : ℕ) → Within m (on n level)) → ((n : ℕ) → n ≤ length t → Within m (comma n)) → at + length t ≤ m → Within m (by_step x b on comma at)
 step_ends t (Opening n) b on comma at m z f g h = f n (b + 1)
-step_ends t (Closing n) b on comma at m z f g h = cond_cases (Within m) (eqb (b - 1) 0) (answer.Kind kind.NewtypeTuple) (on n (b - 1)) (λ e. tt) (λ e. f n (b - 1))
+step_ends t (Closing n) b on comma at m z f g h = cond_cases (Within m) (eqb (b - 1) 0) (Ok kind.NewtypeTuple) (on n (b - 1)) (λ e. tt) (λ e. f n (b - 1))
 step_ends t (Comma n) b on comma at m z f g h = cond_cases (Within m) (eqb b 1) (comma n) (on n b) (λ e. g n z.1) (λ e. f n b)
 step_ends t (Plain n) b on comma at m z f g h = f n b
 step_ends t (Refused r) b on comma at m z f g h = omega arith

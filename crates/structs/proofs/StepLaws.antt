@@ -1,4 +1,6 @@
 -- Laws of one step of the scan: it takes at least one byte, and no more than the part has. Assumes nothing.
+use Rattle.std.proofs.Common.{Ok, Err}
+use Rattle.text.specs.Refusals.{Told}
 use Prim.Native.Nat.{◌+◌, ◌<◌, ◌≤◌, ℕ}
 use native.Mathlib.Omega.{arith}
 use mathlib.Core.List.{List, [], ◌∷◌}
@@ -15,8 +17,6 @@ use Rattle.strings.specs.Strings.{byte_string_of, string_of}
 use Rattle.structs.proofs.PassLaws.{byte_string_fits, char_fits, gap_fits, string_fits}
 use Rattle.structs.specs.Passes.{Fits, past_byte_string, past_char, past_gap, past_string}
 use Rattle.structs.specs.Scan.{marked_by, past_spurious, step_of, taking}
-use Rattle.structs.specs.declared.passes.Passed.{Passed}
-use Rattle.structs.specs.declared.passes.Passed.TheVariants as passed
 use Rattle.structs.specs.declared.steps.Step.{Step}
 use Rattle.structs.specs.declared.steps.Step.TheVariants.{Closing, Comma, Opening, Plain, Refused}
 
@@ -38,12 +38,12 @@ marked_sized s c n p q =
 pub spurious_fits : (s : List ℕ) → Fits (length s) (past_spurious s)
 unfolding past_spurious
 spurious_fits s =
-    gap_fits s _ (byte_string_fits s _ (string_fits s _ (char_fits s _ (gap_fits s (passed.To 0) (omega arith)))))
+    gap_fits s _ (byte_string_fits s _ (string_fits s _ (char_fits s _ (gap_fits s (Ok 0) (omega arith)))))
 
-taking_sized : (s : List ℕ) (p : Passed) → Fits (length s) p → Sized s (taking s p)
-taking_sized s (passed.To n) h =
+taking_sized : (s : List ℕ) (p : Told ℕ) → Fits (length s) p → Sized s (taking s p)
+taking_sized s (Ok n) h =
     cond_cases (Sized s) (ltb n (length s)) _ _ (λ e. marked_sized s _ (n + 1) (omega arith) (omega (arith, ltb-true n (length s) e))) (λ e. h)
-taking_sized s (passed.Refused r) h = h
+taking_sized s (Err r) h = h
 
 pub step_sized : (s : List ℕ) (x : Step) → step_of s ≡ x → Sized s x
 unfolding step_of

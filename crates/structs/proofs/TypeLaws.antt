@@ -1,4 +1,7 @@
 -- Laws of struct types: a refusal's place lies within the part (`struct-bounded`). Assumes nothing.
+use Rattle.std.proofs.Common.{Ok, Err}
+use Rattle.text.specs.Refusals.{Told}
+use Rattle.structs.specs.declared.kinds.StructType.{StructType}
 use Prim.Native.Nat.{◌+◌, ◌<◌, ◌≤◌, ℕ}
 use native.Mathlib.Omega.{arith}
 use mathlib.Core.List.{List}
@@ -18,11 +21,8 @@ use Rattle.structs.specs.Scan.{after_comma}
 use Rattle.structs.specs.Structs.{after_name, by_name, inside_brackets, decided, inside_newtype, parenthesized, reached, struct_type_of, undecided_of, unless_empty}
 use Rattle.structs.specs.declared.kinds.NewtypeMode.{NewtypeMode}
 use Rattle.structs.specs.declared.kinds.NewtypeMode.TheVariants.{InsideNewtype, NoParensMeanUnit}
-use Rattle.structs.specs.declared.kinds.StructAnswer.{StructAnswer}
 use Rattle.structs.specs.declared.kinds.TupleMode.{TupleMode}
 use Rattle.structs.specs.declared.kinds.TupleMode.TheVariants.{DifferentiateNewtype, ImpreciseTupleOrNewtype}
-use Rattle.structs.specs.declared.passes.Passed.{Passed}
-use Rattle.structs.specs.declared.passes.Passed.TheVariants.{Refused, To}
 
 -- ---- the name at a place
 
@@ -41,9 +41,9 @@ name_at s at x h e = name_by (length s) at (drop at s) x (omega (arith, length-d
 
 -- ---- refusals
 
-reached_within : (m : ℕ) (p : Passed) (on : ℕ → StructAnswer) → Fits m p → ((i : ℕ) → i ≤ m → Within m (on i)) → Within m (reached p on)
-reached_within m (To i) on f h = h i f
-reached_within m (Refused r) on f h = f
+reached_within : (m : ℕ) (p : Told ℕ) (on : ℕ → Told StructType) → Fits m p → ((i : ℕ) → i ≤ m → Within m (on i)) → Within m (reached p on)
+reached_within m (Ok i) on f h = h i f
+reached_within m (Err r) on f h = f
 
 module _ (s : List ℕ) where
   undecided_within : (tuple : TupleMode) (at : ℕ) → at ≤ length s → Within (length s) (undecided_of tuple s at)
@@ -62,7 +62,7 @@ module _ (s : List ℕ) where
   name_within : (tuple : TupleMode) (at : ℕ) → at ≤ length s → Within (length s) (after_name tuple s at)
   unfolding after_name
   name_within tuple at h =
-      reached_within (length s) (past_gap s (To at)) (decided tuple s) (gap_fits s (To at) h) (λ i l. decided_within tuple i l)
+      reached_within (length s) (past_gap s (Ok at)) (decided tuple s) (gap_fits s (Ok at) h) (λ i l. decided_within tuple i l)
 
   by-name : (tuple : TupleMode) (at : ℕ) (x : Identifier) → at ≤ length s → NameFits (length s) at x → Within (length s) (by_name x tuple s at)
   by-name tuple at name.Missing h f = undecided_within tuple at h
@@ -81,7 +81,7 @@ module _ (s : List ℕ) where
   unfolding struct_type_of parenthesized inside_newtype
   struct_bounded NoParensMeanUnit tuple =
       cond_cases (Within (length s)) (eqb (get_or s 0 0) 0x28) _ _
-      (λ e. reached_within (length s) (past_gap s (To 1)) (unless_empty tuple s) (gap_fits s (To 1) (none_here s 0 0x28 (omega arith) e)) (λ i l. unless_within tuple i l))
+      (λ e. reached_within (length s) (past_gap s (Ok 1)) (unless_empty tuple s) (gap_fits s (Ok 1) (none_here s 0 0x28 (omega arith) e)) (λ i l. unless_within tuple i l))
       (λ e. tt)
   struct_bounded InsideNewtype tuple =
-      reached_within (length s) (past_gap s (To 0)) (inside_brackets tuple s) (gap_fits s (To 0) (omega arith)) (λ i l. contents_within tuple i l)
+      reached_within (length s) (past_gap s (Ok 0)) (inside_brackets tuple s) (gap_fits s (Ok 0) (omega arith)) (λ i l. contents_within tuple i l)

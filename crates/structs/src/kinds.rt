@@ -30,20 +30,13 @@ pub enum StructType {
     Unit,
 }
 
-// The type, or why none is told.
-#[derive(Clone, Copy)]
-pub enum StructAnswer {
-    Kind(StructType),
-    Refused(Refusal),
-}
-
 // An answer for a part that begins at a place, seen from the front.
-pub fn placed(answer: StructAnswer, place: usize) -> StructAnswer
+pub fn placed(answer: Result<StructType, Refusal>, place: usize) -> Result<StructType, Refusal>
     requires { Fitting place answer }
     ensures { result ≡ placed_kind place answer }
 {
     match answer {
-        StructAnswer::Kind(kind) => StructAnswer::Kind(kind),
-        StructAnswer::Refused(refusal) => StructAnswer::Refused(placed_behind(refusal, place)),
+        Ok(kind) => Ok(kind),
+        Err(refusal) => Err(placed_behind(refusal, place)),
     }
 }

@@ -8,5 +8,5 @@ mod scan;
 mod steps;
 mod types;
 
-pub use kinds::{NewtypeMode, StructAnswer, StructType, TupleMode, placed};
+pub use kinds::{NewtypeMode, StructType, TupleMode, placed};
 pub use types::check_struct_type;

@@ -2,30 +2,31 @@
 ghost use Rattle.std.specs.Prelude.{◌≡◌, ◌≤◌, length};
 ghost use Rattle.structs.specs.Scan.{after_comma, scan_of};
 
-use crate::kinds::{StructAnswer, StructType, placed};
-use crate::passes::{Passed, skip_ws};
+use crate::kinds::{StructType, placed};
+use crate::passes::skip_ws;
 use crate::steps::{Step, next_step};
+use text::Refusal;
 use text::bytes::peek;
 use text::refusal::placed_behind;
 
 // What stands behind the first comma decides: a one-element tuple could be a newtype.
-pub fn behind_comma(s: &[u8]) -> StructAnswer
+pub fn behind_comma(s: &[u8]) -> Result<StructType, Refusal>
     ensures { result ≡ after_comma s.now }
 {
-    let gap = skip_ws(s, Passed::To(0));
+    let gap = skip_ws(s, Ok(0));
     match gap {
-        Passed::To(i) => {
+        Ok(i) => {
             if peek(s, i) == b')' {
-                return StructAnswer::Kind(StructType::NewtypeTuple);
+                return Ok(StructType::NewtypeTuple);
             }
-            StructAnswer::Kind(StructType::NonNewtypeTuple)
+            Ok(StructType::NonNewtypeTuple)
         }
-        Passed::Refused(refusal) => StructAnswer::Refused(refusal),
+        Err(refusal) => Err(refusal),
     }
 }
 
 // From a place inside one bracket, to the comma or closing bracket that decides.
-pub fn scan_value(s: &[u8], at: usize) -> StructAnswer
+pub fn scan_value(s: &[u8], at: usize) -> Result<StructType, Refusal>
     requires { at ≤ length s.now }
     ensures { result ≡ scan_of s.now at }
 {
@@ -42,7 +43,7 @@ pub fn scan_value(s: &[u8], at: usize) -> StructAnswer
                 braces -= 1;
                 i += n;
                 if braces == 0 {
-                    break StructAnswer::Kind(StructType::NewtypeTuple);
+                    break Ok(StructType::NewtypeTuple);
                 }
             }
             Step::Comma(n) => {
@@ -55,7 +56,7 @@ pub fn scan_value(s: &[u8], at: usize) -> StructAnswer
                 i += n;
             }
             Step::Refused(refusal) => {
-                break StructAnswer::Refused(placed_behind(refusal, i));
+                break Err(placed_behind(refusal, i));
             }
         }
     };

@@ -2,7 +2,7 @@
 ghost use Rattle.std.specs.Prelude.{◌≡◌};
 ghost use Rattle.structs.specs.Scan.{marked_by, past_spurious, step_of};
 
-use crate::passes::{Passed, skip_byte_string, skip_char, skip_string, skip_ws};
+use crate::passes::{skip_byte_string, skip_char, skip_string, skip_ws};
 use text::Refusal;
 
 // The byte that a step ends behind, and how many bytes the step takes.
@@ -44,10 +44,10 @@ fn marked(c: u8, n: usize) -> Step
 }
 
 // Behind comments, chars and strings, whose brackets and commas do not count.
-fn skip_spurious(s: &[u8]) -> Passed
+fn skip_spurious(s: &[u8]) -> Result<usize, Refusal>
     ensures { result ≡ past_spurious s.now }
 {
-    let begun = skip_ws(s, Passed::To(0));
+    let begun = skip_ws(s, Ok(0));
     let char_passed = skip_char(s, begun);
     let string_passed = skip_string(s, char_passed);
     let bytes_passed = skip_byte_string(s, string_passed);
@@ -60,12 +60,12 @@ pub fn next_step(s: &[u8]) -> Step
 {
     let passed = skip_spurious(s);
     match passed {
-        Passed::To(n) => {
+        Ok(n) => {
             if s.len() <= n {
                 return Step::Refused(Refusal::eof(n));
             }
             marked(s[n], n + 1)
         }
-        Passed::Refused(refusal) => Step::Refused(refusal),
+        Err(refusal) => Step::Refused(refusal),
     }
 }

@@ -2,52 +2,53 @@
 ghost use Rattle.std.specs.Prelude.{◌≡◌, ◌≤◌, length};
 ghost use Rattle.structs.specs.Structs.{undecided_of, after_name, inside_brackets, parenthesized, inside_newtype, struct_type_of};
 
-use crate::kinds::{NewtypeMode, StructAnswer, StructType, TupleMode, placed};
-use crate::passes::{Passed, skip_ws};
+use crate::kinds::{NewtypeMode, StructType, TupleMode, placed};
+use crate::passes::skip_ws;
 use crate::scan::{behind_comma, scan_value};
 use cursor::ParserCursor;
 use names::Identifier;
 use names::identifiers::skip_identifier;
+use text::Refusal;
 use text::bytes::peek;
 
 // Neither named nor empty: only a scan over the value tells more.
-fn undecided(s: &[u8], at: usize, tuple: TupleMode) -> StructAnswer
+fn undecided(s: &[u8], at: usize, tuple: TupleMode) -> Result<StructType, Refusal>
     requires { at ≤ length s.now }
     ensures { result ≡ undecided_of tuple s.now at }
 {
     match tuple {
-        TupleMode::ImpreciseTupleOrNewtype => StructAnswer::Kind(StructType::AnyTuple),
+        TupleMode::ImpreciseTupleOrNewtype => Ok(StructType::AnyTuple),
         TupleMode::DifferentiateNewtype => scan_value(s, at),
     }
 }
 
 // A name was passed; the scan would go on behind it.
-fn behind_name(s: &[u8], at: usize, tuple: TupleMode) -> StructAnswer
+fn behind_name(s: &[u8], at: usize, tuple: TupleMode) -> Result<StructType, Refusal>
     requires { at ≤ length s.now }
     ensures { result ≡ after_name tuple s.now at }
 {
-    let gap = skip_ws(s, Passed::To(at));
+    let gap = skip_ws(s, Ok(at));
     match gap {
-        Passed::To(i) => {
+        Ok(i) => {
             let c = peek(s, i);
             if c == b':' {
-                return StructAnswer::Kind(StructType::Named);
+                return Ok(StructType::Named);
             }
             if c == b',' {
                 let next = i + 1;
                 return placed(behind_comma(&s[next..]), next);
             }
             if c == b')' {
-                return StructAnswer::Kind(StructType::NewtypeTuple);
+                return Ok(StructType::NewtypeTuple);
             }
             undecided(s, i, tuple)
         }
-        Passed::Refused(refusal) => StructAnswer::Refused(refusal),
+        Err(refusal) => Err(refusal),
     }
 }
 
 // What stands inside the brackets, from a place behind the whitespace in front.
-fn contents(s: &[u8], at: usize, tuple: TupleMode) -> StructAnswer
+fn contents(s: &[u8], at: usize, tuple: TupleMode) -> Result<StructType, Refusal>
     requires { at ≤ length s.now }
     ensures { result ≡ inside_brackets tuple s.now at }
 {
@@ -60,36 +61,40 @@ fn contents(s: &[u8], at: usize, tuple: TupleMode) -> StructAnswer
 }
 
 // Behind the `(` in front.
-fn in_parens(s: &[u8], cursor: ParserCursor, tuple: TupleMode) -> StructAnswer
+fn in_parens(s: &[u8], cursor: ParserCursor, tuple: TupleMode) -> Result<StructType, Refusal>
     requires { (cursor.cursor ≡ 1) × (1 ≤ length s.now) }
     ensures { result ≡ parenthesized tuple s.now }
 {
     let at = cursor.cursor;
-    let gap = skip_ws(s, Passed::To(at));
+    let gap = skip_ws(s, Ok(at));
     match gap {
-        Passed::To(i) => {
+        Ok(i) => {
             if peek(s, i) == b')' {
-                return StructAnswer::Kind(StructType::EmptyTuple);
+                return Ok(StructType::EmptyTuple);
             }
             contents(s, i, tuple)
         }
-        Passed::Refused(refusal) => StructAnswer::Refused(refusal),
+        Err(refusal) => Err(refusal),
     }
 }
 
 // Inside a bracket that was passed already.
-fn in_newtype(s: &[u8], tuple: TupleMode) -> StructAnswer
+fn in_newtype(s: &[u8], tuple: TupleMode) -> Result<StructType, Refusal>
     ensures { result ≡ inside_newtype tuple s.now }
 {
-    let gap = skip_ws(s, Passed::To(0));
+    let gap = skip_ws(s, Ok(0));
     match gap {
-        Passed::To(i) => contents(s, i, tuple),
-        Passed::Refused(refusal) => StructAnswer::Refused(refusal),
+        Ok(i) => contents(s, i, tuple),
+        Err(refusal) => Err(refusal),
     }
 }
 
 // The type of the struct at the front of a part, in both modes; without a bracket, where one has to stand, a unit struct.
-pub fn check_struct_type(s: &[u8], newtype: NewtypeMode, tuple: TupleMode) -> StructAnswer
+pub fn check_struct_type(
+    s: &[u8],
+    newtype: NewtypeMode,
+    tuple: TupleMode,
+) -> Result<StructType, Refusal>
     ensures { result ≡ struct_type_of s.now newtype tuple }
 {
     match newtype {
@@ -99,7 +104,7 @@ pub fn check_struct_type(s: &[u8], newtype: NewtypeMode, tuple: TupleMode) -> St
                 let behind = opened.cursor;
                 return in_parens(s, behind, tuple);
             }
-            StructAnswer::Kind(StructType::Unit)
+            Ok(StructType::Unit)
         }
         NewtypeMode::InsideNewtype => in_newtype(s, tuple),
     }

@@ -3,7 +3,7 @@
 
 ghost use Rattle.std.specs.Prelude.{◌≡◌};
 ghost use Rattle.lines.specs.Out.{put};
-ghost use Rattle.read.specs.Read.{read_tape, told_read};
+ghost use Rattle.read.specs.Read.{read_tape};
 ghost use Rattle.tape.specs.Printed.{said_text, printed_text};
 
 use lines::input::STDIN_FILENO;
@@ -12,7 +12,7 @@ use sarridok::ReadAnswer;
 
 // What the read answered, over the tape that it left.
 fn said(r: ReadAnswer, tape: &[u32], o: &mut [u8]) -> usize
-    ensures { (o.new, result) ≡ put (o.old, 0) (said_text tape.now (told_read r)) }
+    ensures { (o.new, result) ≡ put (o.old, 0) (said_text tape.now (r)) }
 {
     match r {
         ReadAnswer::Accepted(n) => show::of_read::accepted(o, 0, n, tape, b'\n'),

@@ -1,4 +1,5 @@
 -- What is said of a text that is read into a marked tape. Assumes nothing.
+use Rattle.std.proofs.Common.{Ok}
 use Rattle.std.specs.Prelude.{Option, Some, None}
 use Prim.Native.Nat.{ℕ, ◌+◌, ◌-◌, ◌*◌, ◌<◌, ◌≤◌}
 use native.Mathlib.Omega.{arith}
@@ -15,7 +16,7 @@ use Rattle.read.specs.Read.{read_answer, read_tape}
 use Rattle.rows.specs.Rows.{width}
 use Rattle.show.specs.Answers.{answer_text, bad_text, clean_text}
 use Rattle.show.specs.Readings.{read_text}
-use Rattle.text.specs.Refusals.{Told, accepted}
+use Rattle.text.specs.Refusals.{Told}
 use Rattle.words.specs.Hex.{hex_in, pairs}
 use Rattle.words.specs.Number.{decimal_of}
 use Rattle.words.specs.Said.{by_number, by_hex}
@@ -27,11 +28,11 @@ use Rattle.tapes.specs.Reads.{written_of, tape_after, reads_text, read_in, room_
 
 -- ---- how many numbers a read may change
 
-pub written_some : (n : ℕ) → n ≤ 65536 → width * n ≡ written_of (accepted n)
+pub written_some : (n : ℕ) → n ≤ 65536 → width * n ≡ written_of (Ok n)
 unfolding written_of
 written_some n h = sym (ap (λ (b : Bool). cond b (width * n) 0) (le-leb n 65536 h))
 
-pub written_many : (n : ℕ) → 65536 < n → 0 ≡ written_of (accepted n)
+pub written_many : (n : ℕ) → 65536 < n → 0 ≡ written_of (Ok n)
 unfolding written_of
 written_many n h = sym (ap (λ (b : Bool). cond b (width * n) 0) (lt-leb n 65536 h))
 

@@ -1,4 +1,5 @@
 -- What is said of a tape that is walked into marked links. Assumes nothing.
+use Rattle.std.proofs.Common.{Ok, Err}
 use Rattle.std.specs.Prelude.{Option, Some, None}
 use Prim.Native.Nat.{ℕ, ◌+◌, ◌-◌, ◌<◌, ◌≤◌, min}
 use native.Mathlib.Omega.{arith}
@@ -11,12 +12,10 @@ use Rattle.lines.specs.Out.{put}
 use Rattle.lines.specs.Over.{over}
 use Rattle.lines.proofs.OutLaws.{then}
 use Rattle.read.specs.Read.{read_answer, read_tape}
-use Rattle.sarridok.specs.Walked.{told_walk, walk_of, links_after}
-use Rattle.sarridok.specs.declared.walk_call.WalkAnswer.{WalkAnswer}
-use Rattle.sarridok.specs.declared.walk_call.WalkAnswer.TheVariants as answer
+use Rattle.sarridok.specs.Walked.{walk_of, links_after}
 use Rattle.show.specs.Answers.{bad_text, clean_text, refused_text}
 use Rattle.show.specs.Walks.{links_text}
-use Rattle.text.specs.Refusals.{Told, accepted, refused}
+use Rattle.text.specs.Refusals.{Told}
 use Rattle.text.specs.declared.refusal.Refusal.{Refusal}
 use Rattle.words.specs.Hex.{hex_in, pairs}
 use Rattle.words.specs.Number.{decimal_of}
@@ -47,18 +46,18 @@ module _ (text tape : List ℕ) (q : Asked) (links before left : List ℕ) (m : 
         s ∙ ap (λ (x : Told Unit). put out (walked_text x q.count left)) (t ∙ ap (walk_of text tape q.count q.limit) same)
         ∙ ap (λ (x : List ℕ). put out (walked_text (walk_of text tape q.count q.limit (length links)) q.count x)) links-left
 
-    pub walked_said : (a : WalkAnswer) → told_walk a ≡ walk_of text tape q.count q.limit (length before) → a ≡ answer.Walked → (s : List ℕ) → s ≡ take q.count left
+    pub walked_said : (a : Told Unit) → a ≡ walk_of text tape q.count q.limit (length before) → a ≡ Ok tt → (s : List ℕ) → s ≡ take q.count left
         → mid ≡ put out (links_text s) → clean ≡ kept_from mark_at (drop q.count left) q.count
         → end ≡ put out (walks_text text tape q links)
     walked_said a t g s f p k =
-        by_told (accepted tt) (sym (ap (λ (x : WalkAnswer). told_walk x) g) ∙ t)
+        by_told (Ok tt) (sym (ap (λ (x : Told Unit). x) g) ∙ t)
         (then out mid end (links_text s) (clean_text clean) p z ∙ ap (λ (x : List ℕ). put out (links_text x ++ clean_text clean)) f
         ∙ ap (λ (b : Bool). put out (links_text (take q.count left) ++ clean_text b)) k)
 
-    pub refused_said : (a : WalkAnswer) → told_walk a ≡ walk_of text tape q.count q.limit (length before) → (r : Refusal) → a ≡ answer.Refused r
+    pub refused_said : (a : Told Unit) → a ≡ walk_of text tape q.count q.limit (length before) → (r : Refusal) → a ≡ Err r
         → mid ≡ put out (refused_text r) → clean ≡ kept_from mark_at left 0 → end ≡ put out (walks_text text tape q links)
     refused_said a t r g p k =
-        by_told (refused r) (sym (ap (λ (x : WalkAnswer). told_walk x) g) ∙ t)
+        by_told (Err r) (sym (ap (λ (x : Told Unit). x) g) ∙ t)
         (then out mid end (refused_text r) (clean_text clean) p z ∙ ap (λ (b : Bool). put out (refused_text r ++ clean_text b)) k)
 
 -- ---- the first three words of `W`
@@ -169,10 +168,10 @@ module _ (text tape links : List ℕ) (limit : ℕ) (left : List ℕ) (e : left 
       ap (λ (x : Told ℕ). read_walk x text limit left links) t ∙ ap (λ (x : List ℕ). read_walk (read_answer text (length tape)) text limit x links) e in
       (w.0 ∙ ap (λ (x : List ℕ × List ℕ). put out x.0) same, e, w.1 ∙ ap (λ (x : List ℕ × List ℕ). x.1) same)
 
-  pub accepted_walked : (n : ℕ) → accepted n ≡ read_answer text (length tape) → (q : Asked) → q ≡ asked n limit (min n 65536 + 16)
+  pub accepted_walked : (n : ℕ) → Ok n ≡ read_answer text (length tape) → (q : Asked) → q ≡ asked n limit (min n 65536 + 16)
       → (end ≡ put out (walk_in text left q links).0) × (after ≡ (walk_in text left q links).1) → Walked
   accepted_walked n t q f w =
-      read_walked (accepted n) t
+      read_walked (Ok n) t
       (w.0 ∙ ap (λ (x : Asked). put out (walk_in text left x links).0) f, w.1 ∙ ap (λ (x : Asked). (walk_in text left x links).1) f)
 
 -- ---- `w LIMIT HEX`

@@ -1,4 +1,5 @@
 -- `r HEX` and `R NUMBERS HEX`: a text read into a marked tape.
+use Rattle.std.specs.Prelude.{Ok, Err}
 use Rattle.std.specs.Prelude.{ℕ, ◌+◌, ◌*◌, min, cond, List, ◌++◌, leb, length, take, drop}
 use Rattle.lent.specs.Marks.{mark_at, marked, kept_from}
 use Rattle.lines.specs.Over.{over}
@@ -6,7 +7,7 @@ use Rattle.read.specs.Read.{read_answer, read_tape}
 use Rattle.rows.specs.Rows.{width}
 use Rattle.show.specs.Answers.{answer_text, bad_text, clean_text}
 use Rattle.show.specs.Readings.{read_text}
-use Rattle.text.specs.Refusals.{Told, accepted, refused}
+use Rattle.text.specs.Refusals.{Told}
 use Rattle.words.specs.Hex.{pairs}
 use Rattle.words.specs.Number.{decimal_of}
 use Rattle.words.specs.Said.{by_number, by_bytes}
@@ -14,8 +15,8 @@ use Rattle.words.specs.Split.{first_word, behind_word}
 
 -- How many numbers a read may change.
 unfoldable pub written_of : Told ℕ → ℕ
-written_of (accepted n) = cond (leb n 65536) (width * n) 0
-written_of (refused r) = 0
+written_of (Ok n) = cond (leb n 65536) (width * n) 0
+written_of (Err r) = 0
 
 -- The tape behind a read: marked before it.
 unfoldable pub tape_after : List ℕ → List ℕ → List ℕ

@@ -1,4 +1,5 @@
 -- `w LIMIT HEX` and `W LIMIT LINKS COUNT HEX N,N,..`: a tape walked into marked links, over a text.
+use Rattle.std.specs.Prelude.{Ok, Err}
 use Rattle.std.specs.Prelude.{ℕ, ◌+◌, min, List, ◌++◌, length, take, drop, Option, Some, None}
 use Rattle.lent.specs.Marks.{mark_at, marked, kept_from}
 use Rattle.lines.specs.Over.{over}
@@ -6,7 +7,7 @@ use Rattle.read.specs.Read.{read_answer, read_tape}
 use Rattle.sarridok.specs.Walked.{walk_of, links_after}
 use Rattle.show.specs.Answers.{bad_text, clean_text, refused_text}
 use Rattle.show.specs.Walks.{links_text}
-use Rattle.text.specs.Refusals.{Told, accepted, refused}
+use Rattle.text.specs.Refusals.{Told}
 use Rattle.words.specs.Hex.{pairs}
 use Rattle.words.specs.Number.{decimal_of}
 use Rattle.words.specs.Numbers.{numbers_of}
@@ -24,8 +25,8 @@ links_left text tape q links = links_after text tape q.count q.limit (marked mar
 
 -- A refused walk may change no link, an accepted one none behind the count.
 abbrev pub walked_text : Told Unit → ℕ → List ℕ → List ℕ
-walked_text (accepted u) count left = links_text (take count left) ++ clean_text (kept_from mark_at (drop count left) count)
-walked_text (refused r) count left = refused_text r ++ clean_text (kept_from mark_at left 0)
+walked_text (Ok u) count left = links_text (take count left) ++ clean_text (kept_from mark_at (drop count left) count)
+walked_text (Err r) count left = refused_text r ++ clean_text (kept_from mark_at left 0)
 
 -- The answer, and whether the walk left all marks that it may not change.
 unfoldable pub walks_text : List ℕ → List ℕ → Asked → List ℕ → List ℕ
@@ -39,8 +40,8 @@ walk_in text tape q links =
 
 -- The walk of a text that was read, into as many links as there are entries and a few behind them; the links afterwards.
 abbrev pub read_walk : Told ℕ → List ℕ → ℕ → List ℕ → List ℕ → List ℕ × List ℕ
-read_walk (accepted n) text limit tape links = walk_in text tape (asked n limit (min n 65536 + 16)) links
-read_walk (refused r) text limit tape links = (refused_text r, links)
+read_walk (Ok n) text limit tape links = walk_in text tape (asked n limit (min n 65536 + 16)) links
+read_walk (Err r) text limit tape links = (refused_text r, links)
 
 -- A text read into a tape, which is then walked: what is said, and the links afterwards.
 unfoldable pub walk_of_text : List ℕ → ℕ → List ℕ → List ℕ → List ℕ × List ℕ

@@ -1,7 +1,6 @@
 // A text read into a marked tape.
 ghost use Rattle.std.specs.Prelude.{◌≡◌};
 ghost use Rattle.lines.specs.Out.{put};
-ghost use Rattle.read.specs.Read.{told_read};
 ghost use Rattle.tapes.specs.Reads.{written_of, tape_after, reads_text, read_in};
 
 use lent::numbers;
@@ -10,7 +9,7 @@ use sarridok::ReadAnswer;
 
 // How many numbers an accepted read may change.
 fn written(r: ReadAnswer) -> usize
-    ensures { result ≡ written_of (told_read r) }
+    ensures { result ≡ written_of (r) }
 {
     match r {
         ReadAnswer::Accepted(n) => {

@@ -4,7 +4,6 @@ ghost use Rattle.lines.specs.Out.{put};
 ghost use Rattle.tapes.specs.Walks.{links_left, walks_text, walk_in};
 
 use lent::numbers;
-use sarridok::WalkAnswer;
 use words::list;
 
 // A walk that a line asks for: how many entries, how deep, into how many links.
@@ -23,11 +22,11 @@ fn walked(text: &[u8], tape: &[u32], q: Asked, links: &mut [u32], o: &mut [u8], 
     numbers::mark(links);
     let answer = sarridok::walk(text, tape, q.count, q.limit, links);
     match answer {
-        WalkAnswer::Walked => {
+        Ok(()) => {
             let a = show::of_walk::links(o, at, list::first(&links[..], q.count));
             show::clean(o, a, numbers::kept(&links[..], q.count))
         }
-        WalkAnswer::Refused(r) => {
+        Err(r) => {
             let a = show::refused(o, at, r);
             show::clean(o, a, numbers::kept(&links[..], 0))
         }

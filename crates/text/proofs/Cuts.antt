@@ -1,4 +1,6 @@
 -- A text from a place that is inside no character: UTF-8 again. Assumes nothing.
+use Rattle.std.proofs.Common.{Ok, Some, None, Option}
+use Rattle.text.specs.Refusals.{Told}
 use Prim.Native.Nat.{ℕ, zero, suc}
 use native.Mathlib.Omega.{arith}
 use mathlib.Core.Path.{◌≡◌, ◌∙◌, refl, subst, sym}
@@ -12,10 +14,6 @@ use Rattle.text.specs.Utf8.{Char, Encoded, In, Text, utf8_of}
 use Rattle.text.specs.Utf8.Char.{utf8_1, utf8_2, utf8_3a, utf8_3b, utf8_3c, utf8_3d, utf8_4a, utf8_4b, utf8_4c}
 use Rattle.text.specs.Utf8.Text.{none, more}
 use Rattle.text.specs.Judged.{by_utf8, judged_of, place_fits}
-use Rattle.text.specs.declared.judge.Judged.{Judged}
-use Rattle.text.specs.declared.judge.Judged.TheVariants.{Fit}
-use Rattle.text.specs.declared.utf8.Utf8Answer.{Utf8Answer}
-use Rattle.text.specs.declared.utf8.Utf8Answer.TheVariants.{Good, BadAt}
 use Rattle.text.proofs.Choices.{and_true, cond_cases}
 use Rattle.text.proofs.ClassLaws.{inside}
 use Rattle.text.proofs.Utf8Agree.{good_text, text_encoded}
@@ -68,20 +66,20 @@ text_cut : {s : List ℕ} → Text s → (p : ℕ) → within 0x80 0xBF (get_or 
 text_cut none p x = subst Text (sym (drop-nil p)) none
 text_cut (more {l} {s} ch t) p x = char_cut ch s (λ p x. text_cut t p x) (more ch t) p x
 
-judged_good : (text : List ℕ) → judged_of text ≡ Fit → utf8_of text ≡ Good
+judged_good : (text : List ℕ) → judged_of text ≡ Ok tt → utf8_of text ≡ None
 unfolding judged_of
-judged_good text = cond_cases (λ (j : Judged). j ≡ Fit → utf8_of text ≡ Good) (ltb 65536 (length text)) _ _ (λ a e. let z : ◌≡◌ {A = ℕ} 0 1 = cc in absurd (omega arith)) (λ a. by (utf8_of text))
+judged_good text = cond_cases (λ (j : Told Unit). j ≡ Ok tt → utf8_of text ≡ None) (ltb 65536 (length text)) _ _ (λ a e. let z : ◌≡◌ {A = ℕ} 0 1 = cc in absurd (omega arith)) (λ a. by (utf8_of text))
   where
-    by : (u : Utf8Answer) → by_utf8 u ≡ Fit → u ≡ Good
-    by Good e = refl
-    by (BadAt p) e = let z : ◌≡◌ {A = ℕ} 0 1 = cc in absurd (omega arith)
+    by : (u : Option ℕ) → by_utf8 u ≡ Ok tt → u ≡ None
+    by None e = refl
+    by (Some p) e = let z : ◌≡◌ {A = ℕ} 0 1 = cc in absurd (omega arith)
 
 not_true_off : (t : Bool) → not t ≡ true → t ≡ false
 not_true_off true e = let z : ◌≡◌ {A = ℕ} 0 1 = cc in absurd (omega arith)
 not_true_off false e = refl
 
 -- the part of a judged text from a place that fits is UTF-8
-pub part_encoded : (text : List ℕ) (p : ℕ) → judged_of text ≡ Fit → place_fits text p ≡ true → Encoded (drop p text)
+pub part_encoded : (text : List ℕ) (p : ℕ) → judged_of text ≡ Ok tt → place_fits text p ≡ true → Encoded (drop p text)
 unfolding place_fits
 part_encoded text p j f =
     text_encoded (text_cut (good_text text (judged_good text j)) p (not_true_off _ (and_true (leb p (length text)) (not (within 0x80 0xBF (get_or text p 0))) f).1))

@@ -4,6 +4,7 @@
 --     head-view, char_len-char       a width that is not 0 is that of a character of the grammar, and every such character has its width
 --     char-encode, char-scalar      the characters of the grammar are exactly the encodings of scalar values
 -- Assumes nothing.
+use Rattle.std.proofs.Common.{Some, None}
 use Prim.Native.Nat.{ℕ, zero, suc, ◌+◌, ◌*◌, ◌/◌, ◌%◌, ◌≤◌, ◌<◌, ◌-◌}
 use native.Mathlib.Omega.{arith}
 use mathlib.Core.Bool.{Bool, true}
@@ -25,7 +26,6 @@ use Rattle.text.specs.Utf8.{second_byte, behind_three, behind_four, width_of, ch
 use Rattle.text.specs.Utf8.Char.{utf8_1, utf8_2, utf8_3a, utf8_3b, utf8_3c, utf8_3d, utf8_4a, utf8_4b, utf8_4c}
 use Rattle.text.specs.Utf8.Encoded.{ends, next}
 use Rattle.text.specs.Utf8.Text.{none, more}
-use Rattle.text.specs.declared.utf8.Utf8Answer.TheVariants.{Good, BadAt}
 
 -- ---- the decision is sound
 
@@ -296,8 +296,8 @@ encoded_text (next c sc e) = more (char_encode c sc) (encoded_text e)
 
 -- s is a text, and the answer is Good; or it is one up to a place k, where no character stands, and the answer is that place
 pub data Verdict (at : ℕ) (s : List ℕ) : Type 0 where
-  good : Text s → utf8_from 0 at s ≡ Good → Verdict at s
-  bad : (k : ℕ) → k < length s → Text (take k s) → char_len (drop k s) ≡ 0 → utf8_from 0 at s ≡ BadAt (at + k) → Verdict at s
+  good : Text s → utf8_from 0 at s ≡ None → Verdict at s
+  bad : (k : ℕ) → k < length s → Text (take k s) → char_len (drop k s) ≡ 0 → utf8_from 0 at s ≡ Some (at + k) → Verdict at s
 
 -- the verdict on t, behind a character l
 behind : (at n : ℕ) (l t : List ℕ) → Char l → length l ≡ suc n → Verdict (at + suc n) t → Verdict at (l ++ t)
@@ -307,7 +307,7 @@ behind at n l t ch e (good x a) = good (more ch x) (first ∙ a)
     first = utf8_step at (l ++ t) n (char_len_char l t ch ∙ e) ∙ ap (utf8_from 0 (at + suc n)) (drop_at l t (suc n) e)
 behind at n l t ch e (bad k h x z a) =
     bad (length l + k) (omega (arith, length-append l t)) (rw take-append-add (more ch x)) (rw drop-append-add z)
-    (first ∙ a ∙ ap BadAt (omega arith))
+    (first ∙ a ∙ ap Some (omega arith))
   where
     first : utf8_from 0 at (l ++ t) ≡ utf8_from 0 (at + suc n) t
     first = utf8_step at (l ++ t) n (char_len_char l t ch ∙ e) ∙ ap (utf8_from 0 (at + suc n)) (drop_at l t (suc n) e)
@@ -319,7 +319,7 @@ verdict_fuel (suc f) at [] h = good none (utf8_end at [] refl)
 verdict_fuel (suc f) at (b ∷ s) h = go (char_len (b ∷ s)) refl (head_view (b ∷ s)) (λ at' t l. verdict_fuel f at' t l)
   where
     go : (n : ℕ) → char_len (b ∷ s) ≡ n → Head (b ∷ s) n → ((at' : ℕ) (t : List ℕ) → length t ≤ f → Verdict at' t) → Verdict at (b ∷ s)
-    go n e no_char rec = bad 0 (omega arith) none e (utf8_bad at (b ∷ s) (omega arith) e ∙ ap BadAt (omega arith))
+    go n e no_char rec = bad 0 (omega arith) none e (utf8_bad at (b ∷ s) (omega arith) e ∙ ap Some (omega arith))
     go n e (a_char {l} t {n = m} ch e2 q) rec =
         subst (Verdict at) (sym q) (behind at m l t ch e2 (rec (at + suc m) t (omega (arith, length-append l t, ap length q))))
 
@@ -327,7 +327,7 @@ pub verdict : (s : List ℕ) → Verdict 0 s
 verdict s = verdict_fuel (length s) 0 s (omega arith)
 
 -- the checker says Good of exactly the texts
-pub good_text : (s : List ℕ) → utf8_of s ≡ Good → Text s
+pub good_text : (s : List ℕ) → utf8_of s ≡ None → Text s
 unfolding utf8_of
 good_text s e = go (verdict s)
   where
@@ -362,16 +362,16 @@ text_passed (more {l} {s = t} ch x) at u = go (length l) refl (λ at'. text_pass
 
 -- ---- what the two answers mean, by the encoding alone
 
-pub good_encoded : (s : List ℕ) → utf8_of s ≡ Good → Encoded s
+pub good_encoded : (s : List ℕ) → utf8_of s ≡ None → Encoded s
 good_encoded s e = text_encoded (good_text s e)
 
-pub encoded_good : (s : List ℕ) → Encoded s → utf8_of s ≡ Good
+pub encoded_good : (s : List ℕ) → Encoded s → utf8_of s ≡ None
 unfolding utf8_of
 encoded_good s e =
     ap (utf8_from 0 0) (sym (append-nil s)) ∙ text_passed (encoded_text e) 0 [] ∙ utf8_end (0 + length s) [] refl
 
 -- up to p the text is encodings of scalar values, and at p stands no encoding of one
-pub bad_means : (s : List ℕ) (p : ℕ) → utf8_of s ≡ BadAt p → (p < length s) × Encoded (take p s) × ((c : ℕ) (t : List ℕ) → Scalar c → drop p s ≡ encode c ++ t → ⊥)
+pub bad_means : (s : List ℕ) (p : ℕ) → utf8_of s ≡ Some p → (p < length s) × Encoded (take p s) × ((c : ℕ) (t : List ℕ) → Scalar c → drop p s ≡ encode c ++ t → ⊥)
 unfolding utf8_of
 bad_means s p e = go (verdict s)
   where
@@ -387,7 +387,7 @@ bad_means s p e = go (verdict s)
         )
 
 -- and the other way round: such a place is the answer
-pub means_bad : (s : List ℕ) (p : ℕ) → p < length s → Encoded (take p s) → ((c : ℕ) (t : List ℕ) → Scalar c → drop p s ≡ encode c ++ t → ⊥) → utf8_of s ≡ BadAt p
+pub means_bad : (s : List ℕ) (p : ℕ) → p < length s → Encoded (take p s) → ((c : ℕ) (t : List ℕ) → Scalar c → drop p s ≡ encode c ++ t → ⊥) → utf8_of s ≡ Some p
 unfolding utf8_of
 means_bad s p h x none_here =
     ap (utf8_from 0 0) (sym (take-append-drop p s))

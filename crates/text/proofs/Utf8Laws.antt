@@ -1,4 +1,5 @@
 -- Laws of the definitions of specs/Utf8.antt: what a reader of bytes goes by. Assumes nothing.
+use Rattle.std.proofs.Common.{Some, None}
 use Prim.Native.Nat.{ℕ, zero, suc, ◌+◌, ◌≤◌, ◌<◌}
 use native.Mathlib.Nat.{add-zero, not-suc-le-zero}
 use native.Mathlib.Omega.{arith}
@@ -9,7 +10,6 @@ use lib.ListN.{length, get_or, drop, length-drop}
 use lib.Seq.{drop-drop}
 use lib.Dec.{ltb, leb, eqb}
 use borrow.Author.Tests.{ltb-true, leb-true, eqb-true, eqb-false, le-leb}
-use Rattle.text.specs.declared.utf8.Utf8Answer.TheVariants.{Good, BadAt}
 use Rattle.text.specs.Classes.{within}
 use Rattle.text.specs.Utf8.{tail_byte, second_byte, behind_three, behind_four, width_of, char_len, by_width, utf8_from, In, Tail}
 use Rattle.text.specs.Runs.{run, ascii}
@@ -105,12 +105,12 @@ utf8_step at (b ∷ s) n e =
     ap (by_width at (λ (m : ℕ). utf8_from m (suc at) s)) e ∙ utf8_skip n (suc at) s ∙ ap (λ (m : ℕ). utf8_from 0 m (drop n s)) (omega arith)
 
 -- and where there is none, that is the answer
-pub utf8_bad : (at : ℕ) (s : List ℕ) → 0 < length s → char_len s ≡ 0 → utf8_from 0 at s ≡ BadAt at
+pub utf8_bad : (at : ℕ) (s : List ℕ) → 0 < length s → char_len s ≡ 0 → utf8_from 0 at s ≡ Some at
 unfolding utf8_from
 utf8_bad at [] h e = absurd (not-suc-le-zero h)
 utf8_bad at (b ∷ s) h e = ap (by_width at (λ (m : ℕ). utf8_from m (suc at) s)) e
 
-pub utf8_end : (at : ℕ) (s : List ℕ) → length s ≡ 0 → utf8_from 0 at s ≡ Good
+pub utf8_end : (at : ℕ) (s : List ℕ) → length s ≡ 0 → utf8_from 0 at s ≡ None
 unfolding utf8_from
 utf8_end at [] h = refl
 utf8_end at (b ∷ s) h = absurd (omega arith)
@@ -121,10 +121,10 @@ pub utf8_next : (at n : ℕ) (s : List ℕ) → char_len (drop at s) ≡ n → 0
 utf8_next at zero s e h = absurd (omega arith)
 utf8_next at (suc n) s e h = utf8_step at (drop at s) n e ∙ ap (utf8_from 0 (at + suc n)) (drop-drop (suc n) at s)
 
-pub utf8_stop : (at : ℕ) (s : List ℕ) → at < length s → char_len (drop at s) ≡ 0 → utf8_from 0 at (drop at s) ≡ BadAt at
+pub utf8_stop : (at : ℕ) (s : List ℕ) → at < length s → char_len (drop at s) ≡ 0 → utf8_from 0 at (drop at s) ≡ Some at
 utf8_stop at s h e = utf8_bad at (drop at s) (omega (arith, length-drop at s)) e
 
-pub utf8_done : (at : ℕ) (s : List ℕ) → length s ≤ at → utf8_from 0 at (drop at s) ≡ Good
+pub utf8_done : (at : ℕ) (s : List ℕ) → length s ≤ at → utf8_from 0 at (drop at s) ≡ None
 utf8_done at s h = utf8_end at (drop at s) (omega (arith, length-drop at s))
 
 -- ---- a run of ASCII is passed over

@@ -1,15 +1,14 @@
 -- The refusals of document 01, "Refusal numbers": "What is unfit gets a numbered refusal with a place." A place inside a part is counted from its front.
 -- CR 1: "The escape reader answers a reason, 1 to 8 in that order .. a refusal now includes its reason, 0 for every other number."
-use Rattle.std.specs.Prelude.{ℕ, ◌+◌}
+use Rattle.std.specs.Prelude.{ℕ, ◌+◌, Result}
 use Rattle.text.specs.declared.reason.EscapeReason.{EscapeReason}
 use Rattle.text.specs.declared.reason.EscapeReason.TheVariants.{DigitNotHex, UnknownLetter, NotByteEscaped, MissingOpenBrace}
 use Rattle.text.specs.declared.reason.EscapeReason.TheVariants.{NoDigits, NoClosingBrace, NotACharacter, UnicodeInByteLiteral}
 use Rattle.text.specs.declared.refusal.Refusal.{Refusal}
 
 -- What a call answers, as the paper has it: a value, or a refusal.
-pub data Told (A : Type 0) : Type 0 where
-  accepted : A → Told A
-  refused : Refusal → Told A
+abbrev pub Told : Type 0 → Type 0
+Told A = Result A Refusal
 
 -- The number of a reason, in the order of CR 1.
 abbrev pub reason_of : EscapeReason → ℕ

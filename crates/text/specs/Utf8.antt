@@ -1,8 +1,7 @@
 -- UTF-8 as RFC 3629 has it. Document 01: refusal 2, "not UTF-8", stands at "the first byte of the first bad sequence".
 -- A reader has to believe only `Scalar`, `encode` and `Encoded`: that the grammar and the decision below agree with them is proved in proofs/Utf8Agree.antt.
+use Rattle.std.specs.Prelude.{Some, None, Option}
 use Rattle.std.specs.Prelude.{ℕ, zero, suc, ◌+◌, ◌*◌, ◌/◌, ◌%◌, ◌≤◌, ◌<◌, List, [], ◌∷◌, ◌++◌, Bool, true, cond, ◌&&◌, ◌≡◌, ◌⊎◌, length, get_or, drop, ltb, leb, eqb}
-use Rattle.text.specs.declared.utf8.Utf8Answer.{Utf8Answer}
-use Rattle.text.specs.declared.utf8.Utf8Answer.TheVariants.{Good, BadAt}
 use Rattle.text.specs.declared.utf8.EncodeAnswer.{EncodeAnswer}
 use Rattle.text.specs.declared.utf8.EncodeAnswer.TheVariants.{Wrote, NotScalar, NoRoom}
 use Rattle.text.specs.Classes.{within}
@@ -89,18 +88,18 @@ char_len [] = 0
 char_len (a ∷ s) = width_of a (get_or s 0 0) (get_or s 1 0) (get_or s 2 0)
 
 -- The answer at a place, by the width of the character there: a bad sequence, or what the rest says.
-abbrev pub by_width : ℕ → (ℕ → Utf8Answer) → ℕ → Utf8Answer
-by_width at rest zero = BadAt at
+abbrev pub by_width : ℕ → (ℕ → Option ℕ) → ℕ → Option ℕ
+by_width at rest zero = Some at
 by_width at rest (suc n) = rest n
 
 -- What the text is from the place `at` on, behind k bytes of a character that was judged already.
-unfoldable pub utf8_from : ℕ → ℕ → List ℕ → Utf8Answer
-utf8_from k at [] = Good
+unfoldable pub utf8_from : ℕ → ℕ → List ℕ → Option ℕ
+utf8_from k at [] = None
 utf8_from (suc k) at (b ∷ s) = utf8_from k (suc at) s
 utf8_from zero at (b ∷ s) = by_width at (λ n. utf8_from n (suc at) s) (char_len (b ∷ s))
 
 -- What a whole text is: UTF-8, or not, with the place of the first bad sequence.
-unfoldable pub utf8_of : List ℕ → Utf8Answer
+unfoldable pub utf8_of : List ℕ → Option ℕ
 utf8_of s = utf8_from 0 0 s
 
 -- ---- decoding

@@ -6,26 +6,18 @@ use crate::bytes::peek;
 use crate::classes::is_within;
 use crate::refusal::Refusal;
 use crate::utf8;
-use crate::utf8::Utf8Answer;
-
-// A text that may be read, or its refusal.
-#[derive(Clone, Copy)]
-pub enum Judged {
-    Fit,
-    Refused(Refusal),
-}
 
 // 1 for a text over 65,536 bytes, 2 for one that is not UTF-8.
-pub fn judge(text: &[u8]) -> Judged
+pub fn judge(text: &[u8]) -> Result<(), Refusal>
     ensures { result ≡ judged_of text.now }
 {
     if 65536 < text.len() {
-        return Judged::Refused(Refusal::too_long());
+        return Err(Refusal::too_long());
     }
     let utf8 = utf8::first_bad(text);
     match utf8 {
-        Utf8Answer::Good => Judged::Fit,
-        Utf8Answer::BadAt(p) => Judged::Refused(Refusal::not_utf8(p)),
+        None => Ok(()),
+        Some(p) => Err(Refusal::not_utf8(p)),
     }
 }
 

@@ -8,13 +8,6 @@ use crate::ascii;
 use crate::bytes::peek;
 use crate::classes::is_within;
 
-// What a whole text is: UTF-8, or not, with the place of the first bad sequence.
-#[derive(Clone, Copy)]
-pub enum Utf8Answer {
-    Good,
-    BadAt(usize),
-}
-
 // What encoding comes to.
 #[derive(Clone, Copy)]
 pub enum EncodeAnswer {
@@ -104,18 +97,18 @@ pub fn char_len(s: &[u8]) -> usize
 }
 
 // The place of the first byte of the first bad sequence; runs of ASCII are passed eight bytes at a time.
-pub fn first_bad(s: &[u8]) -> Utf8Answer
+pub fn first_bad(s: &[u8]) -> Option<usize>
     ensures { result ≡ utf8_of s.now }
 {
     let mut at = ascii::run8(s, 0);
     while at < s.len() {
         let n = char_len(&s[at..]);
         if n == 0 {
-            return Utf8Answer::BadAt(at);
+            return Some(at);
         }
         at = ascii::run8(s, at + n);
     }
-    Utf8Answer::Good
+    None
 }
 
 // The code point of a character's four bytes.

@@ -1,4 +1,7 @@
 -- An attribute that is read begins with `#` and ends with its `]`. Assumes nothing.
+use Rattle.std.proofs.Common.{Ok, Err}
+use Rattle.text.specs.Refusals.{Told}
+use Rattle.strings.specs.declared.literal.Literal.{Literal}
 use Prim.Native.Nat.{ℕ, zero, suc, ◌+◌, ◌≤◌}
 use native.Mathlib.Omega.{arith}
 use mathlib.Core.Bool.{Bool, true}
@@ -16,33 +19,21 @@ use Rattle.attributes.specs.Close.{answer_at, by_bracket, by_string, close_list,
 use Rattle.attributes.specs.List.{list_of}
 use Rattle.attributes.specs.Steps.{consume_from, sign_from, skip_from}
 use Rattle.attributes.specs.Words.{keyword_at}
-use Rattle.attributes.specs.declared.AttributeAnswer.{AttributeAnswer}
-use Rattle.attributes.specs.declared.AttributeAnswer.TheVariants.{Read, Refused}
-use Rattle.attributes.specs.declared.list.Listed.{Listed}
-use Rattle.attributes.specs.declared.list.Listed.TheVariants as listed
-use Rattle.attributes.specs.declared.steps.All.{All}
-use Rattle.attributes.specs.declared.steps.All.TheVariants.{At}
-use Rattle.attributes.specs.declared.steps.All.TheVariants as consumed
-use Rattle.attributes.specs.declared.steps.Step.{Step}
-use Rattle.attributes.specs.declared.steps.Step.TheVariants.{On}
-use Rattle.attributes.specs.declared.steps.Step.TheVariants as step
 use Rattle.attributes.specs.declared.words.Keyword.{Keyword}
 use Rattle.attributes.specs.declared.words.Keyword.TheVariants.{Enable, Text, NoKeyword}
 use Rattle.strings.specs.Strings.{string_of}
-use Rattle.strings.specs.declared.literal.LiteralAnswer.{LiteralAnswer}
-use Rattle.strings.specs.declared.literal.LiteralAnswer.TheVariants as literal
 use Rattle.tiled.specs.Forms.{Form}
 use Rattle.tiled.specs.Forms.Form.{attribute}
 
 module _ (s : List ℕ) where
   -- the last byte of what was read is `]`
-  abbrev Ended : AttributeAnswer → Type 0
-  Ended (Read n sum) = (p : ℕ) × (n ≡ p + 1) × (get_or s p 0 ≡ 0x5d)
-  Ended (Refused r) = Unit {0}
+  abbrev Ended : Told (ℕ × ℕ) → Type 0
+  Ended (Ok (n, sum)) = (p : ℕ) × (n ≡ p + 1) × (get_or s p 0 ≡ 0x5d)
+  Ended (Err r) = Unit {0}
 
-  after_step : (r : Step) (go : ℕ → AttributeAnswer) → ((p : ℕ) → Ended (go p)) → Ended (answer_at r go)
-  after_step (On p) go f = f p
-  after_step (step.Refused r) go f = tt
+  after_step : (r : Told ℕ) (go : ℕ → Told (ℕ × ℕ)) → ((p : ℕ) → Ended (go p)) → Ended (answer_at r go)
+  after_step (Ok p) go f = f p
+  after_step (Err r) go f = tt
 
   no-end : (at : ℕ) → Ended (no_end s at)
   unfolding no_end
@@ -52,28 +43,28 @@ module _ (s : List ℕ) where
   unfolding list_end
   list-end all at sum =
       cond_cases Ended (eqb (get_or s at 0) 0x5d) _ _
-      (λ e. cond_cases Ended all (Read (at + 1) sum) (no_end s (at + 1)) (λ a. (at, refl, eqb-true (get_or s at 0) 0x5d e)) (λ a. no-end (at + 1)))
+      (λ e. cond_cases Ended all (Ok (at + 1, sum)) (no_end s (at + 1)) (λ a. (at, refl, eqb-true (get_or s at 0) 0x5d e)) (λ a. no-end (at + 1)))
       (λ e. tt)
 
-  by-bracket : (sum : ℕ) (r : All) → Ended (by_bracket s sum r)
-  by-bracket sum (At all at) = list-end all at sum
-  by-bracket sum (consumed.Refused r) = tt
+  by-bracket : (sum : ℕ) (r : Told (Bool × ℕ)) → Ended (by_bracket s sum r)
+  by-bracket sum (Ok (all, at)) = list-end all at sum
+  by-bracket sum (Err r) = tt
 
   close-list : (at sum : ℕ) → Ended (close_list s at sum)
   unfolding close_list
   close-list at sum = by-bracket sum (consume_from 0x29 s true at)
 
-  by-listed : (r : Listed) → Ended (by_listed s r)
-  by-listed (listed.Ended at sum) = close-list at sum
-  by-listed (listed.Refused r) = tt
+  by-listed : (r : Told (ℕ × ℕ)) → Ended (by_listed s r)
+  by-listed (Ok (at, sum)) = close-list at sum
+  by-listed (Err r) = tt
 
   string-end : (at : ℕ) → Ended (string_end s at)
   unfolding string_end
   string-end at = after_step (skip_from s at) _ (λ p. list-end true p 0)
 
-  by-string : (at : ℕ) (a : LiteralAnswer) → Ended (by_string s at a)
-  by-string at (literal.Read l) = string-end (at + l.len)
-  by-string at (literal.Refused r) = tt
+  by-string : (at : ℕ) (a : Told Literal) → Ended (by_string s at a)
+  by-string at (Ok l) = string-end (at + l.len)
+  by-string at (Err r) = tt
 
   string-from : (at : ℕ) → Ended (string_from s at)
   unfolding string_from
@@ -85,10 +76,10 @@ module _ (s : List ℕ) where
   by-keyword (Text at) = after_step (sign_from 0x3d s at) _ string-from
   by-keyword NoKeyword = tt
 
-  by-opened : (r : All) → Ended (by_opened s r)
+  by-opened : (r : Told (Bool × ℕ)) → Ended (by_opened s r)
   unfolding keyword_from
-  by-opened (At all at) = cond_cases Ended all _ (Refused (expected_attribute 0)) (λ e. by-keyword (keyword_at s at)) (λ e. tt)
-  by-opened (consumed.Refused r) = tt
+  by-opened (Ok (all, at)) = cond_cases Ended all _ (Err (expected_attribute 0)) (λ e. by-keyword (keyword_at s at)) (λ e. tt)
+  by-opened (Err r) = tt
 
   attribute_ended : Ended (attribute_of s)
   unfolding attribute_of
@@ -104,14 +95,14 @@ attribute_form (a ∷ t) n (suc q) x h e c l =
     let m : n ≡ suc (suc q) = omega arith in
     subst (λ (k : ℕ). Form 16 x (a ∷ t) (drop k (a ∷ t))) (sym m) (subst (λ (y : List ℕ). Form 16 x y (drop (suc q) t)) (sym whole) (attribute (take q t)))
 
-abbrev pub AttributeSays : List ℕ → AttributeAnswer → Type 0
-AttributeSays s (Read n sum) = Form 16 sum s (drop n s)
-AttributeSays s (Refused r) = Unit {0}
+abbrev pub AttributeSays : List ℕ → Told (ℕ × ℕ) → Type 0
+AttributeSays s (Ok (n, sum)) = Form 16 sum s (drop n s)
+AttributeSays s (Err r) = Unit {0}
 
 -- an attribute that is read has its form
 pub attribute_says : (s : List ℕ) → get_or s 0 0 ≡ 0x23 → AttributeSays s (attribute_of s)
 attribute_says s h = go (attribute_of s) (attribute_ended s) (attribute_bounded s)
   where
-    go : (a : AttributeAnswer) → Ended s a → Bounded-attribute s a → AttributeSays s a
-    go (Read n sum) (p, e, c) b = attribute_form s n p sum h e c b.1
-    go (Refused r) e b = tt
+    go : (a : Told (ℕ × ℕ)) → Ended s a → Bounded-attribute s a → AttributeSays s a
+    go (Ok (n, sum)) (p, e, c) b = attribute_form s n p sum h e c b.1
+    go (Err r) e b = tt

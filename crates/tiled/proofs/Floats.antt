@@ -1,4 +1,7 @@
 -- A float that is read has the form of a float. Assumes nothing.
+use Rattle.std.proofs.Common.{Ok, Err}
+use Rattle.text.specs.Refusals.{Told}
+use Rattle.floats.specs.declared.float.FloatSpan.{FloatSpan}
 use Prim.Native.Nat.{ℕ, ◌+◌}
 use native.Mathlib.Omega.{arith}
 use mathlib.Core.Bool.{true, false}
@@ -16,8 +19,6 @@ use Rattle.floats.specs.Float.{behind_float, float_of, float_suffixes, run_at, s
 use Rattle.floats.specs.Grammar.{Float, accepts}
 use Rattle.floats.specs.Grammar.Signable.{signed}
 use Rattle.floats.specs.Judged.{float_judged, stripped, well_to}
-use Rattle.floats.specs.declared.float.AnyFloat.{AnyFloat}
-use Rattle.floats.specs.declared.float.AnyFloat.TheVariants.{Read, Refused}
 use Rattle.floats.specs.declared.judge.Judged.{Judged}
 use Rattle.floats.specs.declared.judge.Judged.TheVariants.{Misplaced, Fine, Unfit}
 use Rattle.floats.specs.declared.state.State.TheVariants.{Start}
@@ -50,9 +51,9 @@ special_stands t h =
 pub float_form : (d n : ℕ) (s w : List ℕ) → s ≡ w ++ drop n s → FloatForm d w → Form 12 d s (drop n s)
 float_form d n s w e f = subst (λ (x : List ℕ). Form 12 d x (drop n s)) (sym e) (float f)
 
-abbrev pub FloatSays : List ℕ → AnyFloat → Type 0
-FloatSays s (Read f) = Form 12 f.suffix s (drop f.len s)
-FloatSays s (Refused r) = Unit {0}
+abbrev pub FloatSays : List ℕ → Told FloatSpan → Type 0
+FloatSays s (Ok f) = Form 12 f.suffix s (drop f.len s)
+FloatSays s (Err r) = Unit {0}
 
 fine_float : (part : List ℕ) → float_judged part ≡ Fine → Float (stripped part)
 unfolding float_judged

@@ -1,4 +1,7 @@
 -- An integer that is read has the form of an integer of its width: its suffix's, or without one the first that fits. Assumes nothing.
+use Rattle.std.proofs.Common.{Ok, Err}
+use Rattle.text.specs.Refusals.{Told}
+use Rattle.floats.specs.declared.float.FloatSpan.{FloatSpan}
 use Prim.Native.Nat.{ℕ}
 use native.Mathlib.Omega.{arith}
 use mathlib.Core.Bool.{Bool}
@@ -15,17 +18,11 @@ use Rattle.digits.proofs.Exact.{digits_exact}
 use Rattle.digits.specs.Digits.{run_of}
 use Rattle.digits.specs.declared.Run.TheVariants.{Value}
 use Rattle.floats.specs.Float.{float_of}
-use Rattle.floats.specs.declared.float.AnyFloat.{AnyFloat}
-use Rattle.floats.specs.declared.float.AnyFloat.TheVariants as float
 use Rattle.integers.proofs.Fronts.{front_base}
 use Rattle.integers.proofs.Runs.{digits_run}
 use Rattle.integers.specs.Front.{front_of}
 use Rattle.integers.specs.Integer.{any_as, any_of, chosen_of, numeral_of, width_for}
 use Rattle.integers.specs.Width.{code_of, first_fit, limit_at, widest}
-use Rattle.integers.specs.declared.integer.AnyInteger.{AnyInteger}
-use Rattle.integers.specs.declared.integer.AnyInteger.TheVariants as any
-use Rattle.integers.specs.declared.integer.Numeral.{Numeral}
-use Rattle.integers.specs.declared.integer.Numeral.TheVariants as numeral
 use Rattle.integers.specs.declared.width.Width.{Width}
 use Rattle.numbers.specs.Numbers.{float_ahead, number_of, of_float, or_else, or_float}
 use Rattle.numbers.specs.declared.Number.{Number}
@@ -48,16 +45,16 @@ width-for code v minus w own h =
 
 module _ (s : List ℕ) (w : Width) (len : ℕ) where
   -- what was read of a numeral
-  by_numeral : (minus : Bool) (at : ℕ) (n : Numeral) → any_as minus at n ≡ any.Read w len → (v : ℕ) × (code : ℕ) × (to : ℕ) × (n ≡ numeral.Read v code to) × (width_for code minus v ≡ w)
-  by_numeral minus at (numeral.Read v code to) h = (v, code, to, refl, cc)
-  by_numeral minus at (numeral.Refused r) h = let z : ◌≡◌ {A = ℕ} 0 1 = cc in absurd (omega arith)
+  by_numeral : (minus : Bool) (at : ℕ) (n : Told (ℕ × ℕ × ℕ)) → any_as minus at n ≡ Ok (w, len) → (v : ℕ) × (code : ℕ) × (to : ℕ) × (n ≡ Ok (v, code, to)) × (width_for code minus v ≡ w)
+  by_numeral minus at (Ok (v, code, to)) h = (v, code, to, refl, cc)
+  by_numeral minus at (Err r) h = let z : ◌≡◌ {A = ℕ} 0 1 = cc in absurd (omega arith)
 
-  behind_end : any_of s ≡ any.Read w len
-      → any_as (front_of s).minus (front_of s).end (numeral_of (widest (front_of s).minus) (front_of s).minus (front_of s).base (unprefixed s)) ≡ any.Read w len
+  behind_end : any_of s ≡ Ok (w, len)
+      → any_as (front_of s).minus (front_of s).end (numeral_of (widest (front_of s).minus) (front_of s).minus (front_of s).base (unprefixed s)) ≡ Ok (w, len)
   unfolding any_of
   behind_end h =
       either (bool_cases (eqb (length s) 0))
-      (λ p. let q : any.Refused (eof 0) ≡ any.Read w len = rw p at h in let z : ◌≡◌ {A = ℕ} 0 1 = cc in absurd (omega arith))
+      (λ p. let q : ◌≡◌ {A = Told (Width × ℕ)} (Err (eof 0)) (Ok (w, len)) = rw p at h in let z : ◌≡◌ {A = ℕ} 0 1 = cc in absurd (omega arith))
       (λ p. rw p at h)
 
   -- the digits say the magnitude
@@ -66,7 +63,7 @@ module _ (s : List ℕ) (w : Width) (len : ℕ) where
       let base : ℕ = (front_of s).base in
       ((digits_exact limit base (digits_in s) v (front_base s).0).0 (digits_run limit base (digits_in s) x.digits.begun.0 x.digits.begun.1 ∙ e)).value
 
-  any_width : IsWritten w s → any_of s ≡ any.Read w len → WidthOf w s
+  any_width : IsWritten w s → any_of s ≡ Ok (w, len) → WidthOf w s
   any_width x h =
       let minus : Bool = (front_of s).minus in
       let base : ℕ = (front_of s).base in
@@ -78,7 +75,7 @@ module _ (s : List ℕ) (w : Width) (len : ℕ) where
       width-for found (magnitude_in s) minus w x.suffix is
 
   -- an integer that is read has its form
-  pub any_form : any_of s ≡ any.Read w len → Form 11 (code_of w) s (drop len s)
+  pub any_form : any_of s ≡ Ok (w, len) → Form 11 (code_of w) s (drop len s)
   any_form h =
       let x = any_written s w len h in
       subst (λ (n : ℕ). Form 11 (code_of w) s (drop n s)) (sym x.1) (integer x.0 (any_width x.0 h))
@@ -90,17 +87,17 @@ NumberSays s (number.Int w n) = Form 11 (code_of w) s (drop n s)
 NumberSays s (number.Float f) = Form 12 f.suffix s (drop f.len s)
 NumberSays s (number.Refused r) = Unit {0}
 
-of-float : (s : List ℕ) (f : AnyFloat) → FloatSays s f → NumberSays s (of_float f)
-of-float s (float.Read f) h = h
-of-float s (float.Refused r) h = tt
+of-float : (s : List ℕ) (f : Told FloatSpan) → FloatSays s f → NumberSays s (of_float f)
+of-float s (Ok f) h = h
+of-float s (Err r) h = tt
 
-or-float : (s : List ℕ) (r : Refusal) (f : AnyFloat) → FloatSays s f → NumberSays s (or_float r f)
-or-float s r (float.Read f) h = cond_cases (NumberSays s) (leb r.place f.len) (number.Float f) (number.Refused r) (λ e. h) (λ e. tt)
-or-float s r (float.Refused q) h = tt
+or-float : (s : List ℕ) (r : Refusal) (f : Told FloatSpan) → FloatSays s f → NumberSays s (or_float r f)
+or-float s r (Ok f) h = cond_cases (NumberSays s) (leb r.place f.len) (number.Float f) (number.Refused r) (λ e. h) (λ e. tt)
+or-float s r (Err q) h = tt
 
-or-else : (s : List ℕ) (a : AnyInteger) (f : AnyFloat) → any_of s ≡ a → FloatSays s f → NumberSays s (or_else a f)
-or-else s (any.Read w n) f e h = any_form s w n e
-or-else s (any.Refused r) f e h = or-float s r f h
+or-else : (s : List ℕ) (a : Told (Width × ℕ)) (f : Told FloatSpan) → any_of s ≡ a → FloatSays s f → NumberSays s (or_else a f)
+or-else s (Ok (w, n)) f e h = any_form s w n e
+or-else s (Err r) f e h = or-float s r f h
 
 -- a number that is read has its form
 pub number_says : (s : List ℕ) → NumberSays s (number_of s)

@@ -1,4 +1,5 @@
 -- The raw names of entries that tile a text are `r#` with more behind it, so that `walk` never answers 23 of them (document 02, CR 2). Assumes nothing.
+use Rattle.std.proofs.Common.{Ok}
 use Prim.Native.Nat.{ℕ, ◌+◌, ◌-◌, ◌<◌, ◌≤◌}
 use native.Mathlib.Omega.{arith}
 use mathlib.Core.Bool.{Bool, true, cond, ◌&&◌}
@@ -13,7 +14,6 @@ use Rattle.rows.specs.Rows.{entries_of}
 use Rattle.rows.specs.declared.Entry.{Entry}
 use Rattle.names.specs.Names.{IsRawName}
 use Rattle.read.specs.Read.{read_answer, read_tape}
-use Rattle.text.specs.Refusals.{accepted}
 use Rattle.fields.specs.Names.{raw_fits, raws_fit}
 use Rattle.tiled.specs.Forms.{Form, Mark, round, round_end, square, square_end, curly, curly_end, comma, colon, mark, name, raw_name, integer, byte, float, char, string, byte_string, attribute}
 use Rattle.tiled.specs.Tiles.{Tile, Tiles, ends, tile}
@@ -82,5 +82,5 @@ unfolding raws_fit
 tiles_raws text at [] (ends g) = refl
 tiles_raws text at (e ∷ es) (tile t ts) = rw (tile_raw text at e t) (tiles_raws text e.end es ts)
 
-pub read_raws : (text tape : List ℕ) (n : ℕ) → read_answer text (length tape) ≡ accepted n → raws_fit text (entries_of n (read_tape text tape)) ≡ true
+pub read_raws : (text tape : List ℕ) (n : ℕ) → read_answer text (length tape) ≡ Ok n → raws_fit text (entries_of n (read_tape text tape)) ≡ true
 read_raws text tape n h = tiles_raws text 0 (entries_of n (read_tape text tape)) (read_tiles text tape n h)

@@ -1,4 +1,7 @@
 -- The entries of an accepted read and the gaps between them tile the text, and each entry's bytes have the form of its kind and detail. Assumes nothing.
+use Rattle.std.proofs.Common.{Ok, Err}
+use Rattle.text.specs.Refusals.{Told}
+use Rattle.tokens.specs.declared.lexeme.Lexeme.{Lexeme}
 use Prim.Native.Nat.{ℕ, ◌+◌}
 use native.Mathlib.Omega.{arith}
 use mathlib.Core.List.{List, [], ◌∷◌}
@@ -6,7 +9,7 @@ use mathlib.Core.Logic.{inl, inr}
 use mathlib.Core.Path.{◌≡◌, ap, refl, subst, sym, ◌∙◌}
 use lib.ListN.{drop, drop_of_length-le, length, length-drop}
 use Rattle.text.proofs.Choices.{either, lt_or_le}
-use Rattle.text.specs.Refusals.{accepted, placed_behind}
+use Rattle.text.specs.Refusals.{placed_behind}
 use Rattle.comments.specs.Gaps.{gap_of}
 use Rattle.comments.specs.declared.gap.Gap.{Gap as Answered}
 use Rattle.comments.specs.declared.gap.Gap.TheVariants as gap
@@ -20,8 +23,6 @@ use Rattle.tokens.proofs.RonLaws.{gap_token, laws, token_is}
 use Rattle.tokens.specs.Lexemes.{lexeme_of}
 use Rattle.tokens.specs.Ron.{lexeme_behind, by_gap, ron_token}
 use Rattle.tokens.specs.Token.{token_of}
-use Rattle.tokens.specs.declared.lexeme.LexemeAnswer.{LexemeAnswer}
-use Rattle.tokens.specs.declared.lexeme.LexemeAnswer.TheVariants as lexeme-answer
 use Rattle.read.specs.Read.{read_answer, read_tape}
 use Rattle.mending.proofs.Again.{after_read}
 use Rattle.gapped.proofs.Exactly.{clear_exactly, line_exactly}
@@ -34,9 +35,9 @@ use Rattle.tiled.proofs.TokenForms.{Says, token_says}
 -- ---- the end
 
 -- where no token is left nothing but a gap is
-no_lexeme : (g : ℕ) (a : LexemeAnswer) {X : Type 0} → lexeme_behind g a ≡ stop → X
-no_lexeme g (lexeme-answer.Read l) h = let z : ◌≡◌ {A = ℕ} 0 1 = cc in absurd (omega arith)
-no_lexeme g (lexeme-answer.Refused r) h = let z : ◌≡◌ {A = ℕ} 0 1 = cc in absurd (omega arith)
+no_lexeme : (g : ℕ) (a : Told Lexeme) {X : Type 0} → lexeme_behind g a ≡ stop → X
+no_lexeme g (Ok l) h = let z : ◌≡◌ {A = ℕ} 0 1 = cc in absurd (omega arith)
+no_lexeme g (Err r) h = let z : ◌≡◌ {A = ℕ} 0 1 = cc in absurd (omega arith)
 
 by-gap : (s : List ℕ) (a : Answered) → gap_of s ≡ a → by_gap s a ≡ stop → LastGap s
 by-gap s (gap.Clear g) e h =
@@ -97,5 +98,5 @@ reading_tiles (e ∷ es) text at h =
     tile (subst (Tile text at) is (token_tile text at f.this f.answer)) (subst (λ (x : Entry). Tiles text x.end es) is (reading_tiles es text n rest))
 
 -- the entries of an accepted read and the gaps between them tile the text
-pub read_tiles : (text tape : List ℕ) (n : ℕ) → read_answer text (length tape) ≡ accepted n → Tiles text 0 (entries_of n (read_tape text tape))
+pub read_tiles : (text tape : List ℕ) (n : ℕ) → read_answer text (length tape) ≡ Ok n → Tiles text 0 (entries_of n (read_tape text tape))
 read_tiles text tape n h = reading_tiles (entries_of n (read_tape text tape)) text 0 (after_read text tape n h).holds

@@ -1,4 +1,8 @@
 -- The bytes of a token that is read have the form of its kind and detail. Assumes nothing.
+use Rattle.std.proofs.Common.{Ok, Err}
+use Rattle.text.specs.Refusals.{Told}
+use Rattle.strings.specs.declared.literal.Literal.{Literal}
+use Rattle.tokens.specs.declared.lexeme.Lexeme.{Lexeme}
 use Prim.Native.Nat.{ℕ}
 use native.Mathlib.Omega.{arith}
 use mathlib.Core.Bool.{true}
@@ -9,8 +13,6 @@ use lib.ListN.{drop, get_or}
 use borrow.Author.Tests.{eqb-true, ltb-true}
 use Rattle.text.proofs.Choices.{cond_cases}
 use Rattle.attributes.specs.Attributes.{attribute_of}
-use Rattle.attributes.specs.declared.AttributeAnswer.TheVariants as attribute-answer
-use Rattle.attributes.specs.declared.AttributeAnswer.{AttributeAnswer}
 use Rattle.names.specs.Classify.{word_of}
 use Rattle.names.specs.declared.Word.TheVariants as word
 use Rattle.names.specs.declared.Word.{Word}
@@ -20,18 +22,10 @@ use Rattle.numbers.specs.declared.Number.{Number}
 use Rattle.strings.proofs.Bounds.{Bounded-string, byte_string_bounded, string_bounded}
 use Rattle.strings.specs.Chars.{byte_of, char_of}
 use Rattle.strings.specs.Strings.{byte_string_decoded, byte_string_of, string_decoded, string_of}
-use Rattle.strings.specs.declared.chars.ByteAnswer.TheVariants as byte-answer
-use Rattle.strings.specs.declared.chars.ByteAnswer.{ByteAnswer}
-use Rattle.strings.specs.declared.chars.CharAnswer.TheVariants as char-answer
-use Rattle.strings.specs.declared.chars.CharAnswer.{CharAnswer}
-use Rattle.strings.specs.declared.literal.LiteralAnswer.TheVariants as literal
-use Rattle.strings.specs.declared.literal.LiteralAnswer.{LiteralAnswer}
 use Rattle.tokens.proofs.ShapeLaws.{shape_at}
 use Rattle.tokens.specs.Lexemes.{lexeme_of, number_lexeme}
 use Rattle.tokens.specs.Shapes.{behind_b, behind_r, mark_kind, shape_of, starts_number}
 use Rattle.tokens.specs.Token.{by_shape, of_attribute, of_byte, of_byte_string, of_char, of_string, of_word, token_of}
-use Rattle.tokens.specs.declared.lexeme.LexemeAnswer.TheVariants.{Read, Refused}
-use Rattle.tokens.specs.declared.lexeme.LexemeAnswer.{LexemeAnswer}
 use Rattle.tokens.specs.declared.shape.Shape.TheVariants as shape
 use Rattle.tokens.specs.declared.shape.Shape.{Shape}
 use Rattle.quoted.proofs.Exactly.{byte_exactly, byte_string_exactly, byte_string_length, char_exactly, string_exactly, string_length}
@@ -100,9 +94,9 @@ shape_begins a b c =
 -- ---- by the kind of a token
 
 -- a lexeme at the front of s has its form
-abbrev pub Says : List ℕ → LexemeAnswer → Type 0
-Says s (Read l) = Form l.kind l.detail s (drop l.len s)
-Says s (Refused r) = Unit {0}
+abbrev pub Says : List ℕ → Told Lexeme → Type 0
+Says s (Ok l) = Form l.kind l.detail s (drop l.len s)
+Says s (Err r) = Unit {0}
 
 -- past the end stands no mark
 no_mark : {a k : ℕ} → Mark a k → a ≡ 0 → ⊥
@@ -119,9 +113,9 @@ of_mark : (s : List ℕ) (k : ℕ) → Mark (get_or s 0 0) k → Form k 0 s (dro
 of_mark [] k m = absurd (no_mark m refl)
 of_mark (a ∷ t) k m = mark m
 
-of-attribute : (s : List ℕ) (a : AttributeAnswer) → AttributeSays s a → Says s (lexeme_of (of_attribute a))
-of-attribute s (attribute-answer.Read n x) h = h
-of-attribute s (attribute-answer.Refused r) h = tt
+of-attribute : (s : List ℕ) (a : Told (ℕ × ℕ)) → AttributeSays s a → Says s (lexeme_of (of_attribute a))
+of-attribute s (Ok (n, x)) h = h
+of-attribute s (Err r) h = tt
 
 of_number : (s : List ℕ) (a : Number) → NumberSays s a → Says s (number_lexeme a)
 of_number s (number.Int w n) h = h
@@ -134,23 +128,23 @@ of-word s (word.Raw n) h = h
 of-word s (word.Float n d) h = h
 of-word s (word.Refused r) h = tt
 
-of-string : (s : List ℕ) (a : LiteralAnswer) → string_of s ≡ a → Bounded-string s a → Says s (lexeme_of (of_string a))
-of-string s (literal.Read l) e b =
+of-string : (s : List ℕ) (a : Told Literal) → string_of s ≡ a → Bounded-string s a → Says s (lexeme_of (of_string a))
+of-string s (Ok l) e b =
     subst (λ (n : ℕ). Form 14 n s (drop l.len s)) (string_length s l e) (string ((string_exactly s (string_decoded s) (drop l.len s)).1 (l, e, refl, refl, b.1)))
-of-string s (literal.Refused r) e b = tt
+of-string s (Err r) e b = tt
 
-of-byte-string : (s : List ℕ) (a : LiteralAnswer) → byte_string_of s ≡ a → Bounded-string s a → Says s (lexeme_of (of_byte_string a))
-of-byte-string s (literal.Read l) e b =
+of-byte-string : (s : List ℕ) (a : Told Literal) → byte_string_of s ≡ a → Bounded-string s a → Says s (lexeme_of (of_byte_string a))
+of-byte-string s (Ok l) e b =
     subst (λ (n : ℕ). Form 15 n s (drop l.len s)) (byte_string_length s l e) (byte_string ((byte_string_exactly s (byte_string_decoded s) (drop l.len s)).1 (l, e, refl, refl, b.1)))
-of-byte-string s (literal.Refused r) e b = tt
+of-byte-string s (Err r) e b = tt
 
-of-char : (s : List ℕ) (a : CharAnswer) → char_of s ≡ a → Says s (lexeme_of (of_char a))
-of-char s (char-answer.Read n c) e = char ((char_exactly s n c).0 e).1
-of-char s (char-answer.Refused r) e = tt
+of-char : (s : List ℕ) (a : Told (ℕ × ℕ)) → char_of s ≡ a → Says s (lexeme_of (of_char a))
+of-char s (Ok (n, c)) e = char ((char_exactly s n c).0 e).1
+of-char s (Err r) e = tt
 
-of-byte : (s : List ℕ) (a : ByteAnswer) → byte_of s ≡ a → Says s (lexeme_of (of_byte a))
-of-byte s (byte-answer.Read n b) e = byte ((byte_exactly s n b).0 e).1
-of-byte s (byte-answer.Refused r) e = tt
+of-byte : (s : List ℕ) (a : Told (ℕ × ℕ)) → byte_of s ≡ a → Says s (lexeme_of (of_byte a))
+of-byte s (Ok (n, b)) e = byte ((byte_exactly s n b).0 e).1
+of-byte s (Err r) e = tt
 
 by-shape : (k : Shape) (s : List ℕ) → Begins (get_or s 0 0) k → Says s (lexeme_of (by_shape k s))
 by-shape (shape.Mark kind) s m = of_mark s kind m

@@ -1,4 +1,6 @@
 -- The token reader of RON meets what the theory of readings asks of it. Assumes nothing.
+use Rattle.std.proofs.Common.{Ok, Err}
+use Rattle.text.specs.Refusals.{Told}
 use Prim.Native.Nat.{ℕ, ◌+◌, ◌-◌, ◌<◌, ◌≤◌}
 use native.Mathlib.Omega.{arith}
 use mathlib.Core.Bool.{Bool, true}
@@ -27,13 +29,11 @@ use Rattle.tokens.specs.Lexemes.{lexeme, lexeme_of}
 use Rattle.tokens.specs.Ron.{lexeme_behind, by_gap, ron_token}
 use Rattle.tokens.specs.Token.{token_of}
 use Rattle.tokens.specs.declared.lexeme.Lexeme.{Lexeme}
-use Rattle.tokens.specs.declared.lexeme.LexemeAnswer.{LexemeAnswer}
-use Rattle.tokens.specs.declared.lexeme.LexemeAnswer.TheVariants as lexemeAnswer
 use Rattle.tokens.specs.declared.token.Token.{Token}
 
 -- ---- what the code found
 
-pub behind_said : (s : List ℕ) (g : ℕ) (t : Token) (l l' : LexemeAnswer) → t ≡ token_of (take (length s - g) (drop g s)) → l ≡ lexeme_of t → l ≡ l' → lexeme_of (token_of (drop g s)) ≡ l'
+pub behind_said : (s : List ℕ) (g : ℕ) (t : Token) (l l' : Told Lexeme) → t ≡ token_of (take (length s - g) (drop g s)) → l ≡ lexeme_of t → l ≡ l' → lexeme_of (token_of (drop g s)) ≡ l'
 behind_said s g t l l' et el e = ap lexeme_of (ap token_of (sym (tail_part s g)) ∙ sym et) ∙ sym el ∙ e
 
 pub gap_token : (s : List ℕ) (g : ℕ) → g < length s → by_gap s (gap.Clear g) ≡ lexeme_behind g (lexeme_of (token_of (drop g s)))
@@ -51,18 +51,18 @@ pub record At (s : List ℕ) (t : Answered) : Type 0 where
   pub lexeme_is : lexeme_of (token_of (drop t.gap s)) ≡ lexeme t.len t.kind t.detail
 
 same_token : (g : ℕ) (l : Lexeme) (t : Answered) → token (record { gap = g; len = l.len; kind = l.kind; detail = l.detail }) ≡ token t
-    → (g ≡ t.gap) × (lexemeAnswer.Read l ≡ lexeme t.len t.kind t.detail)
+    → (g ≡ t.gap) × (Ok l ≡ lexeme t.len t.kind t.detail)
 same_token g l t h = let e : record { gap = g; len = l.len; kind = l.kind; detail = l.detail } ≡ t = cc in (ap (λ (x : Answered). x.gap) e, ap (λ (x : Answered). lexeme x.len x.kind x.detail) e)
 
-at_lexeme : (s : List ℕ) (g : ℕ) (t : Answered) (a : LexemeAnswer) → gap_of s ≡ gap.Clear g → g < length s → lexeme_of (token_of (drop g s)) ≡ a → lexeme_behind g a ≡ token t → At s t
-at_lexeme s g t (lexemeAnswer.Read l) eg i el h =
+at_lexeme : (s : List ℕ) (g : ℕ) (t : Answered) (a : Told Lexeme) → gap_of s ≡ gap.Clear g → g < length s → lexeme_of (token_of (drop g s)) ≡ a → lexeme_behind g a ≡ token t → At s t
+at_lexeme s g t (Ok l) eg i el h =
     let q = same_token g l t h in
     record {
       gap_is = eg ∙ ap gap.Clear q.0;
       inside = omega (arith, q.0);
       lexeme_is = ap (λ (n : ℕ). lexeme_of (token_of (drop n s))) (sym q.0) ∙ el ∙ q.1;
     }
-at_lexeme s g t (lexemeAnswer.Refused r) eg i el h = let z : ◌≡◌ {A = ℕ} 0 1 = cc in absurd (omega arith)
+at_lexeme s g t (Err r) eg i el h = let z : ◌≡◌ {A = ℕ} 0 1 = cc in absurd (omega arith)
 
 at_gap : (s : List ℕ) (t : Answered) (a : Gap) → gap_of s ≡ a → by_gap s a ≡ token t → At s t
 at_gap s t (gap.Clear g) e h =
@@ -113,9 +113,9 @@ module _ (s : List ℕ) (t : Answered) (h : ron_token s ≡ token t) where
       }
 
 -- the place of a refusal
-by-lexeme : (s : List ℕ) (g : ℕ) (r : Refusal) (a : LexemeAnswer) → g < length s → Lexed (length (drop g s)) a → lexeme_behind g a ≡ refuse r → r.place ≤ length s
-by-lexeme s g r (lexemeAnswer.Read l) i b h = let z : ◌≡◌ {A = ℕ} 0 1 = cc in absurd (omega arith)
-by-lexeme s g r (lexemeAnswer.Refused q) i b h =
+by-lexeme : (s : List ℕ) (g : ℕ) (r : Refusal) (a : Told Lexeme) → g < length s → Lexed (length (drop g s)) a → lexeme_behind g a ≡ refuse r → r.place ≤ length s
+by-lexeme s g r (Ok l) i b h = let z : ◌≡◌ {A = ℕ} 0 1 = cc in absurd (omega arith)
+by-lexeme s g r (Err q) i b h =
     let e : placed_behind g q ≡ r = cc in
     subst (λ (x : Refusal). x.place ≤ length s) e (omega (arith, b, length-drop g s))
 
@@ -131,7 +131,7 @@ pub refused_within : (s : List ℕ) (r : Refusal) → ron_token s ≡ refuse r �
 unfolding ron_token
 refused_within s r h = by-gap s r (gap_of s) (gap_bounded s) h
 
-fits : (n : ℕ) (a : LexemeAnswer) (len kind detail : ℕ) → a ≡ lexeme len kind detail → len ≤ n → Fits n a
+fits : (n : ℕ) (a : Told Lexeme) (len kind detail : ℕ) → a ≡ lexeme len kind detail → len ≤ n → Fits n a
 fits n a len kind detail e h = subst (Fits n) (sym e) h
 
 ron_window : (u v v' : List ℕ) (c : ℕ) (t : Answered) → quiet_byte c ≡ true → ron_token (u ++ c ∷ v) ≡ token t → reach t ≤ length u → ron_token (u ++ c ∷ v') ≡ token t

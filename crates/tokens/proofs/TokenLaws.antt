@@ -1,4 +1,8 @@
 -- Tokens lie within their part, and a quiet byte stops them. Assumes nothing.
+use Rattle.std.proofs.Common.{Ok, Err}
+use Rattle.text.specs.Refusals.{Told}
+use Rattle.strings.specs.declared.literal.Literal.{Literal}
+use Rattle.tokens.specs.declared.lexeme.Lexeme.{Lexeme}
 use Prim.Native.Nat.{ℕ, ◌+◌, ◌<◌, ◌≤◌}
 use native.Mathlib.Omega.{arith}
 use mathlib.Core.Bool.{Bool, true}
@@ -7,8 +11,6 @@ use mathlib.Core.Path.{◌≡◌, ap, refl, sym, subst, ◌∙◌}
 use lib.ListN.{get_or, length}
 use Rattle.attributes.proofs.AttributeLaws.{Bounded-attribute, Within-attribute, attribute_bounded, attribute_closed}
 use Rattle.attributes.specs.Attributes.{attribute_of}
-use Rattle.attributes.specs.declared.AttributeAnswer.{AttributeAnswer}
-use Rattle.attributes.specs.declared.AttributeAnswer.TheVariants as attribute
 use Rattle.integers.proofs.IntegerStops.{outside, told_outside}
 use Rattle.integers.specs.Width.{code_of}
 use Rattle.integers.specs.declared.width.Width.{Width}
@@ -28,20 +30,12 @@ use Rattle.strings.proofs.Bounds.{Bounded-string, Bounded-char, Bounded-byte, st
 use Rattle.strings.proofs.Closes.{Within-string, Within-char, Within-byte, string_closed, byte_string_closed, char_closed, byte_closed}
 use Rattle.strings.specs.Chars.{char_of, byte_of}
 use Rattle.strings.specs.Strings.{string_of, byte_string_of}
-use Rattle.strings.specs.declared.chars.CharAnswer.{CharAnswer}
-use Rattle.strings.specs.declared.chars.CharAnswer.TheVariants as char
-use Rattle.strings.specs.declared.chars.ByteAnswer.{ByteAnswer}
-use Rattle.strings.specs.declared.chars.ByteAnswer.TheVariants as byte
-use Rattle.strings.specs.declared.literal.LiteralAnswer.{LiteralAnswer}
-use Rattle.strings.specs.declared.literal.LiteralAnswer.TheVariants as literal
 use Rattle.text.proofs.Stops.{Stopped}
 use Rattle.text.specs.Classes.{digit, ascii_next, ascii_raw, letter, within}
 use Rattle.tokens.proofs.ShapeLaws.{Marked, shape_marked, shape_at, shape_same}
 use Rattle.tokens.specs.Lexemes.{lexeme_of, number_lexeme}
 use Rattle.tokens.specs.Token.{of_word, of_char, of_byte, of_string, of_byte_string, of_attribute, by_shape, token_of}
 use Rattle.tokens.specs.declared.token.Token.TheVariants as token
-use Rattle.tokens.specs.declared.lexeme.LexemeAnswer.{LexemeAnswer}
-use Rattle.tokens.specs.declared.lexeme.LexemeAnswer.TheVariants.{Read, Refused}
 use Rattle.tokens.specs.declared.shape.Shape.{Shape}
 use Rattle.tokens.specs.declared.shape.Shape.TheVariants as shape
 use Rattle.numbers.specs.declared.Number.{Number}
@@ -49,9 +43,9 @@ use Rattle.numbers.specs.declared.Number.{Number}
 -- ---- bounds
 
 -- a lexeme has a byte and no more than n, a kind of the paper, and a detail that the tape can hold; a refusal's place lies within the n bytes
-abbrev pub Lexed : ℕ → LexemeAnswer → Type 0
-Lexed n (Read l) = (0 < l.len) × (l.len ≤ n) × (1 ≤ l.kind) × (l.kind ≤ 16) × (l.detail < n + 0x110000)
-Lexed n (Refused r) = r.place ≤ n
+abbrev pub Lexed : ℕ → Told Lexeme → Type 0
+Lexed n (Ok l) = (0 < l.len) × (l.len ≤ n) × (1 ≤ l.kind) × (l.kind ≤ 16) × (l.detail < n + 0x110000)
+Lexed n (Err r) = r.place ≤ n
 
 width_le : (w : Width) → code_of w ≤ 8
 width_le I8 = omega arith
@@ -74,25 +68,25 @@ of-word s (word.Raw n) b = (b.0, b.1, omega arith, omega arith, omega arith)
 of-word s (word.Float n suffix) b = (b.0, b.1, omega arith, omega arith, omega (arith, b.2))
 of-word s (word.Refused r) b = b
 
-of-char : (s : List ℕ) (a : CharAnswer) → Bounded-char s a → Lexed (length s) (lexeme_of (of_char a))
-of-char s (char.Read n c) b = (omega (arith, b.0), b.1, omega arith, omega arith, omega (arith, b.2.0))
-of-char s (char.Refused r) b = b
+of-char : (s : List ℕ) (a : Told (ℕ × ℕ)) → Bounded-char s a → Lexed (length s) (lexeme_of (of_char a))
+of-char s (Ok (n, c)) b = (omega (arith, b.0), b.1, omega arith, omega arith, omega (arith, b.2.0))
+of-char s (Err r) b = b
 
-of-byte : (s : List ℕ) (a : ByteAnswer) → Bounded-byte s a → Lexed (length s) (lexeme_of (of_byte a))
-of-byte s (byte.Read n c) b = (omega (arith, b.0), b.1, omega arith, omega arith, omega arith)
-of-byte s (byte.Refused r) b = b
+of-byte : (s : List ℕ) (a : Told (ℕ × ℕ)) → Bounded-byte s a → Lexed (length s) (lexeme_of (of_byte a))
+of-byte s (Ok (n, c)) b = (omega (arith, b.0), b.1, omega arith, omega arith, omega arith)
+of-byte s (Err r) b = b
 
-of-string : (s : List ℕ) (a : LiteralAnswer) → Bounded-string s a → Lexed (length s) (lexeme_of (of_string a))
-of-string s (literal.Read l) b = (b.0, b.1, omega arith, omega arith, omega (arith, b.1, b.4))
-of-string s (literal.Refused r) b = b
+of-string : (s : List ℕ) (a : Told Literal) → Bounded-string s a → Lexed (length s) (lexeme_of (of_string a))
+of-string s (Ok l) b = (b.0, b.1, omega arith, omega arith, omega (arith, b.1, b.4))
+of-string s (Err r) b = b
 
-of-byte-string : (s : List ℕ) (a : LiteralAnswer) → Bounded-string s a → Lexed (length s) (lexeme_of (of_byte_string a))
-of-byte-string s (literal.Read l) b = (b.0, b.1, omega arith, omega arith, omega (arith, b.1, b.4))
-of-byte-string s (literal.Refused r) b = b
+of-byte-string : (s : List ℕ) (a : Told Literal) → Bounded-string s a → Lexed (length s) (lexeme_of (of_byte_string a))
+of-byte-string s (Ok l) b = (b.0, b.1, omega arith, omega arith, omega (arith, b.1, b.4))
+of-byte-string s (Err r) b = b
 
-of-attribute : (s : List ℕ) (a : AttributeAnswer) → Bounded-attribute s a → Lexed (length s) (lexeme_of (of_attribute a))
-of-attribute s (attribute.Read n e) b = (b.0, b.1, omega arith, omega arith, omega (arith, b.2))
-of-attribute s (attribute.Refused r) b = b
+of-attribute : (s : List ℕ) (a : Told (ℕ × ℕ)) → Bounded-attribute s a → Lexed (length s) (lexeme_of (of_attribute a))
+of-attribute s (Ok (n, e)) b = (b.0, b.1, omega arith, omega arith, omega (arith, b.2))
+of-attribute s (Err r) b = b
 
 by_shape_bounded : (k : Shape) (s : List ℕ) → 0 < length s → Marked k → Lexed (length s) (lexeme_of (by_shape k s))
 by_shape_bounded (shape.Mark kind) s h m = (omega arith, omega arith, omega (arith, m.0), omega (arith, m.1), omega arith)
@@ -111,29 +105,29 @@ token_bounded s h = by_shape_bounded (shape_at s) s h (shape_marked (get_or s 0 
 -- ---- behind a quiet byte nothing changes a token
 
 -- accepted, and taken from the first n bytes
-abbrev pub Fits : ℕ → LexemeAnswer → Type 0
-Fits n (Read l) = l.len ≤ n
-Fits n (Refused r) = ⊥
+abbrev pub Fits : ℕ → Told Lexeme → Type 0
+Fits n (Ok l) = l.len ≤ n
+Fits n (Err r) = ⊥
 
-fits_attribute : (n : ℕ) (a : AttributeAnswer) → Fits n (lexeme_of (of_attribute a)) → Within-attribute n a
-fits_attribute n (attribute.Read l e) h = h
-fits_attribute n (attribute.Refused r) h = h
+fits_attribute : (n : ℕ) (a : Told (ℕ × ℕ)) → Fits n (lexeme_of (of_attribute a)) → Within-attribute n a
+fits_attribute n (Ok (l, e)) h = h
+fits_attribute n (Err r) h = h
 
-fits_string : (n : ℕ) (a : LiteralAnswer) → Fits n (lexeme_of (of_string a)) → Within-string n a
-fits_string n (literal.Read l) h = h
-fits_string n (literal.Refused r) h = h
+fits_string : (n : ℕ) (a : Told Literal) → Fits n (lexeme_of (of_string a)) → Within-string n a
+fits_string n (Ok l) h = h
+fits_string n (Err r) h = h
 
-fits_byte_string : (n : ℕ) (a : LiteralAnswer) → Fits n (lexeme_of (of_byte_string a)) → Within-string n a
-fits_byte_string n (literal.Read l) h = h
-fits_byte_string n (literal.Refused r) h = h
+fits_byte_string : (n : ℕ) (a : Told Literal) → Fits n (lexeme_of (of_byte_string a)) → Within-string n a
+fits_byte_string n (Ok l) h = h
+fits_byte_string n (Err r) h = h
 
-fits_char : (n : ℕ) (a : CharAnswer) → Fits n (lexeme_of (of_char a)) → Within-char n a
-fits_char n (char.Read l c) h = h
-fits_char n (char.Refused r) h = h
+fits_char : (n : ℕ) (a : Told (ℕ × ℕ)) → Fits n (lexeme_of (of_char a)) → Within-char n a
+fits_char n (Ok (l, c)) h = h
+fits_char n (Err r) h = h
 
-fits_byte : (n : ℕ) (a : ByteAnswer) → Fits n (lexeme_of (of_byte a)) → Within-byte n a
-fits_byte n (byte.Read l c) h = h
-fits_byte n (byte.Refused r) h = h
+fits_byte : (n : ℕ) (a : Told (ℕ × ℕ)) → Fits n (lexeme_of (of_byte a)) → Within-byte n a
+fits_byte n (Ok (l, c)) h = h
+fits_byte n (Err r) h = h
 
 quiet_stop : (c : ℕ) → quiet_byte c ≡ true → name_stop c ≡ true
 unfolding name_stop ascii_raw ascii_next letter digit within

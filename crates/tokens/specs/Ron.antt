@@ -1,12 +1,13 @@
 -- The token reader of RON (document 01, module 9): "Whitespace and comments make no entry." It is the reader that the theory of readings is used with.
+use Rattle.std.specs.Prelude.{Ok, Err}
+use Rattle.text.specs.Refusals.{Told}
+use Rattle.tokens.specs.declared.lexeme.Lexeme.{Lexeme}
 use Rattle.std.specs.Prelude.{ℕ, cond, List, ltb, length, drop}
 use Rattle.text.specs.Refusals.{placed_behind}
 use Rattle.comments.specs.Gaps.{gap_of}
 use Rattle.comments.specs.declared.gap.Gap.{Gap}
 use Rattle.comments.specs.declared.gap.Gap.TheVariants as gap
 use Rattle.reading.specs.Tokens.{Answer, token, stop, refuse}
-use Rattle.tokens.specs.declared.lexeme.LexemeAnswer.{LexemeAnswer}
-use Rattle.tokens.specs.declared.lexeme.LexemeAnswer.TheVariants as lexeme
 use Rattle.tokens.specs.declared.following.Following.{Following}
 use Rattle.tokens.specs.declared.following.Following.TheVariants.{Token, End, Refused}
 use Rattle.tokens.specs.Token.{token_of}
@@ -19,9 +20,9 @@ answer_of End = stop
 answer_of (Refused r) = refuse r
 
 -- A lexeme behind g bytes.
-abbrev pub lexeme_behind : ℕ → LexemeAnswer → Answer
-lexeme_behind g (lexeme.Read l) = token (record { gap = g; len = l.len; kind = l.kind; detail = l.detail })
-lexeme_behind g (lexeme.Refused r) = refuse (placed_behind g r)
+abbrev pub lexeme_behind : ℕ → Told Lexeme → Answer
+lexeme_behind g (Ok l) = token (record { gap = g; len = l.len; kind = l.kind; detail = l.detail })
+lexeme_behind g (Err r) = refuse (placed_behind g r)
 
 -- What stands behind a gap: a token, unless the text ends there.
 abbrev pub by_gap : List ℕ → Gap → Answer

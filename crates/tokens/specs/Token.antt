@@ -1,8 +1,9 @@
 -- The token at the front of a part (document 01, module 9): "A number's answer sits in the token's case." A byte literal is an integer of 8 bits.
+use Rattle.std.specs.Prelude.{Ok, Err}
+use Rattle.text.specs.Refusals.{Told}
+use Rattle.strings.specs.declared.literal.Literal.{Literal}
 use Rattle.std.specs.Prelude.{ℕ, List, get_or}
 use Rattle.attributes.specs.Attributes.{attribute_of}
-use Rattle.attributes.specs.declared.AttributeAnswer.{AttributeAnswer}
-use Rattle.attributes.specs.declared.AttributeAnswer.TheVariants as attribute
 use Rattle.integers.specs.declared.width.Width.TheVariants.{U8}
 use Rattle.names.specs.Classify.{word_of}
 use Rattle.names.specs.declared.Word.{Word}
@@ -11,12 +12,6 @@ use Rattle.numbers.specs.Numbers.{number_of}
 use Rattle.numbers.specs.declared.Number.TheVariants.{Int, Float}
 use Rattle.strings.specs.Chars.{char_of, byte_of}
 use Rattle.strings.specs.Strings.{string_of, byte_string_of}
-use Rattle.strings.specs.declared.chars.CharAnswer.{CharAnswer}
-use Rattle.strings.specs.declared.chars.CharAnswer.TheVariants as char
-use Rattle.strings.specs.declared.chars.ByteAnswer.{ByteAnswer}
-use Rattle.strings.specs.declared.chars.ByteAnswer.TheVariants as byte
-use Rattle.strings.specs.declared.literal.LiteralAnswer.{LiteralAnswer}
-use Rattle.strings.specs.declared.literal.LiteralAnswer.TheVariants as literal
 use Rattle.tokens.specs.declared.shape.Shape.{Shape}
 use Rattle.tokens.specs.declared.shape.Shape.TheVariants as shape
 use Rattle.tokens.specs.declared.token.Token.{Token}
@@ -31,29 +26,29 @@ of_word (word.Float n suffix) = Number (Float (record { len = n; suffix = suffix
 of_word (word.Refused r) = Refused r
 
 -- A char as a token.
-abbrev pub of_char : CharAnswer → Token
-of_char (char.Read n code) = Char n code
-of_char (char.Refused r) = Refused r
+abbrev pub of_char : Told (ℕ × ℕ) → Token
+of_char (Ok (n, code)) = Char n code
+of_char (Err r) = Refused r
 
 -- A byte literal as a token.
-abbrev pub of_byte : ByteAnswer → Token
-of_byte (byte.Read n value) = Number (Int U8 n)
-of_byte (byte.Refused r) = Refused r
+abbrev pub of_byte : Told (ℕ × ℕ) → Token
+of_byte (Ok (n, value)) = Number (Int U8 n)
+of_byte (Err r) = Refused r
 
 -- A string as a token.
-abbrev pub of_string : LiteralAnswer → Token
-of_string (literal.Read l) = Str l.len l.decoded
-of_string (literal.Refused r) = Refused r
+abbrev pub of_string : Told Literal → Token
+of_string (Ok l) = Str l.len l.decoded
+of_string (Err r) = Refused r
 
 -- A byte string as a token.
-abbrev pub of_byte_string : LiteralAnswer → Token
-of_byte_string (literal.Read l) = ByteStr l.len l.decoded
-of_byte_string (literal.Refused r) = Refused r
+abbrev pub of_byte_string : Told Literal → Token
+of_byte_string (Ok l) = ByteStr l.len l.decoded
+of_byte_string (Err r) = Refused r
 
 -- An attribute as a token.
-abbrev pub of_attribute : AttributeAnswer → Token
-of_attribute (attribute.Read n extensions) = Attribute n extensions
-of_attribute (attribute.Refused r) = Refused r
+abbrev pub of_attribute : Told (ℕ × ℕ) → Token
+of_attribute (Ok (n, extensions)) = Attribute n extensions
+of_attribute (Err r) = Refused r
 
 -- The token of that shape at the front of s.
 abbrev pub by_shape : Shape → List ℕ → Token

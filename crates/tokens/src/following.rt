@@ -4,7 +4,7 @@ ghost use Rattle.tokens.specs.Token.{token_of};
 ghost use Rattle.tokens.specs.Lexemes.{lexeme_of};
 ghost use Rattle.tokens.specs.Ron.{lexeme_behind, answer_of, ron_token};
 
-use crate::lexeme::{Lexeme, LexemeAnswer, lexeme_of};
+use crate::lexeme::{Lexeme, lexeme_of};
 use crate::token::token_at;
 use comments::{Gap, skip_gap};
 use text::Refusal;
@@ -26,8 +26,8 @@ fn behind_gap(s: &[u8], g: usize) -> Following
 {
     let found = lexeme_of(token_at(&s[g..]));
     match found {
-        LexemeAnswer::Read(l) => Following::Token(g, l),
-        LexemeAnswer::Refused(refusal) => Following::Refused(placed_behind(refusal, g)),
+        Ok(l) => Following::Token(g, l),
+        Err(refusal) => Following::Refused(placed_behind(refusal, g)),
     }
 }
 

@@ -1,4 +1,5 @@
 // What a token is on the tape: its length, kind and detail.
+ghost use Rattle.std.specs.Prelude.{Ok};
 ghost use Rattle.std.specs.Prelude.{◌≡◌};
 ghost use Rattle.tokens.specs.Lexemes.{number_lexeme, lexeme_of};
 
@@ -16,20 +17,13 @@ pub struct Lexeme {
     pub detail: usize,
 }
 
-// A token's lexeme, or what refuses it.
-#[derive(Clone, Copy)]
-pub enum LexemeAnswer {
-    Read(Lexeme),
-    Refused(Refusal),
-}
-
-fn read(len: usize, kind: u32, detail: usize) -> LexemeAnswer
-    ensures { result ≡ LexemeAnswer.Read (record { len = len; kind = kind; detail = detail }) }
+fn read(len: usize, kind: u32, detail: usize) -> Result<Lexeme, Refusal>
+    ensures { result ≡ Ok (record { len = len; kind = kind; detail = detail }) }
 {
-    LexemeAnswer::Read(Lexeme { len, kind, detail })
+    Ok(Lexeme { len, kind, detail })
 }
 
-fn number_lexeme(n: Number) -> LexemeAnswer
+fn number_lexeme(n: Number) -> Result<Lexeme, Refusal>
     ensures { result ≡ number_lexeme n }
 {
     match n {
@@ -38,12 +32,12 @@ fn number_lexeme(n: Number) -> LexemeAnswer
             read(len, kinds::INTEGER, code as usize)
         }
         Number::Float(span) => read(span.len, kinds::FLOAT, span.suffix as usize),
-        Number::Refused(refusal) => LexemeAnswer::Refused(refusal),
+        Number::Refused(refusal) => Err(refusal),
     }
 }
 
 // Kinds and details are document 01's numbers.
-pub fn lexeme_of(t: Token) -> LexemeAnswer
+pub fn lexeme_of(t: Token) -> Result<Lexeme, Refusal>
     ensures { result ≡ lexeme_of t }
 {
     match t {
@@ -55,6 +49,6 @@ pub fn lexeme_of(t: Token) -> LexemeAnswer
         Token::Str(n, decoded) => read(n, kinds::STRING, decoded),
         Token::ByteStr(n, decoded) => read(n, kinds::BYTE_STRING, decoded),
         Token::Attribute(n, extensions) => read(n, kinds::ATTRIBUTE, extensions as usize),
-        Token::Refused(refusal) => LexemeAnswer::Refused(refusal),
+        Token::Refused(refusal) => Err(refusal),
     }
 }

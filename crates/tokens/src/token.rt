@@ -7,14 +7,13 @@ ghost use Rattle.strings.specs.Strings.{string_of, byte_string_of};
 ghost use Rattle.tokens.specs.Token.{of_word, of_char, of_byte, of_string, of_byte_string, of_attribute, token_of};
 
 use crate::shape::{Shape, shape_of};
-use attributes::{AttributeAnswer, attribute};
+use attributes::attribute;
 use floats::float::FloatSpan;
 use integers::width::Width;
 use names::Word;
 use names::classify::word;
 use numbers::{Number, any_number};
-use strings::LiteralAnswer;
-use strings::chars::{ByteAnswer, CharAnswer, byte_literal, char_literal};
+use strings::chars::{byte_literal, char_literal};
 use text::Refusal;
 use text::bytes::peek;
 
@@ -57,8 +56,8 @@ fn read_char(s: &[u8]) -> Token
 {
     let found = char_literal(s);
     match found {
-        CharAnswer::Read { len, code } => Token::Char(len, code),
-        CharAnswer::Refused(refusal) => Token::Refused(refusal),
+        Ok((len, code)) => Token::Char(len, code),
+        Err(refusal) => Token::Refused(refusal),
     }
 }
 
@@ -68,8 +67,8 @@ fn read_byte(s: &[u8]) -> Token
 {
     let found = byte_literal(s);
     match found {
-        ByteAnswer::Read { len, byte: _ } => Token::Number(Number::Int(Width::U8, len)),
-        ByteAnswer::Refused(refusal) => Token::Refused(refusal),
+        Ok((len, _)) => Token::Number(Number::Int(Width::U8, len)),
+        Err(refusal) => Token::Refused(refusal),
     }
 }
 
@@ -78,8 +77,8 @@ fn read_string(s: &[u8]) -> Token
 {
     let found = strings::string(s);
     match found {
-        LiteralAnswer::Read(l) => Token::Str(l.len, l.decoded),
-        LiteralAnswer::Refused(refusal) => Token::Refused(refusal),
+        Ok(l) => Token::Str(l.len, l.decoded),
+        Err(refusal) => Token::Refused(refusal),
     }
 }
 
@@ -88,8 +87,8 @@ fn read_byte_string(s: &[u8]) -> Token
 {
     let found = strings::byte_string_no_base64(s);
     match found {
-        LiteralAnswer::Read(l) => Token::ByteStr(l.len, l.decoded),
-        LiteralAnswer::Refused(refusal) => Token::Refused(refusal),
+        Ok(l) => Token::ByteStr(l.len, l.decoded),
+        Err(refusal) => Token::Refused(refusal),
     }
 }
 
@@ -98,8 +97,8 @@ fn read_attribute(s: &[u8]) -> Token
 {
     let found = attribute(s);
     match found {
-        AttributeAnswer::Read(n, extensions) => Token::Attribute(n, extensions),
-        AttributeAnswer::Refused(refusal) => Token::Refused(refusal),
+        Ok((n, extensions)) => Token::Attribute(n, extensions),
+        Err(refusal) => Token::Refused(refusal),
     }
 }
 

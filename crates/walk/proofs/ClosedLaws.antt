@@ -1,4 +1,5 @@
 -- A bracket closes: the first of its fields, as they lie in the array, and what of the array stays. Assumes nothing.
+use Rattle.std.proofs.Common.{Option}
 use Prim.Native.Nat.{ℕ, zero, suc, ◌+◌, ◌<◌, ◌≤◌}
 use native.Mathlib.Nat.{not-suc-le-zero}
 use native.Mathlib.Omega.{arith}
@@ -11,13 +12,12 @@ use Rattle.text.proofs.Choices.{either, lt_or_le}
 use Rattle.fields.specs.inner.Again.{In, FirstIn, earlier}
 use Rattle.fields.specs.Fields.{is_named}
 use Rattle.fields.proofs.FirstLaws.{first_unique}
-use Rattle.fields.specs.declared.again.Again.{Again}
 use Rattle.walk.specs.inner.Gathered.{part, Alike, again_in}
 use Rattle.walk.proofs.AgainLaws.{earlier_nowhere}
 use Rattle.walk.proofs.FirstAgain.{in_none, in_cases, in_here, in_there, Falling, first_again, first_same}
 
 -- none or one
-pub few_nowhere : (nm : ℕ → List ℕ) (f : List ℕ) (a n : ℕ) (found : Again) → n ≤ 1 → found ≡ earlier found (again_in nm (part f a n))
+pub few_nowhere : (nm : ℕ → List ℕ) (f : List ℕ) (a n : ℕ) (found : Option ℕ) → n ≤ 1 → found ≡ earlier found (again_in nm (part f a n))
 unfolding again_in part is_named
 few_nowhere nm f a zero found h = sym (earlier_nowhere found)
 few_nowhere nm f a (suc zero) found h = sym (earlier_nowhere found)
@@ -74,7 +74,7 @@ module _ (f : List ℕ) (a n : ℕ) (fits : a + n ≤ length f) where
   )
 
   -- what the search tells of the part is the first of it
-  pub search_tells : (nm : ℕ → List ℕ) (r : Again) → ((p q : ℕ) → p < q → q < n → get_or f (a + p) 0 < get_or f (a + q) 0) → FirstIn nm lent r → r ≡ again_in nm (part f a n)
+  pub search_tells : (nm : ℕ → List ℕ) (r : Option ℕ) → ((p q : ℕ) → p < q → q < n → get_or f (a + p) 0 < get_or f (a + q) 0) → FirstIn nm lent r → r ≡ again_in nm (part f a n)
   search_tells nm r h t =
       first_unique nm (part f a n) r (again_in nm (part f a n)) (first_same nm lent (part f a n) to_part (λ x p. lies_lent x (part_lies f a n x p)) r t) (first_again nm (part f a n) (falling n h))
 

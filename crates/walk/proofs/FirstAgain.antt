@@ -1,4 +1,5 @@
 -- What the search over a list of fields tells is the first in the order in which they were gathered. Assumes nothing.
+use Rattle.std.proofs.Common.{Option}
 use Prim.Native.Nat.{ℕ, zero, suc, ◌<◌}
 use native.Mathlib.Nat.{not-suc-le-zero}
 use native.Mathlib.Omega.{arith}
@@ -10,7 +11,6 @@ use Rattle.text.proofs.Choices.{or_cases, or_right, either}
 use Rattle.fields.specs.inner.Again.{In, Repeats, FirstIn, nowhere, at}
 use Rattle.fields.specs.Fields.{same, is_named}
 use Rattle.fields.proofs.SameLaws.{same_is, same_self}
-use Rattle.fields.specs.declared.again.Again.{Again}
 use Rattle.walk.specs.inner.Gathered.{or_at, again_in}
 
 -- ---- one of a list
@@ -84,7 +84,7 @@ module _ (nm : ℕ → List ℕ) where
       absurd_less : e ≡ r.former → j < e → ⊥
       absurd_less z y = let w = r.before in omega arith
 
-  first_step : (e : ℕ) (es : List ℕ) → Falling (e ∷ es) → (b : Bool) → is_named nm e es ≡ b → (a : Again) → FirstIn nm es a → FirstIn nm (e ∷ es) (cond b (or_at a e) a)
+  first_step : (e : ℕ) (es : List ℕ) → Falling (e ∷ es) → (b : Bool) → is_named nm e es ≡ b → (a : Option ℕ) → FirstIn nm es a → FirstIn nm (e ∷ es) (cond b (or_at a e) a)
   first_step e es h false p a (nowhere n) = nowhere (λ j r. shorter e es h j r (λ y m. named_no e es p m.other m.is_one m.alike) (n j))
   first_step e es h false p a (at j r l) =
       at j (longer e es j r) (λ i q. shorter e es h i q (λ y m. absurd (named_no e es p m.other m.is_one m.alike)) (l i))
@@ -104,6 +104,6 @@ module _ (nm : ℕ → List ℕ) where
   moved es fs t j r = record { is_one = t j r.is_one; former = r.former; also = t r.former r.also; before = r.before; alike = r.alike }
 
   -- the same entries in another order have the same first
-  pub first_same : (es fs : List ℕ) → ((x : ℕ) → In x es → In x fs) → ((x : ℕ) → In x fs → In x es) → (a : Again) → FirstIn nm es a → FirstIn nm fs a
+  pub first_same : (es fs : List ℕ) → ((x : ℕ) → In x es → In x fs) → ((x : ℕ) → In x fs → In x es) → (a : Option ℕ) → FirstIn nm es a → FirstIn nm fs a
   first_same es fs p q a (nowhere n) = nowhere (λ j r. n j (moved fs es q j r))
   first_same es fs p q a (at j r l) = at j (moved es fs p j r) (λ i s. l i (moved fs es q i s))

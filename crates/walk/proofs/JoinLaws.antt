@@ -1,4 +1,6 @@
 -- The loop that joins: an accepted walk never closes what is not open, nor opens more than the limit. Assumes nothing.
+use Rattle.std.proofs.Common.{Ok, Err}
+use Rattle.text.specs.Refusals.{Told}
 use Prim.Native.Nat.{ℕ, ◌+◌, ◌-◌, ◌<◌, ◌≤◌}
 use native.Mathlib.Omega.{arith}
 use mathlib.Core.Path.{◌≡◌, refl, sym, ap, ◌∙◌, subst}
@@ -19,7 +21,6 @@ use Rattle.grammar.specs.declared.states.Want.{Want}
 use Rattle.grammar.specs.declared.states.Want.TheVariants.{Start, Behind}
 use Rattle.grammar.specs.declared.states.Move.{Move}
 use Rattle.grammar.specs.declared.states.Move.TheVariants.{Stay, Push, Pop, Bad}
-use Rattle.grammar.specs.declared.ends.Verdict.TheVariants.{Accepted, Refused}
 use Rattle.grammar.specs.Kinds.{kind_of, kinds_of, side_of}
 use Rattle.grammar.specs.Steps.{step_of}
 use Rattle.grammar.specs.Walk.{popped, by_move, check, joined, by_side, link, walk_of, linked_of}
@@ -34,11 +35,11 @@ pub record Going (limit : ℕ) (ks : List Kind) (depth i : ℕ) : Type 0 where
   pub inside : Frame
   pub outer : List Frame
   pub deep : length outer ≡ depth
-  pub goes : check ks limit want inside outer i ≡ Accepted
+  pub goes : check ks limit want inside outer i ≡ Ok tt
 
 module _ (limit : ℕ) (k : Kind) (ks : List Kind) (depth i : ℕ) where
   step_goes : (g : Going limit (k ∷ ks) depth i) (m : Move) → step_of g.want k g.inside ≡ m
-      → by_move m limit g.inside g.outer i (λ w f σ. check ks limit w f σ (i + 1)) ≡ Accepted
+      → by_move m limit g.inside g.outer i (λ w f σ. check ks limit w f σ (i + 1)) ≡ Ok tt
   unfolding check
   step_goes g m e = sym (ap (λ (x : Move). by_move x limit g.inside g.outer i (λ w f σ. check ks limit w f σ (i + 1))) e) ∙ g.goes
 
@@ -46,11 +47,11 @@ module _ (limit : ℕ) (k : Kind) (ks : List Kind) (depth i : ℕ) where
   opening e g = go (step_of g.want k g.inside) (subst (λ (s : Side). Agrees s (step_of g.want k g.inside)) e (agrees g.want k g.inside)) (step_goes g (step_of g.want k g.inside) refl)
     where
       deeper : (w : Want) (f : Frame) (t : Bool) → ltb (length g.outer) limit ≡ t
-          → cond t (check ks limit w f (g.inside ∷ g.outer) (i + 1)) (Refused (depth_limit_passed i)) ≡ Accepted → (depth < limit) × Going limit ks (depth + 1) (i + 1)
+          → ◌≡◌ {A = Told Unit} (cond t (check ks limit w f (g.inside ∷ g.outer) (i + 1)) (Err (depth_limit_passed i))) (Ok tt) → (depth < limit) × Going limit ks (depth + 1) (i + 1)
       deeper w f true q r = (omega (arith, ltb-true (length g.outer) limit q, g.deep), record { want = w; inside = f; outer = g.inside ∷ g.outer; deep = omega (arith, g.deep); goes = r })
       deeper w f false q r = not_refused 24 i r
 
-      go : (m : Move) → Agrees Opens m → by_move m limit g.inside g.outer i (λ w f σ. check ks limit w f σ (i + 1)) ≡ Accepted → (depth < limit) × Going limit ks (depth + 1) (i + 1)
+      go : (m : Move) → Agrees Opens m → by_move m limit g.inside g.outer i (λ w f σ. check ks limit w f σ (i + 1)) ≡ Ok tt → (depth < limit) × Going limit ks (depth + 1) (i + 1)
       go (Stay w f) a r = absurd a
       go (Push w f) a r = deeper w f (ltb (length g.outer) limit) refl r
       go Pop a r = absurd a
@@ -59,11 +60,11 @@ module _ (limit : ℕ) (k : Kind) (ks : List Kind) (depth i : ℕ) where
   pub closing : side_of k ≡ Closes → Going limit (k ∷ ks) depth i → (0 < depth) × Going limit ks (depth - 1) (i + 1)
   closing e g = go (step_of g.want k g.inside) (subst (λ (s : Side). Agrees s (step_of g.want k g.inside)) e (agrees g.want k g.inside)) (step_goes g (step_of g.want k g.inside) refl)
     where
-      out : (σ : List Frame) → length σ ≡ depth → popped σ (λ f τ. check ks limit Behind f τ (i + 1)) i ≡ Accepted → (0 < depth) × Going limit ks (depth - 1) (i + 1)
+      out : (σ : List Frame) → length σ ≡ depth → popped σ (λ f τ. check ks limit Behind f τ (i + 1)) i ≡ Ok tt → (0 < depth) × Going limit ks (depth - 1) (i + 1)
       out [] q r = not_refused 25 i r
       out (f ∷ τ) q r = (omega arith, record { want = Behind; inside = f; outer = τ; deep = omega arith; goes = r })
 
-      go : (m : Move) → Agrees Closes m → by_move m limit g.inside g.outer i (λ w f σ. check ks limit w f σ (i + 1)) ≡ Accepted → (0 < depth) × Going limit ks (depth - 1) (i + 1)
+      go : (m : Move) → Agrees Closes m → by_move m limit g.inside g.outer i (λ w f σ. check ks limit w f σ (i + 1)) ≡ Ok tt → (0 < depth) × Going limit ks (depth - 1) (i + 1)
       go (Stay w f) a r = absurd a
       go (Push w f) a r = absurd a
       go Pop a r = out g.outer g.deep r
@@ -72,7 +73,7 @@ module _ (limit : ℕ) (k : Kind) (ks : List Kind) (depth i : ℕ) where
   pub passing : side_of k ≡ Neither → Going limit (k ∷ ks) depth i → Going limit ks depth (i + 1)
   passing e g = go (step_of g.want k g.inside) (subst (λ (s : Side). Agrees s (step_of g.want k g.inside)) e (agrees g.want k g.inside)) (step_goes g (step_of g.want k g.inside) refl)
     where
-      go : (m : Move) → Agrees Neither m → by_move m limit g.inside g.outer i (λ w f σ. check ks limit w f σ (i + 1)) ≡ Accepted → Going limit ks depth (i + 1)
+      go : (m : Move) → Agrees Neither m → by_move m limit g.inside g.outer i (λ w f σ. check ks limit w f σ (i + 1)) ≡ Ok tt → Going limit ks depth (i + 1)
       go (Stay w f) a r = record { want = w; inside = f; outer = g.outer; deep = g.deep; goes = r }
       go (Push w f) a r = absurd a
       go Pop a r = absurd a
@@ -89,7 +90,7 @@ module _ (t : List ℕ) (count : ℕ) (out₀ : List ℕ) where
     pub below : Below places d i
     pub same : link (rest t count i) (stack_of 0 places d) i out ≡ linked_of (kinds_of (entries_of count t)) out₀
 
-  pub joins_start : (places : List ℕ) → walk_of (kinds_of (entries_of count t)) 128 ≡ Accepted → Joining places 0 0 out₀
+  pub joins_start : (places : List ℕ) → walk_of (kinds_of (entries_of count t)) 128 ≡ Ok tt → Joining places 0 0 out₀
   joins_start places a =
       record {
         going = record { want = Start; inside = Top; outer = []; deep = refl; goes = ap (λ (l : List Kind). walk_of l 128) (rest_start t count) ∙ a };

@@ -1,4 +1,6 @@
 -- The loop that judges, with its arrays: what holds between two entries, and that each turn keeps it. Assumes nothing.
+use Rattle.std.proofs.Common.{Err, None, Option}
+use Rattle.text.specs.Refusals.{Told}
 use Prim.Native.Nat.{ℕ, suc, ◌+◌, ◌-◌, ◌*◌, ◌<◌, ◌≤◌}
 use native.Mathlib.Omega.{arith}
 use mathlib.Core.Bool.{Bool, true, false, cond}
@@ -16,16 +18,12 @@ use Rattle.grammar.specs.declared.states.Frame.TheVariants.{Top}
 use Rattle.grammar.specs.declared.states.Want.{Want}
 use Rattle.grammar.specs.declared.states.Want.TheVariants.{Start, Behind}
 use Rattle.grammar.specs.declared.states.Move.TheVariants.{Stay, Push, Pop}
-use Rattle.grammar.specs.declared.ends.Verdict.{Verdict}
-use Rattle.grammar.specs.declared.ends.Verdict.TheVariants.{Refused}
 use Rattle.grammar.specs.Kinds.{kind_of, kinds_of}
 use Rattle.grammar.specs.Steps.{step_of}
 use Rattle.grammar.specs.Walk.{walk_of, finish}
 use Rattle.fields.specs.inner.Again.{earlier}
 use Rattle.fields.specs.Fields.{names_field, again_of, by_again, named_walk}
 use Rattle.fields.specs.Names.{HasName, name_at}
-use Rattle.fields.specs.declared.again.Again.{Again}
-use Rattle.fields.specs.declared.again.Again.TheVariants.{Nowhere}
 use Rattle.walk.specs.inner.Gathered.{part, base_of, inner_of, outers_of, Rising, Fields, Alike, again_in, first_of, told_by}
 use Rattle.walk.specs.inner.Turns.{Stops, at_end, deep, closes_none, not_allowed}
 use Rattle.walk.proofs.AgainLaws.{somewhere}
@@ -44,11 +42,11 @@ module _ (text tape : List ℕ) (count limit : ℕ) where
   abbrev kinds : List Kind
   kinds = kinds_of (entries_of count tape)
 
-  abbrev whole : Again
+  abbrev whole : Option ℕ
   whole = again_of nm kinds
 
   -- what holds between two entries
-  pub record Turning (f : List ℕ) (outer : List Frame) (bases : List ℕ) (d top : ℕ) (w : Want) (inside : Frame) (found : Again) (i : ℕ) : Type 0 where
+  pub record Turning (f : List ℕ) (outer : List Frame) (bases : List ℕ) (d top : ℕ) (w : Want) (inside : Frame) (found : Option ℕ) (i : ℕ) : Type 0 where
     pub judging : Judging tape count limit outer d w inside i
     pub naming : Naming nm whole (rest tape count i) found w inside (inner_of f bases d top) (stack_of Top outer d) (outers_of f bases d) i
     pub rising : Rising bases d top
@@ -57,10 +55,10 @@ module _ (text tape : List ℕ) (count limit : ℕ) where
     pub half : 2 * top + ready w ≤ i
 
   -- what the call gives where it stops
-  abbrev gathered : List ℕ → List ℕ → ℕ → ℕ → Again → Again
+  abbrev gathered : List ℕ → List ℕ → ℕ → ℕ → Option ℕ → Option ℕ
   gathered f bases d top found = earlier found (first_of nm (inner_of f bases d top ∷ outers_of f bases d))
 
-  pub turn_starts : (f : List ℕ) (outer : List Frame) (bases : List ℕ) → Turning f outer bases 0 0 Start Top Nowhere 0
+  pub turn_starts : (f : List ℕ) (outer : List Frame) (bases : List ℕ) → Turning f outer bases 0 0 Start Top None 0
   unfolding first_of again_in outers_of Rising part base_of
   turn_starts f outer bases =
       record {
@@ -72,14 +70,14 @@ module _ (text tape : List ℕ) (count limit : ℕ) where
         half = omega arith;
       }
 
-  module _ (f : List ℕ) (outer : List Frame) (bases : List ℕ) (d top : ℕ) (w : Want) (inside : Frame) (found : Again) (i : ℕ) (t : Turning f outer bases d top w inside found i) where
+  module _ (f : List ℕ) (outer : List Frame) (bases : List ℕ) (d top : ℕ) (w : Want) (inside : Frame) (found : Option ℕ) (i : ℕ) (t : Turning f outer bases d top w inside found i) where
     -- ---- where it stops
 
-    stop_at : (r : Refusal) → r.place ≡ i → Refused r ≡ walk_of kinds limit → told_by (gathered f bases d top found) (Refused r) ≡ named_walk nm kinds limit
+    stop_at : (r : Refusal) → r.place ≡ i → Err r ≡ walk_of kinds limit → told_by (gathered f bases d top found) (Err r) ≡ named_walk nm kinds limit
     stop_at r p e =
         stops_refused nm whole (rest tape count i) found w inside (inner_of f bases d top) (stack_of Top outer d) (outers_of f bases d) i t.naming r p ∙ ap (by_again whole) e
 
-    pub stop_with : (v : Verdict) → Stops tape count limit i d w inside v → told_by (gathered f bases d top found) v ≡ named_walk nm kinds limit
+    pub stop_with : (v : Told Unit) → Stops tape count limit i d w inside v → told_by (gathered f bases d top found) v ≡ named_walk nm kinds limit
     stop_with _ (at_end h) =
         stops_end nm whole found w inside (inner_of f bases d top) (stack_of Top outer d) (outers_of f bases d) i
         (subst (λ (l : List Kind). Naming nm whole l found w inside (inner_of f bases d top) (stack_of Top outer d) (outers_of f bases d) i) (rest_end tape count i h) t.naming)
@@ -89,7 +87,7 @@ module _ (text tape : List ℕ) (count limit : ℕ) where
     stop_with _ (not_allowed s) = stop_at (not_allowed_here i) refl (judge_bad tape count limit outer d w inside i t.judging (kind_of (entry_at tape i).kind) s.there refl s.does)
 
     module _ (k : Kind) (lt : i < count) (ek : k ≡ kind_of (entry_at tape i).kind) where
-      abbrev Rested : Want → Frame → List ℕ → List Frame → List (List ℕ) → Again → ℕ → Type 0
+      abbrev Rested : Want → Frame → List ℕ → List Frame → List (List ℕ) → Option ℕ → ℕ → Type 0
       Rested w f es σ τ a n = Naming nm whole (rest tape count n) a w f es σ τ n
 
       here : Naming nm whole (k ∷ rest tape count (i + 1)) found w inside (inner_of f bases d top) (stack_of Top outer d) (outers_of f bases d) i
@@ -178,7 +176,7 @@ module _ (text tape : List ℕ) (count limit : ℕ) where
             half = let x = t.half in let y = ready_one w' in omega arith;
           }
 
-      pub turn_pops : (g : List ℕ) (a : Again) → step_of w k inside ≡ Pop → 0 < d → Alike f g (get_or bases (d - 1) 0)
+      pub turn_pops : (g : List ℕ) (a : Option ℕ) → step_of w k inside ≡ Pop → 0 < d → Alike f g (get_or bases (d - 1) 0)
           → a ≡ earlier found (again_in nm (part f (get_or bases (d - 1) 0) (top - get_or bases (d - 1) 0)))
           → Turning g outer bases (d - 1) (get_or bases (d - 1) 0) Behind (get_or outer (d - 1) Top) a (i + 1)
       turn_pops g a e h l q =
@@ -188,7 +186,7 @@ module _ (text tape : List ℕ) (count limit : ℕ) where
           record {
             judging = judge_pops tape count limit outer d w inside i t.judging k lt ek e h;
             naming =
-                subst (λ (y : Again). Rested Behind (get_or outer (d - 1) Top) (inner_of g bases (d - 1) b) (stack_of Top outer (d - 1)) (outers_of g bases (d - 1)) y (i + 1)) (sym (q ∙ ap (λ (m : List ℕ). earlier found (again_in nm m)) (sym (inner_next f bases d (d - 1) top z))))
+                subst (λ (y : Option ℕ). Rested Behind (get_or outer (d - 1) Top) (inner_of g bases (d - 1) b) (stack_of Top outer (d - 1)) (outers_of g bases (d - 1)) y (i + 1)) (sym (q ∙ ap (λ (m : List ℕ). earlier found (again_in nm m)) (sym (inner_next f bases d (d - 1) top z))))
                 (subst (λ (es : List ℕ). Rested Behind (get_or outer (d - 1) Top) es (stack_of Top outer (d - 1)) (outers_of g bases (d - 1)) (earlier found (again_in nm (inner_of f bases d top))) (i + 1)) (sym (inner_alike f g bases b (d - 1) b l n.1 (omega arith)))
                 (subst (λ (τ : List (List ℕ)). Rested Behind (get_or outer (d - 1) Top) (inner_of f bases (d - 1) b) (stack_of Top outer (d - 1)) τ (earlier found (again_in nm (inner_of f bases d top))) (i + 1)) (sym (outers_alike f g bases b (d - 1) b l n.1 (omega arith)))
                 (names_pops nm whole (rest tape count (i + 1)) found w inside (inner_of f bases d top) (stack_of Top outer d) (outers_of f bases d) i k (get_or outer (d - 1) Top) (stack_of Top outer (d - 1)) (inner_of f bases (d - 1) b) (outers_of f bases (d - 1))

@@ -1,4 +1,5 @@
 -- The brackets that are still open where the walk stops, the innermost first: one closes, and those around it are left. Assumes nothing.
+use Rattle.std.proofs.Common.{Option}
 use Prim.Native.Nat.{ℕ, suc, ◌-◌, ◌<◌, ◌≤◌}
 use native.Mathlib.Omega.{arith}
 use mathlib.Core.List.{List, ◌∷◌}
@@ -6,7 +7,6 @@ use mathlib.Core.Path.{◌≡◌, ◌∙◌, ap, subst, sym}
 use lib.ListN.{get_or}
 use Rattle.fields.specs.inner.Again.{earlier}
 use Rattle.fields.specs.Names.{HasName}
-use Rattle.fields.specs.declared.again.Again.{Again}
 use Rattle.walk.specs.inner.Gathered.{part, base_of, inner_of, outers_of, Rising, Fields, Alike, again_in, first_of}
 use Rattle.walk.proofs.AgainLaws.{earlier_nowhere, earlier_assoc}
 use Rattle.walk.proofs.GatherLaws.{inner_alike, outers_alike}
@@ -37,22 +37,22 @@ outers_next f bases d m e = ap (outers_of f bases) e
 
 module _ (nm : ℕ → List ℕ) where
   -- one bracket closes
-  pub open_next : (f g bases : List ℕ) (d m to : ℕ) (found r : Again) → d ≡ suc m → Rising bases d to → Alike f g (get_or bases m 0)
+  pub open_next : (f g bases : List ℕ) (d m to : ℕ) (found r : Option ℕ) → d ≡ suc m → Rising bases d to → Alike f g (get_or bases m 0)
       → r ≡ earlier found (again_in nm (part f (get_or bases m 0) (to - get_or bases m 0))) → earlier r (first_of nm (inner_of g bases m (get_or bases m 0) ∷ outers_of g bases m))
       ≡ earlier found (first_of nm (inner_of f bases d to ∷ outers_of f bases d))
   unfolding first_of outers_of base_of
   open_next f g bases d m to found a e r l t =
       let b : ℕ = get_or bases m 0 in
       let n = rising_next bases d m to e r in
-      let x : Again = again_in nm (part f b (to - b)) in
-      ap (λ (y : Again). earlier y (first_of nm (inner_of g bases m b ∷ outers_of g bases m))) t
+      let x : Option ℕ = again_in nm (part f b (to - b)) in
+      ap (λ (y : Option ℕ). earlier y (first_of nm (inner_of g bases m b ∷ outers_of g bases m))) t
       ∙ ap (λ (i : List ℕ). earlier (earlier found x) (first_of nm (i ∷ outers_of g bases m))) (inner_alike f g bases b m b l n.1 (omega arith))
       ∙ ap (λ (o : List (List ℕ)). earlier (earlier found x) (first_of nm (inner_of f bases m b ∷ o))) (outers_alike f g bases b m b l n.1 (omega arith))
       ∙ sym (earlier_assoc found x (first_of nm (inner_of f bases m b ∷ outers_of f bases m)))
       ∙ ap (λ (k : ℕ). earlier found (first_of nm (inner_of f bases k to ∷ outers_of f bases k))) (sym e)
 
   -- and the last of all
-  pub open_last : (f bases : List ℕ) (d to : ℕ) (found : Again) → d ≡ 0 → earlier found (again_in nm (part f 0 (to - 0))) ≡ earlier found (first_of nm (inner_of f bases d to ∷ outers_of f bases d))
+  pub open_last : (f bases : List ℕ) (d to : ℕ) (found : Option ℕ) → d ≡ 0 → earlier found (again_in nm (part f 0 (to - 0))) ≡ earlier found (first_of nm (inner_of f bases d to ∷ outers_of f bases d))
   unfolding first_of outers_of base_of
   open_last f bases d to found e =
       ap (earlier found) (sym (earlier_nowhere (again_in nm (part f 0 (to - 0)))))

@@ -9,9 +9,8 @@ ghost use Rattle.fields.specs.Fields.{names_field, named_walk};
 ghost use Rattle.walk.specs.inner.Gathered.{part, inner_of, outers_of, Rising, Fields, Alike, again_in, first_of, told_by};
 
 use crate::turning::{Turn, comes_to};
-use fields::again::{Again, earlier, first_again};
+use fields::again::{earlier, first_again};
 use fields::naming::names_field;
-use grammar::ends::Verdict;
 use grammar::states::{Frame, Want};
 use text::Refusal;
 
@@ -22,8 +21,8 @@ fn compared(
     fields: &mut [u16],
     from: usize,
     to: usize,
-    found: Again,
-) -> Again
+    found: Option<usize>,
+) -> Option<usize>
     requires { (from ≤ to) × Fields text.now tape.now fields.old to }
     ensures told { result ≡ earlierOf found (again_in (name_at text.now tape.now) (part fields.old from (to - from))) }
     ensures kept { Alike fields.old fields.new from }
@@ -38,8 +37,8 @@ fn closed(
     fields: &mut [u16],
     from: usize,
     to: usize,
-    found: Again,
-) -> Again
+    found: Option<usize>,
+) -> Option<usize>
     requires { (from ≤ to) × Fields text.now tape.now fields.old to }
     ensures told { result ≡ earlierOf found (again_in (name_at text.now tape.now) (part fields.old from (to - from))) }
     ensures kept { Alike fields.old fields.new from }
@@ -58,8 +57,8 @@ fn still_open(
     bases: &[usize; 128],
     depth: usize,
     top: usize,
-    so_far: Again,
-) -> Again
+    so_far: Option<usize>,
+) -> Option<usize>
     requires { (depth ≤ 128) × Rising bases.now depth top × Fields text.now tape.now fields.old top }
     ensures { result ≡ earlierOf so_far (first_of (name_at text.now tape.now)
         (inner_of fields.old bases.now depth top ∷ outers_of fields.old bases.now depth)) }
@@ -74,12 +73,12 @@ fn still_open(
 }
 
 // A field named again comes before what the grammar says: it stands before it.
-fn told(found: Again, verdict: Verdict) -> Verdict
+fn told(found: Option<usize>, verdict: Result<(), Refusal>) -> Result<(), Refusal>
     ensures { result ≡ told_by found verdict }
 {
     match found {
-        Again::Nowhere => verdict,
-        Again::At(j) => Verdict::Refused(Refusal::repeated_field(j)),
+        None => verdict,
+        Some(j) => Err(Refusal::repeated_field(j)),
     }
 }
 
@@ -99,7 +98,13 @@ fn noted(fields: &mut [u16], top: usize, want: Want, i: usize) -> usize
 // The open brackets around the innermost one lie in `outer`, `depth` of them; the entries that name the fields of all of them lie in `fields`, `top` of
 // them, and those of each bracket from its number in `bases` on. Arrays with their lengths, since nothing here takes heap memory;
 // and a loop that counts, since it ends with a verdict: a `for` has no value, and what would stand behind it would never run.
-fn judge_in(text: &[u8], tape: &[u32], count: usize, limit: usize, fields: &mut [u16]) -> Verdict
+fn judge_in(
+    text: &[u8],
+    tape: &[u32],
+    count: usize,
+    limit: usize,
+    fields: &mut [u16],
+) -> Result<(), Refusal>
     requires { (count ≤ room_of (length tape.now)) × (limit ≤ 128) × (count ≤ 65536)
         × (in_order (entries_of count tape.now) (length text.now) ≡ true) × (raws_fit text.now (entries_of count tape.now) ≡ true)
         × (count ≤ 2 * length fields.old) × (length fields.old ≤ 32768) }
@@ -111,7 +116,7 @@ fn judge_in(text: &[u8], tape: &[u32], count: usize, limit: usize, fields: &mut 
     let mut top: usize = 0;
     let mut want = Want::Start;
     let mut inside = Frame::Top;
-    let mut found = Again::Nowhere;
+    let mut found = None;
     let mut next: usize = 0;
     let verdict = loop {
         let i = next;
@@ -144,7 +149,12 @@ fn judge_in(text: &[u8], tape: &[u32], count: usize, limit: usize, fields: &mut 
 }
 
 // With room for N fields: at most every second entry names one, and a shorter array has less to clear.
-fn judge_within<const N: usize>(text: &[u8], tape: &[u32], count: usize, limit: usize) -> Verdict
+fn judge_within<const N: usize>(
+    text: &[u8],
+    tape: &[u32],
+    count: usize,
+    limit: usize,
+) -> Result<(), Refusal>
     requires { (count ≤ room_of (length tape.now)) × (limit ≤ 128) × (count ≤ 65536)
         × (in_order (entries_of count tape.now) (length text.now) ≡ true) × (raws_fit text.now (entries_of count tape.now) ≡ true)
         × (count ≤ 2 * N) × (N ≤ 32768) }
@@ -155,7 +165,7 @@ fn judge_within<const N: usize>(text: &[u8], tape: &[u32], count: usize, limit: 
 }
 
 // The verdict over the first `count` entries.
-pub fn judge(text: &[u8], tape: &[u32], count: usize, limit: usize) -> Verdict
+pub fn judge(text: &[u8], tape: &[u32], count: usize, limit: usize) -> Result<(), Refusal>
     requires { (count ≤ room_of (length tape.now)) × (limit ≤ 128) × (count ≤ 65536)
         × (in_order (entries_of count tape.now) (length text.now) ≡ true) × (raws_fit text.now (entries_of count tape.now) ≡ true) }
     ensures { result ≡ named_walk (name_at text.now tape.now) (kinds_of (entries_of count tape.now)) limit }

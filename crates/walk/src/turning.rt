@@ -3,7 +3,7 @@ ghost use Rattle.std.specs.Prelude.{◌≤◌, length};
 ghost use Rattle.rows.specs.Rows.{room_of};
 ghost use Rattle.walk.specs.inner.Turns.{Comes};
 
-use grammar::ends::{Verdict, finished};
+use grammar::ends::finished;
 use grammar::kinds::kind_of;
 use grammar::states::{Frame, Move, Want};
 use grammar::steps::step;
@@ -16,7 +16,7 @@ pub enum Turn {
     Stay(Want, Frame),
     Push(Want, Frame),
     Pop,
-    Stop(Verdict),
+    Stop(Result<(), Refusal>),
 }
 
 // At entry `i`, or at the end of the tape.
@@ -39,16 +39,16 @@ pub fn comes_to(
         Move::Stay(w, f) => Turn::Stay(w, f),
         Move::Push(w, f) => {
             if limit <= depth {
-                return Turn::Stop(Verdict::Refused(Refusal::depth_limit_passed(i)));
+                return Turn::Stop(Err(Refusal::depth_limit_passed(i)));
             }
             Turn::Push(w, f)
         }
         Move::Pop => {
             if depth == 0 {
-                return Turn::Stop(Verdict::Refused(Refusal::not_allowed_here(i)));
+                return Turn::Stop(Err(Refusal::not_allowed_here(i)));
             }
             Turn::Pop
         }
-        Move::Bad => Turn::Stop(Verdict::Refused(Refusal::not_allowed_here(i))),
+        Move::Bad => Turn::Stop(Err(Refusal::not_allowed_here(i))),
     }
 }

@@ -1,4 +1,6 @@
 -- What a read of any width accepts is written, and fits the width that it says: an integer of a reading can be read again in that width. Assumes nothing.
+use Rattle.std.proofs.Common.{Ok, Err}
+use Rattle.text.specs.Refusals.{Told}
 use Prim.Native.Nat.{ℕ, ◌+◌, ◌≤◌}
 use native.Mathlib.Omega.{arith}
 use mathlib.Core.Bool.{Bool, true, false}
@@ -22,9 +24,6 @@ use Rattle.integers.specs.Integer.{any_as, any_of, chosen_of, numeral_of, width_
 use Rattle.integers.specs.Range.{Reads}
 use Rattle.integers.specs.Width.{code_of, first_fit, limit_at, limit_of, suffix_of, widest, width_at}
 use Rattle.integers.specs.Words.{Word, first_of, ident_of}
-use Rattle.integers.specs.declared.integer.AnyInteger.TheVariants as any
-use Rattle.integers.specs.declared.integer.Numeral.{Numeral}
-use Rattle.integers.specs.declared.integer.Numeral.TheVariants as numeral
 use Rattle.integers.specs.declared.width.Width.{Width}
 use Rattle.written.specs.Written.{IsWritten, behind_digits, bits_of, digits_in, is_signed, suffix_in, unprefixed, written_len}
 use Rattle.written.proofs.TypedWritten.{is_written, numeral_read, width_limit}
@@ -78,25 +77,25 @@ first_fits false v h =
 -- ---- the whole
 
 -- what was read of a numeral
-record Read-any (minus : Bool) (at : ℕ) (n : Numeral) (w : Width) (len : ℕ) : Type 0 where
+record Read-any (minus : Bool) (at : ℕ) (n : Told (ℕ × ℕ × ℕ)) (w : Width) (len : ℕ) : Type 0 where
   value : ℕ
   code : ℕ
   to : ℕ
-  numeral_is : n ≡ numeral.Read value code to
+  numeral_is : n ≡ Ok (value, code, to)
   width_is : width_for code minus value ≡ w
   len_is : at + to ≡ len
 
-any_read : (minus : Bool) (at : ℕ) (n : Numeral) (w : Width) (len : ℕ) → any_as minus at n ≡ any.Read w len → Read-any minus at n w len
-any_read minus at (numeral.Read v code to) w len h = record { value = v; code = code; to = to; numeral_is = refl; width_is = cc; len_is = cc }
-any_read minus at (numeral.Refused r) w len h = let z : ◌≡◌ {A = ℕ} 0 1 = cc in absurd (omega arith)
+any_read : (minus : Bool) (at : ℕ) (n : Told (ℕ × ℕ × ℕ)) (w : Width) (len : ℕ) → any_as minus at n ≡ Ok (w, len) → Read-any minus at n w len
+any_read minus at (Ok (v, code, to)) w len h = record { value = v; code = code; to = to; numeral_is = refl; width_is = cc; len_is = cc }
+any_read minus at (Err r) w len h = let z : ◌≡◌ {A = ℕ} 0 1 = cc in absurd (omega arith)
 
 module _ (s : List ℕ) where
-  behind_end : (w : Width) (len : ℕ) → any_of s ≡ any.Read w len
-      → any_as (front_of s).minus (front_of s).end (numeral_of (widest (front_of s).minus) (front_of s).minus (front_of s).base (unprefixed s)) ≡ any.Read w len
+  behind_end : (w : Width) (len : ℕ) → any_of s ≡ Ok (w, len)
+      → any_as (front_of s).minus (front_of s).end (numeral_of (widest (front_of s).minus) (front_of s).minus (front_of s).base (unprefixed s)) ≡ Ok (w, len)
   unfolding any_of
   behind_end w len h =
       either (bool_cases (eqb (length s) 0))
-      (λ p. let q : any.Refused (eof 0) ≡ any.Read w len = rw p at h in let z : ◌≡◌ {A = ℕ} 0 1 = cc in absurd (omega arith))
+      (λ p. let q : ◌≡◌ {A = Told (Width × ℕ)} (Err (eof 0)) (Ok (w, len)) = rw p at h in let z : ◌≡◌ {A = ℕ} 0 1 = cc in absurd (omega arith))
       (λ p. rw p at h)
 
   -- a run that reads within 64 bits reads at every limit that its value is within
@@ -133,7 +132,7 @@ module _ (s : List ℕ) where
       (λ p. rw p (inr (sym (of_known code k p)), rw p at h))
 
   -- what a read of any width accepts is written in the width that it says
-  pub any_written : (w : Width) (len : ℕ) → any_of s ≡ any.Read w len → IsWritten w s × (len ≡ written_len s)
+  pub any_written : (w : Width) (len : ℕ) → any_of s ≡ Ok (w, len) → IsWritten w s × (len ≡ written_len s)
   any_written w len h =
       let minus : Bool = (front_of s).minus in
       let base : ℕ = (front_of s).base in

@@ -1,4 +1,6 @@
 -- The call `integer` on byte literals: accepted exactly where one stands and u8 is asked for, 27 exactly where another width is. Assumes nothing.
+use Rattle.std.proofs.Common.{Ok, Err}
+use Rattle.text.specs.Refusals.{Told}
 use Prim.Native.Nat.{ℕ, ◌+◌, ◌-◌}
 use native.Mathlib.Omega.{arith}
 use mathlib.Core.Bool.{true, false}
@@ -8,7 +10,7 @@ use mathlib.Core.Path.{◌≡◌, ap, refl, subst, sym, ◌∙◌}
 use lib.ListN.{drop}
 use lib.Seq.{drop-drop}
 use Rattle.text.proofs.Choices.{either}
-use Rattle.text.specs.Refusals.{accepted, refused, other_kind}
+use Rattle.text.specs.Refusals.{other_kind}
 use Rattle.text.specs.Words.{starts_with}
 use Rattle.integers.specs.declared.integer.Integer.{Integer}
 use Rattle.integers.specs.declared.integer.Value.{Value}
@@ -19,7 +21,6 @@ use Rattle.quoted.specs.Literals.{ByteAt}
 use Rattle.quoted.specs.Literals.ByteAt.{itself, escaped}
 use Rattle.strings.proofs.Bounds.{Bounded-byte, byte_bounded}
 use Rattle.strings.specs.Chars.{byte_of}
-use Rattle.strings.specs.declared.chars.ByteAnswer.TheVariants as byte
 use Rattle.sarridok.specs.Typed.{Typed, byte_as, integer_at, integer_of, placed_at, told_integer}
 use Rattle.written.specs.Accepted.{ByteAccepted}
 use Rattle.written.specs.Refused.{OtherByte, OtherWidth, Placed}
@@ -36,12 +37,12 @@ literal_begins (escaped e) = refl
 
 -- a number and the place behind it
 typed_is : (t : Typed) (b n place : ℕ) → t.number ≡ record { minus = false; magnitude = b } → place + n ≡ t.end
-    → accepted (record { number = record { minus = false; magnitude = b }; end = place + n }) ≡ accepted t
+    → ◌≡◌ {A = Told _} (Ok (record { number = record { minus = false; magnitude = b }; end = place + n })) (Ok t)
 typed_is t b n place e l =
-    ap (λ (v : Value). accepted (record { number = v; end = place + n })) (sym e) ∙ ap (λ (k : ℕ). accepted (record { number = t.number; end = k })) l
+    ap (λ (v : Value). Ok (record { number = v; end = place + n })) (sym e) ∙ ap (λ (k : ℕ). Ok (record { number = t.number; end = k })) l
 
 module _ (text : List ℕ) (place : ℕ) (width : Width) where
-  pub accepted_literal : (t : Typed) → byte_literal (drop place text) ≡ true → integer_of text place width ≡ accepted t → ByteAccepted width text place t
+  pub accepted_literal : (t : Typed) → byte_literal (drop place text) ≡ true → integer_of text place width ≡ Ok t → ByteAccepted width text place t
   accepted_literal t b h =
       let s : List ℕ = drop place text in
       let o = own_accepted text place width t h in
@@ -60,7 +61,7 @@ module _ (text : List ℕ) (place : ℕ) (width : Width) where
         literal = subst (ByteAt s q.0) e c.1;
       }
 
-  pub literal_accepted : (t : Typed) → ByteAccepted width text place t → integer_of text place width ≡ accepted t
+  pub literal_accepted : (t : Typed) → ByteAccepted width text place t → integer_of text place width ≡ Ok t
   literal_accepted t a =
       let s : List ℕ = drop place text in
       let n : ℕ = t.end - place in
@@ -69,11 +70,11 @@ module _ (text : List ℕ) (place : ℕ) (width : Width) where
       let r = (byte_exactly s n a.byte).1 (omega (arith, a.inside, ends_at text place a.placed), subst (ByteAt s a.byte) e a.literal) in
       own_answer text place width a.placed
       ∙ ap (λ (i : Integer). told_integer (placed_at place i))
-      (byte_at width s (literal_begins a.literal) ∙ ap (byte_as width) r ∙ ap (λ (w : Width). byte_as w (byte.Read n a.byte)) a.width_is)
+      (byte_at width s (literal_begins a.literal) ∙ ap (byte_as width) r ∙ ap (λ (w : Width). byte_as w (Ok (n, a.byte))) a.width_is)
       ∙ typed_is t a.byte n place a.number_is l
 
   -- a byte literal is accepted exactly as u8, with its byte and the place behind it
-  pub byte_literal_exactly : (t : Typed) → byte_literal (drop place text) ≡ true → (integer_of text place width ≡ accepted t) ↔ ByteAccepted width text place t
+  pub byte_literal_exactly : (t : Typed) → byte_literal (drop place text) ≡ true → (integer_of text place width ≡ Ok t) ↔ ByteAccepted width text place t
   byte_literal_exactly t b = (accepted_literal t b, literal_accepted t)
 
   other_literal : Placed text place → OtherThanU8 width (drop place text) → OtherByte width text place
@@ -87,7 +88,7 @@ module _ (text : List ℕ) (place : ℕ) (width : Width) where
       record { begins = literal_begins o.literal; value = o.byte; len = r.0; read = r.3; differs = o.differs }
 
   -- 27 exactly where a number is written with the suffix of another width, or a byte literal stands and another width than u8 is asked for
-  pub integer_27 : (integer_of text place width ≡ refused other_kind) ↔ (OtherWidth width text place ⊎ OtherByte width text place)
+  pub integer_27 : (integer_of text place width ≡ Err other_kind) ↔ (OtherWidth width text place ⊎ OtherByte width text place)
   integer_27 = (
     (λ h. either ((other-kind text place width).0 h) inl (λ x. inr (other_literal x.0 x.1))),
     (λ h. (other-kind text place width).1 (either h inl (λ o. inr (o.placed, literal_other o)))),

@@ -1,6 +1,8 @@
 -- A byte literal is refused with 6 exactly where it is cut off, at the end of the text, and else with 13 or 15. Assumes nothing.
 --     byte-says     what a refused byte literal says
 --     cut-byte      a byte literal that is cut off is refused with 6
+use Rattle.std.proofs.Common.{Ok, Err}
+use Rattle.text.specs.Refusals.{Told}
 use Prim.Native.Nat.{ℕ, zero, suc, ◌+◌, ◌*◌, ◌<◌, ◌≤◌}
 use native.Mathlib.Omega.{arith}
 use mathlib.Core.Bool.{Bool, true, false, true≢false, ◌&&◌}
@@ -23,8 +25,6 @@ use Rattle.escapes.specs.declared.answers.Mode.TheVariants.{Bytes}
 use Rattle.escapes.specs.declared.answers.EscapeAnswer.{EscapeAnswer}
 use Rattle.escapes.specs.declared.answers.EscapeAnswer.TheVariants.{Ascii, Utf8, Refused}
 use Rattle.strings.specs.Chars.{by_byte_escape, byte_ends, byte_of}
-use Rattle.strings.specs.declared.chars.ByteAnswer.{ByteAnswer}
-use Rattle.strings.specs.declared.chars.ByteAnswer.TheVariants.{Read as ReadByte, Refused as NoByte}
 use Rattle.written.specs.Refused.{CutByte, CutEscape}
 use Rattle.written.specs.Refused.CutByte.{no_byte, in_escape}
 use Rattle.written.specs.Refused.CutEscape.{no_letter, no_digits, one_digit, not_closed}
@@ -118,9 +118,9 @@ escape_says (b ∷ t) =
 -- ---- what a refused byte literal says
 
 -- 6 at the end, where it is cut off, or 13 or 15
-abbrev Says-byte : List ℕ → ByteAnswer → Type 0
-Says-byte s (ReadByte n b) = Unit {0}
-Says-byte s (NoByte r) = (CutByte s × (r ≡ eof (length s))) ⊎ ((13 ≤ r.number) × (r.number ≤ 15))
+abbrev Says-byte : List ℕ → Told (ℕ × ℕ) → Type 0
+Says-byte s (Ok (n, b)) = Unit {0}
+Says-byte s (Err r) = (CutByte s × (r ≡ eof (length s))) ⊎ ((13 ≤ r.number) × (r.number ≤ 15))
 
 ends_say : (s : List ℕ) (at b : ℕ) → Says-byte s (byte_ends s at b)
 unfolding byte_ends
@@ -137,7 +137,7 @@ byte_rest : (s : List ℕ) → Says-byte (0x62 ∷ 0x27 ∷ s) (byte_of (0x62 �
 unfolding byte_of
 byte_rest [] = inl (no_byte, refl)
 byte_rest (c ∷ t) =
-    let S : ByteAnswer → Type 0 = Says-byte (0x62 ∷ 0x27 ∷ c ∷ t) in
+    let S : Told (ℕ × ℕ) → Type 0 = Says-byte (0x62 ∷ 0x27 ∷ c ∷ t) in
     rw (ne_eqb (length (0x62 ∷ 0x27 ∷ c ∷ t)) 2 (λ z. omega arith))
     (cond_cases S (eqb c 0x5C) _ _
     (λ p. by-escape (0x62 ∷ 0x27 ∷ c ∷ t) (length t) (CutEscape t) (escape_of Bytes t)
@@ -155,7 +155,7 @@ begins_byte (a ∷ b ∷ t) h =
     (t, ap (λ (x : ℕ). x ∷ b ∷ t) (eqb-true a 0x62 p.0) ∙ ap (λ (x : ℕ). 0x62 ∷ x ∷ t) (eqb-true b 0x27 q.0))
 
 -- what a refused byte literal says
-pub byte_says : (s : List ℕ) (r : Refusal) → byte_literal s ≡ true → byte_of s ≡ NoByte r → (CutByte s × (r ≡ eof (length s))) ⊎ ((13 ≤ r.number) × (r.number ≤ 15))
+pub byte_says : (s : List ℕ) (r : Refusal) → byte_literal s ≡ true → byte_of s ≡ Err r → (CutByte s × (r ≡ eof (length s))) ⊎ ((13 ≤ r.number) × (r.number ≤ 15))
 byte_says s r h e =
     let p = begins_byte s h in
     subst (Says-byte s) e (subst (λ (u : List ℕ). Says-byte u (byte_of u)) (sym p.1) (byte_rest p.0))
@@ -186,12 +186,12 @@ escape_cut s (not_closed {v = v} {ds = ds} h l) =
     digits_cut ds 6 0 v 2 h l ∙ ap (λ (p : ℕ). Refused (eof p)) e
 
 -- a byte literal that is cut off is refused with 6, at the end
-pub cut_byte : (s : List ℕ) → CutByte s → byte_of s ≡ NoByte (eof (length s))
+pub cut_byte : (s : List ℕ) → CutByte s → byte_of s ≡ Err (eof (length s))
 unfolding byte_of
 cut_byte s no_byte = refl
 cut_byte s (in_escape {s = t} c) =
     let e : 3 + length t ≡ length (0x62 ∷ 0x27 ∷ 0x5C ∷ t) = omega arith in
-    rw (ne_eqb (length (0x62 ∷ 0x27 ∷ 0x5C ∷ t)) 2 (λ z. omega arith), escape_cut t c) (ap (λ (p : ℕ). NoByte (eof p)) e)
+    rw (ne_eqb (length (0x62 ∷ 0x27 ∷ 0x5C ∷ t)) 2 (λ z. omega arith), escape_cut t c) (ap (λ (p : ℕ). Err (eof p)) e)
 
 -- and begins as one
 pub cut_begins : (s : List ℕ) → CutByte s → byte_literal s ≡ true

@@ -1,4 +1,5 @@
 -- The call `integer` accepts exactly what is written at the place in the width asked for, and byte literals as u8 (specs/Accepted.antt). Assumes nothing.
+use Rattle.std.proofs.Common.{Ok}
 use Prim.Native.Nat.{ℕ, ◌+◌}
 use mathlib.Core.Bool.{false}
 use mathlib.Core.List.{List}
@@ -6,7 +7,6 @@ use mathlib.Core.Logic.{◌↔◌, ◌⊎◌, inl, inr}
 use mathlib.Core.Path.{◌≡◌, ap, sym, ◌∙◌}
 use lib.ListN.{drop}
 use Rattle.text.proofs.Choices.{bool_cases, either}
-use Rattle.text.specs.Refusals.{accepted}
 use Rattle.integers.specs.Front.{front_of}
 use Rattle.integers.specs.Integer.{number_read}
 use Rattle.integers.specs.declared.integer.Integer.{Integer}
@@ -25,7 +25,7 @@ same_read : (i : Integer) (v w : Value) (m n : ℕ) → i ≡ integer.Read v m �
 same_read i v w m n e f = (cc, cc)
 
 module _ (text : List ℕ) (place : ℕ) (width : Width) (t : Typed) where
-  accepted_number : byte_literal (drop place text) ≡ false → integer_of text place width ≡ accepted t → NumberAccepted width text place t
+  accepted_number : byte_literal (drop place text) ≡ false → integer_of text place width ≡ Ok t → NumberAccepted width text place t
   accepted_number b h =
       let s : List ℕ = drop place text in
       let o = own_accepted text place width t h in
@@ -34,15 +34,15 @@ module _ (text : List ℕ) (place : ℕ) (width : Width) (t : Typed) where
       let q = same_read (integer_at width s) t.number (number_read (front_of s).minus (magnitude_in s)) p.0 (written_len s) p.1 (written_at width s w) in
       record { placed = o.0; written_is = w; number_is = q.0; end_is = p.2 ∙ ap (λ (n : ℕ). place + n) q.1 }
 
-  number_accepted : NumberAccepted width text place t → integer_of text place width ≡ accepted t
+  number_accepted : NumberAccepted width text place t → integer_of text place width ≡ Ok t
   number_accepted a =
       let s : List ℕ = drop place text in
       front_answered text place width (number_read (front_of s).minus (magnitude_in s)) (written_len s) a.placed.fit a.placed.place-fits (written_at width s a.written_is)
-      ∙ ap (λ (v : Value). accepted (record { number = v; end = place + written_len s })) (sym a.number_is)
-      ∙ ap (λ (n : ℕ). accepted (record { number = t.number; end = n })) (sym a.end_is)
+      ∙ ap (λ (v : Value). Ok (record { number = v; end = place + written_len s })) (sym a.number_is)
+      ∙ ap (λ (n : ℕ). Ok (record { number = t.number; end = n })) (sym a.end_is)
 
   -- what is accepted is a number that is written, or a byte literal
-  pub integer_accepted : (integer_of text place width ≡ accepted t) ↔ (NumberAccepted width text place t ⊎ ByteAccepted width text place t)
+  pub integer_accepted : (integer_of text place width ≡ Ok t) ↔ (NumberAccepted width text place t ⊎ ByteAccepted width text place t)
   integer_accepted = (
     (λ h. either (bool_cases (byte_literal (drop place text))) (λ b. inr (accepted_literal text place width t b h)) (λ b. inl (accepted_number b h))),
     (λ x. either x (λ a. number_accepted a) (λ a. literal_accepted text place width t a)),

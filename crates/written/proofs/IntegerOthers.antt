@@ -1,4 +1,6 @@
 -- The call `integer` is refused with 6 and 27 exactly in their cases (specs/Refused.antt). Assumes nothing.
+use Rattle.std.proofs.Common.{Ok, Err}
+use Rattle.text.specs.Refusals.{Told}
 use Prim.Native.Nat.{ℕ, ◌+◌}
 use native.Mathlib.Omega.{arith}
 use mathlib.Core.Bool.{true, false, true≢false}
@@ -9,7 +11,7 @@ use lib.Dec.{eqb}
 use lib.ListN.{drop, length}
 use borrow.Author.Tests.{eq-eqb, ne_eqb}
 use Rattle.text.proofs.Choices.{bool_cases, either}
-use Rattle.text.specs.Refusals.{accepted, refused, eof, other_kind}
+use Rattle.text.specs.Refusals.{eof, other_kind}
 use Rattle.text.specs.Words.{starts_with}
 use Rattle.text.specs.declared.refusal.Refusal.{Refusal}
 use Rattle.digits.specs.declared.Run.{Run}
@@ -64,21 +66,21 @@ module _ (text : List ℕ) (place : ℕ) (width : Width) where
   empty_literal [] e = refl
   empty_literal (a ∷ s) e = absurd (omega arith)
 
-  ends_eof : (d : Placed text place) → (place ≡ length text) ⊎ CutByte (drop place text) → integer_of text place width ≡ refused (eof (length text))
+  ends_eof : (d : Placed text place) → (place ≡ length text) ⊎ CutByte (drop place text) → integer_of text place width ≡ Err (eof (length text))
   ends_eof d (inl e) =
       let s : List ℕ = drop place text in
       let z : length s ≡ 0 = omega (arith, ends_at text place d) in
-      placed_as d (integer.Refused (eof 0)) (at_front width s (empty_literal s z) ∙ typed_end width s (eq-eqb (length s) 0 z)) ∙ ap (λ (p : ℕ). refused (eof p)) (omega arith)
+      placed_as d (integer.Refused (eof 0)) (at_front width s (empty_literal s z) ∙ typed_end width s (eq-eqb (length s) 0 z)) ∙ ap (λ (p : ℕ). Err (eof p)) (omega arith)
   ends_eof d (inr c) =
       let s : List ℕ = drop place text in
       placed_as d (integer.Refused (eof (length s))) (byte_at width s (cut_begins s c) ∙ ap (byte_as width) (cut_byte s c))
-      ∙ ap (λ (p : ℕ). refused (eof p)) (ends_at text place d)
+      ∙ ap (λ (p : ℕ). Err (eof p)) (ends_at text place d)
 
   -- 6 exactly at the end of the text, and where a byte literal is cut off
-  pub integer_6 : (p : ℕ) → (integer_of text place width ≡ refused (eof p)) ↔ TextEnds text place p
+  pub integer_6 : (p : ℕ) → (integer_of text place width ≡ Err (eof p)) ↔ TextEnds text place p
   integer_6 p = (
     (λ h. let f = refused_from text place width (eof p) (omega arith) (omega arith) h in six_from p f.0 f.1),
-    (λ e. ends_eof e.placed e.ends ∙ ap (λ (q : ℕ). refused (eof q)) (sym e.place_is)),
+    (λ e. ends_eof e.placed e.ends ∙ ap (λ (q : ℕ). Err (eof q)) (sym e.place_is)),
   )
 
   -- ---- 27
@@ -91,11 +93,11 @@ module _ (text : List ℕ) (place : ℕ) (width : Width) where
       (λ p. (p, λ z. true≢false (sym (simp (p, eq-eqb found asked z) at e))))
 
   -- a digit run that comes to 27 reads, and another suffix stands behind it
-  kind_run : (k : Run) → answered text place width k ≡ refused other_kind → (v : ℕ) × (k ≡ Value v) × (other_suffix (suffix_in (drop place text)).code (code_of width) ≡ true)
+  kind_run : (k : Run) → answered text place width k ≡ Err other_kind → (v : ℕ) × (k ≡ Value v) × (other_suffix (suffix_in (drop place text)).code (code_of width) ≡ true)
   kind_run (Value v) h =
       either (bool_cases (other_suffix (suffix_in (drop place text)).code (code_of width)))
       (λ p. (v, refl, p))
-      (λ p. let q : accepted (record { number = number_read (front_of (drop place text)).minus v; end = place + written_len (drop place text) }) ≡ refused other_kind = rw p at h in
+      (λ p. let q : ◌≡◌ {A = Told _} (Ok (record { number = number_read (front_of (drop place text)).minus v; end = place + written_len (drop place text) })) (Err other_kind) = rw p at h in
       let z : ◌≡◌ {A = ℕ} 0 1 = cc in absurd (omega arith))
   kind_run Empty h = absurd (omega (arith, ap (λ (r : Refusal). r.number) (run_refused text place width Empty other_kind h)))
   kind_run Underscore h = absurd (omega (arith, ap (λ (r : Refusal). r.number) (run_refused text place width Underscore other_kind h)))
@@ -103,7 +105,7 @@ module _ (text : List ℕ) (place : ℕ) (width : Width) where
   kind_run Over h = absurd (omega (arith, ap (λ (r : Refusal). r.number) (run_refused text place width Over other_kind h)))
 
   -- and so the number is written with the suffix of another width
-  kind_digits : Asked text place → answered text place width (run_here width (drop place text)) ≡ refused other_kind → OtherWidth width text place
+  kind_digits : Asked text place → answered text place width (run_here width (drop place text)) ≡ Err other_kind → OtherWidth width text place
   kind_digits a h =
       let s : List ℕ = drop place text in
       let code : ℕ = (suffix_in s).code in
@@ -125,7 +127,7 @@ module _ (text : List ℕ) (place : ℕ) (width : Width) where
       }
 
   -- a number with the suffix of another width is of another kind
-  other_width : OtherWidth width text place → integer_of text place width ≡ refused other_kind
+  other_width : OtherWidth width text place → integer_of text place width ≡ Err other_kind
   other_width o =
       let s : List ℕ = drop place text in
       let w : Width = o.other in
@@ -137,7 +139,7 @@ module _ (text : List ℕ) (place : ℕ) (width : Width) where
       asked_answer text place width o.asked (Value (magnitude_in s)) run ∙ rw (some, differs)
 
   -- a byte literal is so for another width than u8
-  other_byte_kind : Placed text place → OtherThanU8 width (drop place text) → integer_of text place width ≡ refused other_kind
+  other_byte_kind : Placed text place → OtherThanU8 width (drop place text) → integer_of text place width ≡ Err other_kind
   other_byte_kind d o =
       let s : List ℕ = drop place text in
       placed_as d integer.OtherSuffix
@@ -151,7 +153,7 @@ module _ (text : List ℕ) (place : ℕ) (width : Width) where
   kind_from d (digits a e) = inl (kind_digits a (sym (at_run text place width a) ∙ e))
 
   -- 27 is for another suffix, or for a byte literal
-  pub other-kind : (integer_of text place width ≡ refused other_kind) ↔ (OtherWidth width text place ⊎ (Placed text place × OtherThanU8 width (drop place text)))
+  pub other-kind : (integer_of text place width ≡ Err other_kind) ↔ (OtherWidth width text place ⊎ (Placed text place × OtherThanU8 width (drop place text)))
   other-kind = (
     (λ h. let f = refused_from text place width other_kind (omega arith) (omega arith) h in kind_from f.0 f.1),
     (λ x. either x (λ a. other_width a) (λ b. other_byte_kind b.0 b.1)),

@@ -1,11 +1,12 @@
 -- The call `integer` is refused with 6, 7, 8, 9, 10 and 27 exactly in their cases (specs/Refused.antt). Assumes nothing.
+use Rattle.std.proofs.Common.{Err}
 use Prim.Native.Nat.{ℕ, ◌+◌}
 use native.Mathlib.Omega.{arith}
 use mathlib.Core.List.{List}
 use mathlib.Core.Logic.{◌↔◌}
 use mathlib.Core.Path.{◌≡◌, ap, refl, sym, ◌∙◌}
 use lib.ListN.{drop}
-use Rattle.text.specs.Refusals.{refused, expected_integer, integer_out_of_bounds, invalid_integer_digit, underscore_at_beginning}
+use Rattle.text.specs.Refusals.{expected_integer, integer_out_of_bounds, invalid_integer_digit, underscore_at_beginning}
 use Rattle.text.specs.declared.refusal.Refusal.{Refusal}
 use Rattle.digits.specs.declared.Run.{Run}
 use Rattle.digits.specs.declared.Run.TheVariants.{Value, Empty, Underscore, NotDigit, Over}
@@ -33,7 +34,7 @@ module _ (text : List ℕ) (place : ℕ) (width : Width) (p : ℕ) where
   seven_run Over e = apart _ _ e (λ z. omega arith)
 
   -- 7 exactly where no digit stands
-  pub integer_7 : (integer_of text place width ≡ refused (expected_integer p)) ↔ NoDigits text place p
+  pub integer_7 : (integer_of text place width ≡ Err (expected_integer p)) ↔ NoDigits text place p
   integer_7 =
       let s : List ℕ = drop place text in
       let w : Width = judged_width width s in
@@ -42,7 +43,7 @@ module _ (text : List ℕ) (place : ℕ) (width : Width) (p : ℕ) where
             let d = refused_digits text place width (expected_integer p) (omega arith) (omega arith) h in
             let k = seven_run (run_here width s) d.1 in
             record { asked = d.0; none = exactly.0 k.0; place_is = k.1 }),
-        (λ n. asked_answer text place width n.asked Empty (exactly.1 n.none) ∙ ap (λ (q : ℕ). refused (expected_integer q)) (sym n.place_is)),
+        (λ n. asked_answer text place width n.asked Empty (exactly.1 n.none) ∙ ap (λ (q : ℕ). Err (expected_integer q)) (sym n.place_is)),
       )
 
   -- ---- 8
@@ -55,7 +56,7 @@ module _ (text : List ℕ) (place : ℕ) (width : Width) (p : ℕ) where
   eight_run Over e = apart _ _ e (λ z. omega arith)
 
   -- 8 exactly where an underscore stands in front
-  pub integer_8 : (integer_of text place width ≡ refused (underscore_at_beginning p)) ↔ UnderscoreFirst text place p
+  pub integer_8 : (integer_of text place width ≡ Err (underscore_at_beginning p)) ↔ UnderscoreFirst text place p
   integer_8 =
       let s : List ℕ = drop place text in
       let w : Width = judged_width width s in
@@ -66,7 +67,7 @@ module _ (text : List ℕ) (place : ℕ) (width : Width) (p : ℕ) where
             record { asked = d.0; underscore = exactly.0 k.0; place_is = k.1 }),
         (λ n.
             let e : place + ((front_of s).end + 0) ≡ p = omega (arith, n.place_is) in
-            asked_answer text place width n.asked Underscore (exactly.1 n.underscore) ∙ ap (λ (q : ℕ). refused (underscore_at_beginning q)) e),
+            asked_answer text place width n.asked Underscore (exactly.1 n.underscore) ∙ ap (λ (q : ℕ). Err (underscore_at_beginning q)) e),
       )
 
   -- ---- 9
@@ -79,7 +80,7 @@ module _ (text : List ℕ) (place : ℕ) (width : Width) (p : ℕ) where
   nine_run Over e = apart _ _ e (λ z. omega arith)
 
   -- 9 exactly where a digit is not below the base
-  pub integer_9 : (integer_of text place width ≡ refused (invalid_integer_digit p)) ↔ DigitTooHigh width text place p
+  pub integer_9 : (integer_of text place width ≡ Err (invalid_integer_digit p)) ↔ DigitTooHigh width text place p
   integer_9 =
       let s : List ℕ = drop place text in
       let w : Width = judged_width width s in
@@ -88,7 +89,7 @@ module _ (text : List ℕ) (place : ℕ) (width : Width) (p : ℕ) where
             let d = refused_digits text place width (invalid_integer_digit p) (omega arith) (omega arith) h in
             let k = nine_run (run_here width s) d.1 in
             record { asked = d.0; nth = k.0; not_below = (exactly k.0).0 k.1; place_is = k.2 }),
-        (λ n. asked_answer text place width n.asked (NotDigit n.nth) ((exactly n.nth).1 n.not_below) ∙ ap (λ (q : ℕ). refused (invalid_integer_digit q)) (sym n.place_is)),
+        (λ n. asked_answer text place width n.asked (NotDigit n.nth) ((exactly n.nth).1 n.not_below) ∙ ap (λ (q : ℕ). Err (invalid_integer_digit q)) (sym n.place_is)),
       )
 
   -- ---- 10
@@ -101,7 +102,7 @@ module _ (text : List ℕ) (place : ℕ) (width : Width) (p : ℕ) where
   ten_run Over e = (refl, ap (λ (r : Refusal). r.place) e)
 
   -- 10 exactly where the digits pass the limit
-  pub integer_10 : (integer_of text place width ≡ refused (integer_out_of_bounds p)) ↔ OutOfBounds width text place p
+  pub integer_10 : (integer_of text place width ≡ Err (integer_out_of_bounds p)) ↔ OutOfBounds width text place p
   integer_10 =
       let s : List ℕ = drop place text in
       let w : Width = judged_width width s in
@@ -111,5 +112,5 @@ module _ (text : List ℕ) (place : ℕ) (width : Width) (p : ℕ) where
             let k = ten_run (run_here width s) d.1 in
             let x = exactly.0 k.0 in
             record { asked = d.0; nth = x.0; passes = x.1; behind = k.1 }),
-        (λ n. asked_answer text place width n.asked Over (exactly.1 (n.nth, n.passes)) ∙ ap (λ (q : ℕ). refused (integer_out_of_bounds q)) (sym n.behind)),
+        (λ n. asked_answer text place width n.asked Over (exactly.1 (n.nth, n.passes)) ∙ ap (λ (q : ℕ). Err (integer_out_of_bounds q)) (sym n.behind)),
       )

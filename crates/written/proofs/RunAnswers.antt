@@ -1,4 +1,5 @@
 -- What the call `integer` answers where a number may be asked for is decided by its digit run, and a refusal with 7 to 10 is that of the run. Assumes nothing.
+use Rattle.std.proofs.Common.{Ok, Err}
 use Prim.Native.Nat.{ℕ, ◌+◌, ◌≤◌}
 use native.Mathlib.Omega.{arith}
 use mathlib.Core.Bool.{Bool}
@@ -8,7 +9,7 @@ use lib.Dec.{eqb}
 use lib.ListN.{drop, length, length-drop}
 use borrow.Author.Tests.{ne_eqb}
 use Rattle.text.proofs.Choices.{bool_cases, either}
-use Rattle.text.specs.Refusals.{Told, accepted, refused, expected_integer, integer_out_of_bounds, invalid_integer_digit, other_kind, underscore_at_beginning}
+use Rattle.text.specs.Refusals.{Told, expected_integer, integer_out_of_bounds, invalid_integer_digit, other_kind, underscore_at_beginning}
 use Rattle.text.specs.declared.refusal.Refusal.{Refusal}
 use Rattle.digits.specs.Digits.{run_of}
 use Rattle.digits.specs.declared.Run.{Run}
@@ -74,11 +75,11 @@ module _ (text : List ℕ) (place : ℕ) (width : Width) where
   asked_answer a k e =
       own_answer text place width a.placed ∙ ap (λ (i : Integer). told_integer (placed_at place i)) (at_front width (drop place text) a.no_byte) ∙ at_run a ∙ ap answered e
 
-  pub run_refused : (k : Run) (r : Refusal) → answered k ≡ refused r → r ≡ refusal_of k
+  pub run_refused : (k : Run) (r : Refusal) → answered k ≡ Err r → r ≡ refusal_of k
   run_refused (Value v) r h =
       either (bool_cases (other_suffix (suffix_in (drop place text)).code (code_of width)))
-      (λ p. let q : ◌≡◌ {A = Told Typed} (refused other_kind) (refused r) = rw p at h in cc)
-      (λ p. let q : accepted (record { number = number_read (front_of (drop place text)).minus v; end = place + written_len (drop place text) }) ≡ refused r = rw p at h in
+      (λ p. let q : ◌≡◌ {A = Told Typed} (Err other_kind) (Err r) = rw p at h in cc)
+      (λ p. let q : ◌≡◌ {A = Told _} (Ok (record { number = number_read (front_of (drop place text)).minus v; end = place + written_len (drop place text) })) (Err r) = rw p at h in
       let z : ◌≡◌ {A = ℕ} 0 1 = cc in absurd (omega arith))
   run_refused Empty r h = cc
   run_refused Underscore r h =
@@ -96,5 +97,5 @@ module _ (text : List ℕ) (place : ℕ) (width : Width) where
   from_digits r l h (digits a e) = (a, run_refused (run_here width (drop place text)) r (sym (at_run a) ∙ e))
 
   -- 7 to 10 are of the digit run
-  pub refused_digits : (r : Refusal) → 7 ≤ r.number → r.number ≤ 10 → integer_of text place width ≡ refused r → Asked text place × (r ≡ refusal_of (run_here width (drop place text)))
+  pub refused_digits : (r : Refusal) → 7 ≤ r.number → r.number ≤ 10 → integer_of text place width ≡ Err r → Asked text place × (r ≡ refusal_of (run_here width (drop place text)))
   refused_digits r l h e = from_digits r l h (refused_from text place width r (omega arith) (omega arith) e).1

@@ -1,4 +1,6 @@
 -- The number that `integer` accepts is the one that is written, and what is written is accepted. Assumes nothing.
+use Rattle.std.proofs.Common.{Ok, Err}
+use Rattle.text.specs.Refusals.{Told}
 use Prim.Native.Nat.{ℕ, zero, suc, ◌+◌}
 use native.Mathlib.Omega.{arith}
 use mathlib.Core.Bool.{Bool, true, false}
@@ -26,8 +28,6 @@ use Rattle.integers.specs.Range.{Reads, signed_of}
 use Rattle.integers.specs.Width.{code_of, limit_at, limit_of, suffix_of, width_at}
 use Rattle.integers.specs.declared.ident.Found.{Found}
 use Rattle.integers.specs.declared.integer.Integer.TheVariants as integer
-use Rattle.integers.specs.declared.integer.Numeral.{Numeral}
-use Rattle.integers.specs.declared.integer.Numeral.TheVariants as numeral
 use Rattle.integers.specs.declared.integer.Value.{Value as Number}
 use Rattle.integers.specs.declared.width.Width.{Width}
 use Rattle.integers.specs.declared.width.Width.TheVariants.{I8, I16, I32, I64, U8, U16, U32, U64}
@@ -85,7 +85,7 @@ pub record Read-numeral (found end : ℕ) (r : Run) (v code to : ℕ) : Type 0 w
   pub code_is : found ≡ code
   pub end_is : end ≡ to
 
-by_run : (found end : ℕ) (r : Run) (v code to : ℕ) → behind_run found end r ≡ numeral.Read v code to → Read-numeral found end r v code to
+by_run : (found end : ℕ) (r : Run) (v code to : ℕ) → behind_run found end r ≡ Ok (v, code, to) → Read-numeral found end r v code to
 by_run found end (Value m) v code to h = record { run_is = cc; code_is = cc; end_is = cc }
 by_run found end Empty v code to h = let z : ◌≡◌ {A = ℕ} 0 1 = cc in absurd (omega arith)
 by_run found end Underscore v code to h = let z : ◌≡◌ {A = ℕ} 0 1 = cc in absurd (omega arith)
@@ -93,7 +93,7 @@ by_run found end (NotDigit at) v code to h = let z : ◌≡◌ {A = ℕ} 0 1 = c
 by_run found end Over v code to h = let z : ◌≡◌ {A = ℕ} 0 1 = cc in absurd (omega arith)
 
 module _ (asked : ℕ) (minus : Bool) (base : ℕ) (t : List ℕ) where
-  pub numeral_read : (v code to : ℕ) → numeral_of asked minus base t ≡ numeral.Read v code to
+  pub numeral_read : (v code to : ℕ) → numeral_of asked minus base t ≡ Ok (v, code, to)
       → Read-numeral (suffix_of (drop (run int_char t) t)).code (length (take (run int_char t) t) + (suffix_of (drop (run int_char t) t)).end)
       (run_of (limit_at (chosen_of (suffix_of (drop (run int_char t) t)).code asked) minus) base (take (run int_char t) t)) v code to
   unfolding numeral_of
@@ -105,23 +105,23 @@ module _ (asked : ℕ) (minus : Bool) (base : ℕ) (t : List ℕ) where
 -- ---- a typed read
 
 -- what was read of a numeral
-record Read-typed (asked : ℕ) (minus : Bool) (at : ℕ) (n : Numeral) (number : Number) (len : ℕ) : Type 0 where
+record Read-typed (asked : ℕ) (minus : Bool) (at : ℕ) (n : Told (ℕ × ℕ × ℕ)) (number : Number) (len : ℕ) : Type 0 where
   value : ℕ
   code : ℕ
   to : ℕ
-  numeral_is : n ≡ numeral.Read value code to
+  numeral_is : n ≡ Ok (value, code, to)
   own : (code ≡ 0) ⊎ (code ≡ asked)
   number_is : number_read minus value ≡ number
   len_is : at + to ≡ len
 
-typed_read : (asked : ℕ) (minus : Bool) (at : ℕ) (n : Numeral) (number : Number) (len : ℕ) → typed_as asked minus at n ≡ integer.Read number len
+typed_read : (asked : ℕ) (minus : Bool) (at : ℕ) (n : Told (ℕ × ℕ × ℕ)) (number : Number) (len : ℕ) → typed_as asked minus at n ≡ integer.Read number len
     → Read-typed asked minus at n number len
-typed_read asked minus at (numeral.Read v code to) number len h =
+typed_read asked minus at (Ok (v, code, to)) number len h =
     either (bool_cases (other_suffix code asked))
     (λ p. let q : integer.OtherSuffix ≡ integer.Read number len = rw p at h in let z : ◌≡◌ {A = ℕ} 0 1 = cc in absurd (omega arith))
     (λ p. let q : integer.Read (number_read minus v) (at + to) ≡ integer.Read number len = rw p at h in
     record { value = v; code = code; to = to; numeral_is = refl; own = own_suffix code asked p; number_is = cc; len_is = cc })
-typed_read asked minus at (numeral.Refused r) number len h = let z : ◌≡◌ {A = ℕ} 0 1 = cc in absurd (omega arith)
+typed_read asked minus at (Err r) number len h = let z : ◌≡◌ {A = ℕ} 0 1 = cc in absurd (omega arith)
 
 module _ (width : Width) (s : List ℕ) where
   behind_end : (number : Number) (len : ℕ) → typed_of width s ≡ integer.Read number len

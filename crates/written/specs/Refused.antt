@@ -1,9 +1,9 @@
 -- When the call `integer` refuses (document 01, "Refusal numbers"), said plainly over the text and the number written: "6: text ends where a character is
 -- needed; end." "7: integer expected. 8: underscore in front. 9: digit not below the base. 10: out of bounds." "27: entry or suffix of another kind." "A
 -- suffix is skipped after a refusal, but not after 8 or 9." "With another suffix it is 27, and a byte literal is u8."
+use Rattle.std.specs.Prelude.{Ok}
 use Rattle.std.specs.Prelude.{ℕ, ◌+◌, ◌<◌, true, false, cond, List, [], ◌∷◌, ◌⊎◌, ◌≡◌, eqb, length, drop, get_or}
 use Rattle.text.specs.Judged.{judged_of, place_fits}
-use Rattle.text.specs.declared.judge.Judged.TheVariants.{Fit}
 use Rattle.hexes.specs.Hex.{hex_of}
 use Rattle.escaped.specs.Escape.{Hex}
 use Rattle.integers.specs.Front.{front_of}
@@ -16,7 +16,7 @@ use Rattle.written.specs.Written.{bits_of, byte_literal, digits_in, is_signed, m
 
 -- A sound text and a place in it that fits: what every call at a place asks first.
 pub record Placed (text : List ℕ) (place : ℕ) : Type 0 where
-  pub fit : judged_of text ≡ Fit
+  pub fit : judged_of text ≡ Ok tt
   pub place-fits : place_fits text place ≡ true
 
 -- Where a number may be asked for: a sound text, a fit place, no byte literal there, and not the end of the text.

@@ -1,6 +1,7 @@
 -- The number written at a place (document 01): "Typed integer at a place, in one of eight widths." "A typed read answers the value and the place behind
 -- it; with another suffix it is 27, and a byte literal is u8." Written are a sign, the prefix of a base, digits below the base with underscores between
 -- them, and a suffix.
+use Rattle.std.specs.Prelude.{Ok}
 use Rattle.std.specs.Prelude.{ℕ, ◌+◌, Bool, List, [], ◌∷◌, ◌⊎◌, ◌≡◌, ℤ, pos, length, take, drop}
 use Rattle.text.specs.Classes.{int_char}
 use Rattle.text.specs.Runs.{run}
@@ -13,7 +14,6 @@ use Rattle.integers.specs.declared.ident.Found.{Found}
 use Rattle.integers.specs.declared.width.Width.{Width}
 use Rattle.integers.specs.declared.width.Width.TheVariants.{U8}
 use Rattle.strings.specs.Chars.{byte_of}
-use Rattle.strings.specs.declared.chars.ByteAnswer.TheVariants.{Read}
 use Rattle.sarridok.specs.Typed.{Typed, signed_number}
 
 -- A width holds numbers below 0.
@@ -71,7 +71,7 @@ byte_literal s = starts_with (0x62 ∷ 0x27 ∷ []) s
 pub record AsByte (width : Width) (s : List ℕ) (place : ℕ) (t : Typed) : Type 0 where
   pub byte : ℕ
   pub len : ℕ
-  pub read : byte_of s ≡ Read len byte
+  pub read : byte_of s ≡ Ok (len, byte)
   pub width_is : width ≡ U8
   pub number_is : signed_number t.number ≡ pos byte
   pub end_is : t.end ≡ place + len

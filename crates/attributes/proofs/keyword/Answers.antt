@@ -1,7 +1,7 @@
+use Rattle.std.proofs.Common.{Err}
 use mathlib.Core.Path.{◌∙◌, ap, sym}
 use borrow.Author.Rules.{rules}
 use Rattle.attributes.specs.Attributes.{by_keyword, keyword_from}
-use Rattle.attributes.specs.declared.AttributeAnswer.TheVariants.{Refused}
 use Rattle.attributes.proofs.keyword.Goals as goal
 
 pub returns-in-Enable : goal.returns-in-Enable
@@ -14,4 +14,4 @@ returns-in-Text c = c.value.ensures ∙ ap (by_keyword c.args.s.now) (sym c.in-T
 
 pub returns-in-NoKeyword : goal.returns-in-NoKeyword
 unfolding keyword_from
-returns-in-NoKeyword c = ap Refused c.expected_attribute.ensures ∙ ap (by_keyword c.args.s.now) (sym c.in-NoKeyword.is ∙ c.keyword_at-found.ensures)
+returns-in-NoKeyword c = ap Err c.expected_attribute.ensures ∙ ap (by_keyword c.args.s.now) (sym c.in-NoKeyword.is ∙ c.keyword_at-found.ensures)

@@ -4,8 +4,6 @@ use Rattle.std.specs.declared.option.Option.{Option}
 use Rattle.std.specs.declared.option.Option.TheVariants.{Some, None}
 use Rattle.std.specs.declared.cmp.Ordering.{Ordering}
 use Rattle.std.specs.declared.cmp.Ordering.TheVariants.{Less, Equal, Greater}
-use Rattle.fields.specs.declared.again.Again.{Again}
-use Rattle.fields.specs.declared.again.Again.TheVariants.{At}
 use Rattle.fields.specs.inner.Again.{earlier, In, FirstIn}
 use Rattle.fields.specs.Names.{HasName}
 
@@ -41,10 +39,10 @@ pub record SameEntries (es fs : List ℕ) : Type 0 where
   pub none_lost : (x : ℕ) → In x es → In x fs
 
 -- Two fields of one name, of which the later repeats the other; one and the same field does not.
-unfoldable pub paired_of : Again → ℕ → ℕ → Again
-paired_of found x y = cond (ltb x y) (earlier found (At y)) (cond (ltb y x) (earlier found (At x)) found)
+unfoldable pub paired_of : Option ℕ → ℕ → ℕ → Option ℕ
+paired_of found x y = cond (ltb x y) (earlier found (Some y)) (cond (ltb y x) (earlier found (Some x)) found)
 
 -- What a look at neighbours tells is the first that repeats.
-pub data Tells (nm : ℕ → List ℕ) (es : List ℕ) : Option Again → Type 0 where
-  told : {a : Again} → FirstIn nm es a → Tells nm es (Some a)
+pub data Tells (nm : ℕ → List ℕ) (es : List ℕ) : Option (Option ℕ) → Type 0 where
+  told : {a : Option ℕ} → FirstIn nm es a → Tells nm es (Some a)
   unsorted : Tells nm es None

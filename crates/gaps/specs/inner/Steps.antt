@@ -1,10 +1,9 @@
 -- The steps of `pass_gap`, at places of the piece.
+use Rattle.std.specs.Prelude.{Some, None, Option}
 use Rattle.std.specs.Prelude.{ℕ, suc, List, drop, length}
 use Rattle.comments.specs.Blocks.{block_from}
 use Rattle.comments.specs.Gaps.{gap_from}
 use Rattle.comments.specs.Lines.{line_from}
-use Rattle.comments.specs.declared.block.CommentEnd.{CommentEnd}
-use Rattle.comments.specs.declared.block.CommentEnd.TheVariants.{Closed, Unclosed}
 use Rattle.comments.specs.declared.gap.Item.{Item}
 use Rattle.comments.specs.declared.gap.Item.TheVariants.{Blank, LineOpen, BlockOpen, Unexpected, Ended, Other}
 use Rattle.gaps.specs.Opens.{block_open, open_from}
@@ -18,9 +17,9 @@ use Rattle.gaps.specs.declared.step.Step.{Step}
 use Rattle.gaps.specs.declared.step.Step.TheVariants as step
 
 -- How far a block comment goes, by its end.
-abbrev pub rest_by : Open → CommentEnd → Result ℕ Open
-rest_by left (Closed n) = Ok n
-rest_by left Unclosed = Err left
+abbrev pub rest_by : Open → Option ℕ → Result ℕ Open
+rest_by left (Some n) = Ok n
+rest_by left None = Err left
 
 -- From the place i in a block comment with `level` others around it.
 unfoldable pub rest_of : List ℕ → ℕ → ℕ → Result ℕ Open
@@ -40,9 +39,9 @@ unfoldable pub clear_at : List ℕ → ℕ → Passed
 clear_at s i = passed_by (gap_from (drop i s) 0 i) (open_from (drop i s) 0) 0 (length s)
 
 -- Behind a comment, or in it.
-abbrev pub behind_end : List ℕ → Open → CommentEnd → Passed
-behind_end s left (Closed n) = clear_at s n
-behind_end s left Unclosed = passed.Within left
+abbrev pub behind_end : List ℕ → Open → Option ℕ → Passed
+behind_end s left (Some n) = clear_at s n
+behind_end s left None = passed.Within left
 
 -- From the place i in a line comment.
 unfoldable pub line_at : List ℕ → ℕ → Passed

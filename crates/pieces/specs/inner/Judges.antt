@@ -1,12 +1,12 @@
 -- What a byte decides, told as numbers: over the theory of crate arriving.
+use Rattle.std.specs.Prelude.{Ok, Err}
+use Rattle.text.specs.Refusals.{Told}
 use Rattle.std.specs.Prelude.{ℕ, ◌-◌, cond, List, eqb, drop, get_or, length}
 use Rattle.rows.specs.declared.Entry.{Entry}
 use Rattle.reading.specs.Readings.{end_of}
 use Rattle.arriving.specs.Arrivals.{Coming, Given, behind, decided, going, halted, shut}
 use Rattle.settled.specs.Bytes.{decides_byte}
 use Rattle.settled.specs.Settled.{ron_reader, ron_settles}
-use Rattle.read.specs.declared.scanned.Ending.{Ending}
-use Rattle.read.specs.declared.scanned.Ending.TheVariants.{Complete, Broken}
 use Rattle.read.specs.declared.scanned.Scanned.{Scanned}
 use Rattle.pieces.specs.declared.verdict.Verdict.{Verdict}
 use Rattle.pieces.specs.declared.verdict.Verdict.TheVariants.{Nothing, Gives, Shuts}
@@ -26,9 +26,9 @@ abbrev pub verdict_of : Given → Verdict
 verdict_of g = verdict_by g.entries g.next
 
 -- What the last byte of a part decides where no entry ends with it, by what the part holds.
-abbrev pub decided_by : Ending → List ℕ → Scanned → Verdict
-decided_by Complete part s = cond (decides_byte (get_or part (length part - 1) 0)) (gives_of s.count s.end) Nothing
-decided_by (Broken d) part s =
+abbrev pub decided_by : Told Unit → List ℕ → Scanned → Verdict
+decided_by (Ok tt) part s = cond (decides_byte (get_or part (length part - 1) 0)) (gives_of s.count s.end) Nothing
+decided_by (Err d) part s =
     cond (ron_settles (drop s.end part)) (Shuts s.count s.end d)
     (cond (decides_byte (get_or part (length part - 1) 0)) (gives_of s.count s.end) Nothing)
 

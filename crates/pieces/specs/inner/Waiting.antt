@@ -1,4 +1,6 @@
 -- The first byte that decides something of what has begun.
+use Rattle.std.specs.Prelude.{Ok, Err}
+use Rattle.text.specs.Refusals.{Told}
 use Rattle.std.specs.Prelude.{ℕ, ◌+◌, ◌-◌, Bool, true, false, cond, not, ◌&&◌, List, [], ◌∷◌, ◌++◌, eqb, leb, ltb, drop, length, take}
 use Rattle.text.specs.Runs.{run}
 use Rattle.reading.specs.Kept.{last_quiet}
@@ -8,8 +10,6 @@ use Rattle.arriving.specs.Arrivals.{taken}
 use Rattle.arriving.specs.Owing.{tells_end}
 use Rattle.settled.specs.Bytes.{decides_byte, stops_byte}
 use Rattle.settled.specs.Settled.{ron_reader}
-use Rattle.read.specs.declared.scanned.Ending.{Ending}
-use Rattle.read.specs.declared.scanned.Ending.TheVariants.{Broken, Complete}
 use Rattle.pieces.specs.inner.Judges.{judged_of, verdict_of}
 use Rattle.pieces.specs.inner.Scans.{scanned_of}
 use Rattle.pieces.specs.declared.verdict.Verdict.{Verdict}
@@ -63,9 +63,9 @@ abbrev pub behind_deciders : List ℕ → ℕ → ℕ
 behind_deciders part from = behind_last decides_byte part from
 
 -- The reading of a part was broken off by its end, or not at all.
-abbrev pub opens_end : Ending → Bool
-opens_end Complete = true
-opens_end (Broken d) = tells_end d
+abbrev pub opens_end : Told Unit → Bool
+opens_end (Ok tt) = true
+opens_end (Err d) = tells_end d
 
 -- Nothing is decided, and the last entry before what is refused ends there.
 abbrev pub no_leap : ℕ → Leapt
@@ -73,7 +73,7 @@ no_leap end = record { bytes = 0; verdict = Nothing; end = end }
 
 -- What the last deciding byte of a part says of all that has come, where no byte before it can have refused anything; else where the last entry ends before that
 -- refusal.
-abbrev pub leap_by : List ℕ → ℕ → Ending → Leapt
+abbrev pub leap_by : List ℕ → ℕ → Told Unit → Leapt
 leap_by part bytes ending = cond (opens_end ending) (record { bytes = bytes; verdict = judged_of (take bytes part); end = 0 }) (no_leap (scanned_of (take bytes part)).end)
 
 unfoldable pub leap_of : List ℕ → ℕ → Leapt

@@ -1,8 +1,9 @@
 -- What the inner steps of a repair come to: the search over the old entries, which only goes forward, and the rows that are moved and cleared.
+use Rattle.std.specs.Prelude.{Ok, Err}
 use Rattle.std.specs.Prelude.{ℕ, ◌+◌, ◌-◌, ◌*◌, ◌<◌, ◌≤◌, min, Bool, true, cond, ◌≡◌, List, ◌++◌, map, ltb, leb, length, take, drop, get_or, replicate}
 use Rattle.rows.specs.Rows.{width, room_of, entries_of, flat, laid}
 use Rattle.rows.specs.Order.{in_order}
-use Rattle.text.specs.Refusals.{Told, accepted, refused, no_room}
+use Rattle.text.specs.Refusals.{Told, no_room}
 use Rattle.reading.specs.Readings.{read_from, entries}
 use Rattle.tokens.specs.Ron.{ron_token}
 use Rattle.repair.specs.declared.rewrite.Rest.{Rest}
@@ -59,7 +60,7 @@ emptied x y tape = laid_at x (replicate (y - x) no_entry) tape
 
 -- The answer once the rest of the tape is known: j entries kept, 22 where there is no room.
 abbrev pub finish_answer : ℕ → ℕ → Rest → Told Repaired
-finish_answer room j rest = let total = j + rest.n + rest.m in cond (ltb room total) (refused no_room) (accepted (record { count = total; before = j; behind = rest.m }))
+finish_answer room j rest = let total = j + rest.n + rest.m in cond (ltb room total) (Err no_room) (Ok (record { count = total; before = j; behind = rest.m }))
 
 -- The tape then: it stays as it was where there is no room.
 abbrev pub finish_tape : List ℕ → ℕ → List ℕ → Rest → List ℕ

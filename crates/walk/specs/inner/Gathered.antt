@@ -1,13 +1,11 @@
 -- The fields that the walk has gathered: the entries that name the fields of all open brackets lie in one array, those of each bracket from its base on.
+use Rattle.std.specs.Prelude.{Err, Some, None, Option}
+use Rattle.text.specs.Refusals.{Told}
 use Rattle.std.specs.Prelude.{ℕ, zero, suc, ◌+◌, ◌-◌, ◌<◌, ◌≤◌, cond, List, [], ◌∷◌, ◌≡◌, length, get_or}
 use Rattle.text.specs.Refusals.{repeated_field}
-use Rattle.grammar.specs.declared.ends.Verdict.{Verdict}
-use Rattle.grammar.specs.declared.ends.Verdict.TheVariants.{Refused}
 use Rattle.fields.specs.inner.Again.{earlier}
 use Rattle.fields.specs.Fields.{is_named}
 use Rattle.fields.specs.Names.{HasName}
-use Rattle.fields.specs.declared.again.Again.{Again}
-use Rattle.fields.specs.declared.again.Again.TheVariants.{Nowhere, At}
 
 -- n entries of an array from place a on, latest first.
 unfoldable pub part : List ℕ → ℕ → ℕ → List ℕ
@@ -46,21 +44,21 @@ pub record Alike (f g : List ℕ) (n : ℕ) : Type 0 where
   pub below : (p : ℕ) → p < n → get_or g p 0 ≡ get_or f p 0
 
 -- The first of these entries, latest first, whose name one before it has.
-abbrev pub or_at : Again → ℕ → Again
-or_at Nowhere i = At i
-or_at (At j) i = At j
+abbrev pub or_at : Option ℕ → ℕ → Option ℕ
+or_at None i = Some i
+or_at (Some j) i = Some j
 
 module _ (nm : ℕ → List ℕ) where
-  unfoldable pub again_in : List ℕ → Again
-  again_in [] = Nowhere
+  unfoldable pub again_in : List ℕ → Option ℕ
+  again_in [] = None
   again_in (e ∷ es) = let before = again_in es in cond (is_named nm e es) (or_at before e) before
 
   -- The first of those of several brackets.
-  unfoldable pub first_of : List (List ℕ) → Again
-  first_of [] = Nowhere
+  unfoldable pub first_of : List (List ℕ) → Option ℕ
+  first_of [] = None
   first_of (es ∷ τ) = earlier (again_in es) (first_of τ)
 
 -- What the walk says where it stops with a verdict: a field named again stands before it.
-abbrev pub told_by : Again → Verdict → Verdict
-told_by Nowhere v = v
-told_by (At j) v = Refused (repeated_field j)
+abbrev pub told_by : Option ℕ → Told Unit → Told Unit
+told_by None v = v
+told_by (Some j) v = Err (repeated_field j)

@@ -1,4 +1,6 @@
 -- What the next entry comes to: the grammar's step, held to the limit, or the verdict with which the walk stops there.
+use Rattle.std.specs.Prelude.{Err}
+use Rattle.text.specs.Refusals.{Told}
 use Rattle.std.specs.Prelude.{ℕ, ◌<◌, ◌≤◌, List, ◌≡◌}
 use Rattle.text.specs.Refusals.{depth_limit_passed, not_allowed_here}
 use Rattle.rows.specs.Rows.{entry_at}
@@ -6,8 +8,6 @@ use Rattle.grammar.specs.declared.states.Frame.{Frame}
 use Rattle.grammar.specs.declared.states.Want.{Want}
 use Rattle.grammar.specs.declared.states.Move.{Move}
 use Rattle.grammar.specs.declared.states.Move.TheVariants as move
-use Rattle.grammar.specs.declared.ends.Verdict.{Verdict}
-use Rattle.grammar.specs.declared.ends.Verdict.TheVariants.{Refused}
 use Rattle.grammar.specs.Kinds.{kind_of}
 use Rattle.grammar.specs.Steps.{step_of}
 use Rattle.grammar.specs.Walk.{finish}
@@ -21,11 +21,11 @@ module _ (tape : List ℕ) (count limit i depth : ℕ) (want : Want) (inside : F
     pub does : step_of want (kind_of (entry_at tape i).kind) inside ≡ m
 
   -- The verdicts with which the walk stops.
-  pub data Stops : Verdict → Type 0 where
+  pub data Stops : Told Unit → Type 0 where
     at_end : count ≤ i → Stops (finish want inside i)
-    deep : (w : Want) (f : Frame) → Steps (move.Push w f) → limit ≤ depth → Stops (Refused (depth_limit_passed i))
-    closes_none : Steps move.Pop → depth ≡ 0 → Stops (Refused (not_allowed_here i))
-    not_allowed : Steps move.Bad → Stops (Refused (not_allowed_here i))
+    deep : (w : Want) (f : Frame) → Steps (move.Push w f) → limit ≤ depth → Stops (Err (depth_limit_passed i))
+    closes_none : Steps move.Pop → depth ≡ 0 → Stops (Err (not_allowed_here i))
+    not_allowed : Steps move.Bad → Stops (Err (not_allowed_here i))
 
   abbrev pub Comes : Turn → Type 0
   Comes (Stay w f) = Steps (move.Stay w f)

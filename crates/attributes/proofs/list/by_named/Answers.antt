@@ -3,5 +3,5 @@ use borrow.Author.Rules.{rules}
 use Rattle.attributes.specs.List.{by_extension_name}
 use Rattle.attributes.proofs.list.by_named.Goals as goal
 
-pub returns-in-Known : goal.returns-in-Known
-returns-in-Known c = c.behind_name.ensures ∙ ap (by_extension_name c.args.t.now c.args.n) (sym c.in-Known.is)
+pub returns-in-Some : goal.returns-in-Some
+returns-in-Some c = c.behind_name.ensures ∙ ap (by_extension_name c.args.t.now c.args.n) (sym c.in-Some.is)

@@ -1,3 +1,4 @@
+use Rattle.std.proofs.Common.{Ok, Err}
 use Prim.Native.Nat.{◌+◌, ◌-◌, ◌<◌, pred, ℕ}
 use native.Mathlib.Omega.{arith}
 use mathlib.Core.List.{List}
@@ -12,8 +13,6 @@ use Rattle.attributes.specs.List.{by_item, item_of, list_from, list_of}
 use Rattle.attributes.specs.declared.list.Item.{Item}
 use Rattle.attributes.specs.declared.list.Item.TheVariants.{Last, More, NoComma, NoName}
 use Rattle.attributes.specs.declared.list.Item.TheVariants as items
-use Rattle.attributes.specs.declared.list.Listed.TheVariants.{Ended}
-use Rattle.attributes.specs.declared.list.Listed.TheVariants as listing
 use Rattle.text.proofs.Lists.{tail_part}
 use Rattle.attributes.proofs.list.extension_list.Goals as goal
 
@@ -51,19 +50,19 @@ pub returns-in-Last : goal.returns-in-Last
 returns-in-Last c =
     let item_is : (r : Item) → c.next_item-found.result ≡ r → item_of (drop (c.loop-at.at) (c.args.s.now)) ≡ r = λ r e. sym (c.next_item-found.ensures ∙ ap item_of (tail_part (c.args.s.now) (c.loop-at.at))) ∙ e in
     let ends : (r : Item) → c.next_item-found.result ≡ r → by_item r (λ n e. list_from (drop (c.loop-at.at + 1) (c.args.s.now)) (pred n) (c.loop-at.at + 1) (added_to e (c.loop-at.extensions))) (c.loop-at.at) (c.loop-at.extensions) ≡ list_of (c.args.s.now) c.args.start = λ r e. sym (list_last (c.args.s.now) (c.loop-at.at) (c.loop-at.extensions) r c.loop-at-test.true (item_is r e)) ∙ c.loop-at.invariant.1 in
-    ap (Ended (c.loop-at.at + c.in-Last.n)) c.add.ensures ∙ ends (Last _ _) c.in-Last.is
+    ap (λ (y : ℕ). Ok (c.loop-at.at + c.in-Last.n, y)) c.add.ensures ∙ ends (Last _ _) c.in-Last.is
 
 pub returns-in-NoName : goal.returns-in-NoName
 returns-in-NoName c =
     let item_is : (r : Item) → c.next_item-found.result ≡ r → item_of (drop (c.loop-at.at) (c.args.s.now)) ≡ r = λ r e. sym (c.next_item-found.ensures ∙ ap item_of (tail_part (c.args.s.now) (c.loop-at.at))) ∙ e in
     let ends : (r : Item) → c.next_item-found.result ≡ r → by_item r (λ n e. list_from (drop (c.loop-at.at + 1) (c.args.s.now)) (pred n) (c.loop-at.at + 1) (added_to e (c.loop-at.extensions))) (c.loop-at.at) (c.loop-at.extensions) ≡ list_of (c.args.s.now) c.args.start = λ r e. sym (list_last (c.args.s.now) (c.loop-at.at) (c.loop-at.extensions) r c.loop-at-test.true (item_is r e)) ∙ c.loop-at.invariant.1 in
-    ap listing.Refused c.no_such_extension.ensures ∙ ends NoName c.in-NoName.is
+    ap Err c.no_such_extension.ensures ∙ ends NoName c.in-NoName.is
 
 pub returns-in-NoComma : goal.returns-in-NoComma
 returns-in-NoComma c =
     let item_is : (r : Item) → c.next_item-found.result ≡ r → item_of (drop (c.loop-at.at) (c.args.s.now)) ≡ r = λ r e. sym (c.next_item-found.ensures ∙ ap item_of (tail_part (c.args.s.now) (c.loop-at.at))) ∙ e in
     let ends : (r : Item) → c.next_item-found.result ≡ r → by_item r (λ n e. list_from (drop (c.loop-at.at + 1) (c.args.s.now)) (pred n) (c.loop-at.at + 1) (added_to e (c.loop-at.extensions))) (c.loop-at.at) (c.loop-at.extensions) ≡ list_of (c.args.s.now) c.args.start = λ r e. sym (list_last (c.args.s.now) (c.loop-at.at) (c.loop-at.extensions) r c.loop-at-test.true (item_is r e)) ∙ c.loop-at.invariant.1 in
-    ap listing.Refused c.expected_attribute_end.ensures ∙ ends NoComma c.in-NoComma.is
+    ap Err c.expected_attribute_end.ensures ∙ ends NoComma c.in-NoComma.is
 
 pub placed_behind-requires : goal.placed_behind-requires
 placed_behind-requires c =
@@ -74,7 +73,7 @@ pub returns-in-Refused : goal.returns-in-Refused
 returns-in-Refused c =
     let item_is : (r : Item) → c.next_item-found.result ≡ r → item_of (drop (c.loop-at.at) (c.args.s.now)) ≡ r = λ r e. sym (c.next_item-found.ensures ∙ ap item_of (tail_part (c.args.s.now) (c.loop-at.at))) ∙ e in
     let ends : (r : Item) → c.next_item-found.result ≡ r → by_item r (λ n e. list_from (drop (c.loop-at.at + 1) (c.args.s.now)) (pred n) (c.loop-at.at + 1) (added_to e (c.loop-at.extensions))) (c.loop-at.at) (c.loop-at.extensions) ≡ list_of (c.args.s.now) c.args.start = λ r e. sym (list_last (c.args.s.now) (c.loop-at.at) (c.loop-at.extensions) r c.loop-at-test.true (item_is r e)) ∙ c.loop-at.invariant.1 in
-    ap listing.Refused c.placed_behind.ensures ∙ ends (items.Refused _) c.in-Refused.is
+    ap Err c.placed_behind.ensures ∙ ends (items.Refused _) c.in-Refused.is
 
 pub returns : goal.returns
-returns c = ap listing.Refused c.eof.ensures ∙ sym (list_out c.args.s.now c.loop-at.at c.loop-at.extensions c.loop-at-test.false) ∙ c.loop-at.invariant.1
+returns c = ap Err c.eof.ensures ∙ sym (list_out c.args.s.now c.loop-at.at c.loop-at.extensions c.loop-at-test.false) ∙ c.loop-at.invariant.1

@@ -12,8 +12,6 @@ use Rattle.attributes.specs.List.{by_item, item_of, list_from, list_of}
 use Rattle.attributes.specs.declared.list.Item.{Item}
 use Rattle.attributes.specs.declared.list.Item.TheVariants.{Last, More, NoComma, NoName}
 use Rattle.attributes.specs.declared.list.Item.TheVariants as items
-use Rattle.attributes.specs.declared.list.Listed.TheVariants.{Ended}
-use Rattle.attributes.specs.declared.list.Listed.TheVariants as listing
 use Rattle.text.proofs.Lists.{tail_part}
 use Rattle.attributes.proofs.list.extension_list.Given as goal
 

@@ -1,8 +1,8 @@
+use Rattle.std.proofs.Common.{Err}
 use native.Mathlib.Omega.{arith}
 use mathlib.Core.Path.{◌∙◌, ap, sym}
 use borrow.Author.Rules.{rules}
 use Rattle.attributes.proofs.StepLaws.{gap_fits, skip_by, skip_out}
-use Rattle.attributes.specs.declared.steps.Step.TheVariants.{Refused}
 use Rattle.comments.specs.declared.gap.Gap.TheVariants.{Clear, InLine, Refused as NoGap}
 use Rattle.attributes.proofs.steps.skip_ws.Goals as goal
 
@@ -25,4 +25,4 @@ pub returns-in-InLine : goal.returns-in-InLine
 returns-in-InLine c = skip_by c.args.s.now c.args.at (InLine _) (sym c.in-InLine.is ∙ c.skip_gap-gap.ensures)
 
 pub returns-in-Refused : goal.returns-in-Refused
-returns-in-Refused c = ap Refused c.placed_behind.ensures ∙ skip_by c.args.s.now c.args.at (NoGap _) (sym c.in-Refused.is ∙ c.skip_gap-gap.ensures)
+returns-in-Refused c = ap Err c.placed_behind.ensures ∙ skip_by c.args.s.now c.args.at (NoGap _) (sym c.in-Refused.is ∙ c.skip_gap-gap.ensures)

@@ -27,40 +27,40 @@ returns-then-s-eq1 c = sym (comment_ended _ c.if-s-eq1.true c.if-s-ne47.false)
 pub overflow_add-taken : goal.overflow_add-taken
 overflow_add-taken c =
     let line_end : c.line_comment-end.result ≡ line_end (drop 2 (c.args.s.now)) = c.line_comment-end.ensures ∙ ap line_end (tail_part (c.args.s.now) 2) in
-    omega (arith, subst (Bounded 0 _) (sym (line_end) ∙ c.in-Closed.is) (line_end_le _), length-drop 2 c.args.s.now)
+    omega (arith, subst (Bounded 0 _) (sym (line_end) ∙ c.in-Some.is) (line_end_le _), length-drop 2 c.args.s.now)
 
-pub returns-in-Closed : goal.returns-in-Closed
-returns-in-Closed c =
+pub returns-in-Some : goal.returns-in-Some
+returns-in-Some c =
     let two : 1 < length (c.args.s.now) = omega arith in
     let line_end : c.line_comment-end.result ≡ line_end (drop 2 (c.args.s.now)) = c.line_comment-end.ensures ∙ ap line_end (tail_part (c.args.s.now) 2) in
     let line-item : line_item c.line_comment-end.result ≡ comment_of (c.args.s.now) = ap line_item (line_end) ∙ sym (comment_line (c.args.s.now) (two) c.if-s-ne47.false c.if-b-eq47.true) in
-    sym (ap line_item c.in-Closed.is) ∙ line-item
+    sym (ap line_item c.in-Some.is) ∙ line-item
 
-pub returns-in-Unclosed : goal.returns-in-Unclosed
-returns-in-Unclosed c =
+pub returns-in-None : goal.returns-in-None
+returns-in-None c =
     let two : 1 < length (c.args.s.now) = omega arith in
     let line_end : c.line_comment-end.result ≡ line_end (drop 2 (c.args.s.now)) = c.line_comment-end.ensures ∙ ap line_end (tail_part (c.args.s.now) 2) in
     let line-item : line_item c.line_comment-end.result ≡ comment_of (c.args.s.now) = ap line_item (line_end) ∙ sym (comment_line (c.args.s.now) (two) c.if-s-ne47.false c.if-b-eq47.true) in
-    sym (ap line_item c.in-Unclosed.is) ∙ line-item
+    sym (ap line_item c.in-None.is) ∙ line-item
 
-pub overflow_add-taken-in-Closed-end : goal.overflow_add-taken-in-Closed-end
-overflow_add-taken-in-Closed-end c =
+pub overflow_add-taken-in-Some-end : goal.overflow_add-taken-in-Some-end
+overflow_add-taken-in-Some-end c =
     let block_end : c.block_comment-end.result ≡ block_end (drop 2 (c.args.s.now)) = c.block_comment-end.ensures ∙ ap block_end (tail_part (c.args.s.now) 2) in
-    omega (arith, subst (Bounded 0 _) (sym (block_end) ∙ c.in-Closed-end.is) (block_end_le _), length-drop 2 c.args.s.now)
+    omega (arith, subst (Bounded 0 _) (sym (block_end) ∙ c.in-Some-end.is) (block_end_le _), length-drop 2 c.args.s.now)
 
-pub returns-in-Closed-end : goal.returns-in-Closed-end
-returns-in-Closed-end c =
+pub returns-in-Some-end : goal.returns-in-Some-end
+returns-in-Some-end c =
     let two : 1 < length (c.args.s.now) = omega arith in
     let block_end : c.block_comment-end.result ≡ block_end (drop 2 (c.args.s.now)) = c.block_comment-end.ensures ∙ ap block_end (tail_part (c.args.s.now) 2) in
     let block-item : block_item c.block_comment-end.result ≡ comment_of (c.args.s.now) = ap block_item (block_end) ∙ sym (comment_block (c.args.s.now) (two) c.if-s-ne47.false c.if-b-eq42.true) in
-    sym (ap block_item c.in-Closed-end.is) ∙ block-item
+    sym (ap block_item c.in-Some-end.is) ∙ block-item
 
-pub returns-in-Unclosed-end : goal.returns-in-Unclosed-end
-returns-in-Unclosed-end c =
+pub returns-in-None-end : goal.returns-in-None-end
+returns-in-None-end c =
     let two : 1 < length (c.args.s.now) = omega arith in
     let block_end : c.block_comment-end.result ≡ block_end (drop 2 (c.args.s.now)) = c.block_comment-end.ensures ∙ ap block_end (tail_part (c.args.s.now) 2) in
     let block-item : block_item c.block_comment-end.result ≡ comment_of (c.args.s.now) = ap block_item (block_end) ∙ sym (comment_block (c.args.s.now) (two) c.if-s-ne47.false c.if-b-eq42.true) in
-    sym (ap block_item c.in-Unclosed-end.is) ∙ block-item
+    sym (ap block_item c.in-None-end.is) ∙ block-item
 
 pub overflow_add-taken-2 : goal.overflow_add-taken-2
 overflow_add-taken-2 c = omega (arith, c.char_len-taken.ensures, char_len_le (take (length c.args.s.now - 1) (drop 1 c.args.s.now)), length-take (length c.args.s.now - 1) (drop 1 c.args.s.now), length-drop 1 c.args.s.now)

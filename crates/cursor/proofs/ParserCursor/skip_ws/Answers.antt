@@ -1,3 +1,4 @@
+use Rattle.std.proofs.Common.{Ok, Err}
 use Prim.Native.Nat.{◌+◌, ◌-◌, ℕ}
 use native.Mathlib.Omega.{arith}
 use mathlib.Core.List.{List}
@@ -12,12 +13,11 @@ use Rattle.cursor.proofs.SkipLaws.{skip_at_end, skip_runs}
 use Rattle.cursor.specs.Cursor.{cursor}
 use Rattle.cursor.specs.Skip.{cursor_behind, pre_of, skip_ws_of}
 use Rattle.cursor.specs.declared.ParserCursor.{ParserCursor}
-use Rattle.cursor.specs.declared.skip.Step.TheVariants.{Moved, Refused}
 use Rattle.text.proofs.Lists.{tail_part}
 use Rattle.cursor.proofs.ParserCursor.skip_ws.Goals as goal
 
 pub returns-then-text-at : goal.returns-then-text-at
-returns-then-text-at c = ap (λ (n : ℕ). Moved (cursor c.args.self.cursor n c.args.self.last_ws_len)) c.pre_ws-pre.ensures ∙ sym (skip_at_end c.args.text.now c.args.self c.if-text-at.true)
+returns-then-text-at c = ap (λ (n : ℕ). Ok (cursor c.args.self.cursor n c.args.self.last_ws_len)) c.pre_ws-pre.ensures ∙ sym (skip_at_end c.args.text.now c.args.self c.if-text-at.true)
 
 pub overflow_add-end : goal.overflow_add-end
 overflow_add-end c =
@@ -43,7 +43,7 @@ returns-in-Clear c =
     let ran : (r : Gap) → c.skip_gap-run.result ≡ r → cursor_behind (c.args.self).cursor c.pre_ws-pre.result r ≡ skip_ws_of (c.args.text.now) (c.args.self) = λ r e. ap (λ (n : ℕ). cursor_behind (c.args.self).cursor n r) c.pre_ws-pre.ensures
     ∙ ap (cursor_behind (c.args.self).cursor (pre_of (c.args.self))) (sym (gap_is r e))
     ∙ sym (skip_runs (c.args.text.now) (c.args.self) c.if-text-at.false) in
-    ap (λ (n : ℕ). Moved (cursor (c.args.self.cursor + c.in-Clear.n) c.pre_ws-pre.result n)) c.saturating_sub-len.ensures ∙ ran (Clear _) c.in-Clear.is
+    ap (λ (n : ℕ). Ok (cursor (c.args.self.cursor + c.in-Clear.n) c.pre_ws-pre.result n)) c.saturating_sub-len.ensures ∙ ran (Clear _) c.in-Clear.is
 
 pub returns-in-InLine : goal.returns-in-InLine
 returns-in-InLine c =
@@ -59,4 +59,4 @@ returns-in-Refused c =
     let ran : (r : Gap) → c.skip_gap-run.result ≡ r → cursor_behind (c.args.self).cursor c.pre_ws-pre.result r ≡ skip_ws_of (c.args.text.now) (c.args.self) = λ r e. ap (λ (n : ℕ). cursor_behind (c.args.self).cursor n r) c.pre_ws-pre.ensures
     ∙ ap (cursor_behind (c.args.self).cursor (pre_of (c.args.self))) (sym (gap_is r e))
     ∙ sym (skip_runs (c.args.text.now) (c.args.self) c.if-text-at.false) in
-    ap Refused c.placed_behind.ensures ∙ ran (GapRefused _) c.in-Refused.is
+    ap Err c.placed_behind.ensures ∙ ran (GapRefused _) c.in-Refused.is

@@ -85,7 +85,7 @@ returns-then-base-d c =
     } in
     let product : nat_abs c.args.acc * c.args.base ≤ nat_abs c.args.low = (le-div_iff_mul-le c.requires.0).0 (ltb-false _ _ (sym (neg.test_is (negative) c.ranges.least c.requires.4) ∙ c.if-acc-least.false)) in
     let a = c.args in
-    let v = digit_value a.c _ (sym c.decode_hex-digit.ensures ∙ c.in-Digit.is) in
+    let v = digit_value a.c _ (sym c.decode_hex-digit.ensures ∙ c.in-Some.is) in
     simp (ne_eqb _ _ c.if-c-eq95.false, le-ltb _ _ (product), le-leb a.base (hex_of a.c) (omega (arith, v)))
 
 pub returns-then-product-low : goal.returns-then-product-low
@@ -102,8 +102,8 @@ returns-then-product-low c =
     } in
     let product : nat_abs c.args.acc * c.args.base ≤ nat_abs c.args.low = (le-div_iff_mul-le c.requires.0).0 (ltb-false _ _ (sym (neg.test_is (negative) c.ranges.least c.requires.4) ∙ c.if-acc-least.false)) in
     let a = c.args in
-    let v = digit_value a.c _ (sym c.decode_hex-digit.ensures ∙ c.in-Digit.is) in
-    let q : nat_abs a.low < nat_abs a.acc * a.base + c.in-Digit.h = ltb-true _ _ (sym (neg.over_is (negative) (product) c.in-Digit.h (omega arith)) ∙ c.if-product-low.true) in
+    let v = digit_value a.c _ (sym c.decode_hex-digit.ensures ∙ c.in-Some.is) in
+    let q : nat_abs a.low < nat_abs a.acc * a.base + c.in-Some.h = ltb-true _ _ (sym (neg.over_is (negative) (product) c.in-Some.h (omega arith)) ∙ c.if-product-low.true) in
     simp (ne_eqb _ _ c.if-c-eq95.false, le-ltb _ _ (product), lt-leb a.base (hex_of a.c) (omega (arith, v)), lt-ltb (nat_abs a.low) (nat_abs a.acc * a.base + hex_of a.c) (omega (arith, v, q)))
 
 pub overflow_sub-next : goal.overflow_sub-next
@@ -118,7 +118,7 @@ overflow_sub-next c =
       base_le = c.requires.1;
     } in
     let product : nat_abs c.args.acc * c.args.base ≤ nat_abs c.args.low = (le-div_iff_mul-le c.requires.0).0 (ltb-false _ _ (sym (neg.test_is (negative) c.ranges.least c.requires.4) ∙ c.if-acc-least.false)) in
-    neg.next_fits (negative) (product) c.in-Digit.h (omega arith) (ltb-false _ _ (sym (neg.over_is (negative) (product) c.in-Digit.h (omega arith)) ∙ c.if-product-low.false))
+    neg.next_fits (negative) (product) c.in-Some.h (omega arith) (ltb-false _ _ (sym (neg.over_is (negative) (product) c.in-Some.h (omega arith)) ∙ c.if-product-low.false))
 
 pub returns : goal.returns
 unfolding turn_of
@@ -134,7 +134,7 @@ returns c =
     } in
     let product : nat_abs c.args.acc * c.args.base ≤ nat_abs c.args.low = (le-div_iff_mul-le c.requires.0).0 (ltb-false _ _ (sym (neg.test_is (negative) c.ranges.least c.requires.4) ∙ c.if-acc-least.false)) in
     let a = c.args in
-    let v = digit_value a.c _ (sym c.decode_hex-digit.ensures ∙ c.in-Digit.is) in
-    let q : nat_abs a.acc * a.base + c.in-Digit.h ≤ nat_abs a.low = ltb-false _ _ (sym (neg.over_is (negative) (product) c.in-Digit.h (omega arith)) ∙ c.if-product-low.false) in
+    let v = digit_value a.c _ (sym c.decode_hex-digit.ensures ∙ c.in-Some.is) in
+    let q : nat_abs a.acc * a.base + c.in-Some.h ≤ nat_abs a.low = ltb-false _ _ (sym (neg.over_is (negative) (product) c.in-Some.h (omega arith)) ∙ c.if-product-low.false) in
     simp (ne_eqb _ _ c.if-c-eq95.false, le-ltb _ _ (product), lt-leb a.base (hex_of a.c) (omega (arith, v)), le-ltb (nat_abs a.low) (nat_abs a.acc * a.base + hex_of a.c) (omega (arith, v, q)))
-    (ap Next (neg.next_held (negative) (product) c.in-Digit.h (omega arith) q ∙ ap (λ (d : ℕ). neg_ℤ (pos (nat_abs a.acc * a.base + d))) v))
+    (ap Next (neg.next_held (negative) (product) c.in-Some.h (omega arith) q ∙ ap (λ (d : ℕ). neg_ℤ (pos (nat_abs a.acc * a.base + d))) v))

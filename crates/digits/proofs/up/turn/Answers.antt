@@ -27,7 +27,7 @@ pub returns-then-base-d : goal.returns-then-base-d
 unfolding turn_of
 returns-then-base-d c =
     let a = c.args in
-    let v = digit_value a.c _ (sym c.decode_hex-digit.ensures ∙ c.in-Digit.is) in
+    let v = digit_value a.c _ (sym c.decode_hex-digit.ensures ∙ c.in-Some.is) in
     let h : a.acc * a.base ≤ a.limit = (le-div_iff_mul-le c.requires.0).0 (rw c.requires.2 at c.if-most-acc.false) in
     simp (ne_eqb _ _ c.if-c-eq95.false, le-ltb _ _ h, le-leb a.base (hex_of a.c) (omega (arith, v)))
 
@@ -35,7 +35,7 @@ pub returns-then-limit-product : goal.returns-then-limit-product
 unfolding turn_of
 returns-then-limit-product c =
     let a = c.args in
-    let v = digit_value a.c _ (sym c.decode_hex-digit.ensures ∙ c.in-Digit.is) in
+    let v = digit_value a.c _ (sym c.decode_hex-digit.ensures ∙ c.in-Some.is) in
     let h : a.acc * a.base ≤ a.limit = (le-div_iff_mul-le c.requires.0).0 (rw c.requires.2 at c.if-most-acc.false) in
     simp (ne_eqb _ _ c.if-c-eq95.false, le-ltb _ _ h, lt-leb a.base (hex_of a.c) (omega (arith, v)), lt-ltb a.limit (a.acc * a.base + hex_of a.c) (omega (arith, v)))
 
@@ -43,6 +43,6 @@ pub returns : goal.returns
 unfolding turn_of
 returns c =
     let a = c.args in
-    let v = digit_value a.c _ (sym c.decode_hex-digit.ensures ∙ c.in-Digit.is) in
+    let v = digit_value a.c _ (sym c.decode_hex-digit.ensures ∙ c.in-Some.is) in
     let h : a.acc * a.base ≤ a.limit = (le-div_iff_mul-le c.requires.0).0 (rw c.requires.2 at c.if-most-acc.false) in
     simp (ne_eqb _ _ c.if-c-eq95.false, le-ltb _ _ h, lt-leb a.base (hex_of a.c) (omega (arith, v)), le-ltb a.limit (a.acc * a.base + hex_of a.c) (omega (arith, v)), v)

@@ -1,17 +1,17 @@
+use Rattle.std.proofs.Common.{Err}
 use mathlib.Core.Path.{◌∙◌, ap, sym}
 use borrow.Author.Rules.{rules}
 use borrow.Author.Tests.{le-ltb, lt-ltb, not-false, not-true}
 use Rattle.entries.specs.Named.{inside_of}
-use Rattle.entries.specs.declared.named.Named.TheVariants.{Refused}
 use Rattle.entries.proofs.named.named_inside.Goals as goal
 
 pub returns-then-not-place_fits : goal.returns-then-not-place_fits
 unfolding inside_of
-returns-then-not-place_fits c = rw (sym c.entry-e.ensures, sym c.start_of-place.ensures, sym c.place_fits.ensures ∙ c.if-not-place_fits.true) (ap Refused c.unfit.ensures)
+returns-then-not-place_fits c = rw (sym c.entry-e.ensures, sym c.start_of-place.ensures, sym c.place_fits.ensures ∙ c.if-not-place_fits.true) (ap Err c.unfit.ensures)
 
 pub returns-then-room-count : goal.returns-then-room-count
 unfolding inside_of
-returns-then-room-count c = rw (sym c.entry-e.ensures, sym c.start_of-place.ensures, sym c.place_fits.ensures ∙ c.if-not-place_fits.false, sym c.room.ensures, lt-ltb _ _ c.if-room-count.true) (ap Refused c.not_in_order.ensures)
+returns-then-room-count c = rw (sym c.entry-e.ensures, sym c.start_of-place.ensures, sym c.place_fits.ensures ∙ c.if-not-place_fits.false, sym c.room.ensures, lt-ltb _ _ c.if-room-count.true) (ap Err c.not_in_order.ensures)
 
 pub returns : goal.returns
 unfolding inside_of

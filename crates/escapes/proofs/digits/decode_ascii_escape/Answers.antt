@@ -23,7 +23,7 @@ pub returns-in_default : goal.returns-in_default
 returns-in_default c = c.invalid.ensures ∙ ap (λ (k : ℕ). Refused (invalid_escape DigitNotHex (c.args.at + k))) c.char_len.ensures ∙ sym (two_at c.args.at c.args.t.now (omega arith) ∙ simp (eq-eqb (hex_of (get_or c.args.t.now 0 0)) 16 (no_digit (get_or c.args.t.now 0 0) (sym c.decode_hex-digit.ensures ∙ c.in_default.is))))
 
 pub second_digit-requires : goal.second_digit-requires
-second_digit-requires c = (simp tail_part (omega (arith, length-drop 1 c.args.t.now)), digit_lt (get_or c.args.t.now 0 0) _ (sym c.decode_hex-digit.ensures ∙ c.in-Digit.is))
+second_digit-requires c = (simp tail_part (omega (arith, length-drop 1 c.args.t.now)), digit_lt (get_or c.args.t.now 0 0) _ (sym c.decode_hex-digit.ensures ∙ c.in-Some.is))
 
 pub returns : goal.returns
-returns c = (simp tail_part at c.second_digit.ensures) ∙ sym (two_at c.args.at c.args.t.now (omega arith) ∙ simp (ne_eqb (hex_of (get_or c.args.t.now 0 0)) 16 (digit_some (get_or c.args.t.now 0 0) _ (sym c.decode_hex-digit.ensures ∙ c.in-Digit.is))) (ap (λ (k : ℕ). second_digit k (c.args.at + 1) (drop 1 c.args.t.now)) (sym (digit_value (get_or c.args.t.now 0 0) _ (sym c.decode_hex-digit.ensures ∙ c.in-Digit.is)))))
+returns c = (simp tail_part at c.second_digit.ensures) ∙ sym (two_at c.args.at c.args.t.now (omega arith) ∙ simp (ne_eqb (hex_of (get_or c.args.t.now 0 0)) 16 (digit_some (get_or c.args.t.now 0 0) _ (sym c.decode_hex-digit.ensures ∙ c.in-Some.is))) (ap (λ (k : ℕ). second_digit k (c.args.at + 1) (drop 1 c.args.t.now)) (sym (digit_value (get_or c.args.t.now 0 0) _ (sym c.decode_hex-digit.ensures ∙ c.in-Some.is)))))

@@ -22,7 +22,7 @@ pub returns-in_default : goal.returns-in_default
 returns-in_default c = c.invalid.ensures ∙ ap (λ (k : ℕ). Refused (invalid_escape DigitNotHex (c.args.at + k))) c.char_len.ensures ∙ sym (second_at c.args.h c.args.at c.args.t.now (omega arith) ∙ simp (eq-eqb (hex_of (get_or c.args.t.now 0 0)) 16 (no_digit (get_or c.args.t.now 0 0) (sym c.decode_hex-digit.ensures ∙ c.in_default.is))))
 
 pub overflow_add-result : goal.overflow_add-result
-overflow_add-result c = omega (arith, digit_lt (get_or c.args.t.now 0 0) _ (sym c.decode_hex-digit.ensures ∙ c.in-Digit.is))
+overflow_add-result c = omega (arith, digit_lt (get_or c.args.t.now 0 0) _ (sym c.decode_hex-digit.ensures ∙ c.in-Some.is))
 
 pub returns : goal.returns
-returns c = sym (second_at c.args.h c.args.at c.args.t.now (omega arith) ∙ simp (ne_eqb (hex_of (get_or c.args.t.now 0 0)) 16 (digit_some (get_or c.args.t.now 0 0) _ (sym c.decode_hex-digit.ensures ∙ c.in-Digit.is))) (ap (λ (k : ℕ). Ascii (c.args.h * 16 + k) (c.args.at + 1)) (sym (digit_value (get_or c.args.t.now 0 0) _ (sym c.decode_hex-digit.ensures ∙ c.in-Digit.is)))))
+returns c = sym (second_at c.args.h c.args.at c.args.t.now (omega arith) ∙ simp (ne_eqb (hex_of (get_or c.args.t.now 0 0)) 16 (digit_some (get_or c.args.t.now 0 0) _ (sym c.decode_hex-digit.ensures ∙ c.in-Some.is))) (ap (λ (k : ℕ). Ascii (c.args.h * 16 + k) (c.args.at + 1)) (sym (digit_value (get_or c.args.t.now 0 0) _ (sym c.decode_hex-digit.ensures ∙ c.in-Some.is)))))

@@ -50,15 +50,15 @@ pub overflow_mul-v : goal.overflow_mul-v
 overflow_mul-v c = omega (arith, room_fits (7 - c.loop-i.i) (omega arith))
 
 pub overflow_add-v : goal.overflow_add-v
-overflow_add-v c = omega (arith, room_fits (7 - c.loop-i.i) (omega arith), digit_lt (get_or c.args.s.now c.loop-i.i 0) _ (sym c.decode_hex-digit.ensures ∙ c.in-Digit.is))
+overflow_add-v c = omega (arith, room_fits (7 - c.loop-i.i) (omega arith), digit_lt (get_or c.args.s.now c.loop-i.i 0) _ (sym c.decode_hex-digit.ensures ∙ c.in-Some.is))
 
 pub loop-i-preserved : goal.loop-i-preserved
 loop-i-preserved c =
     let i = c.loop-i.i in
-    let h = c.in-Digit.h in
+    let h = c.in-Some.h in
     let left : 7 - (i + 1) ≡ 7 - i - 1 = omega arith in
     let place : c.args.at + i + 1 ≡ c.args.at + (i + 1) = omega arith in
-    let digit = sym c.decode_hex-digit.ensures ∙ c.in-Digit.is in (
+    let digit = sym c.decode_hex-digit.ensures ∙ c.in-Some.is in (
       omega arith,
       rw left (room_more (7 - i) c.loop-i.v h (omega arith) (omega arith) c.loop-i.invariant.1 (digit_lt (get_or c.args.s.now i 0) _ digit)),
       c.loop-i.invariant.2

@@ -1,3 +1,4 @@
+use Rattle.std.proofs.Common.{Err}
 use native.Mathlib.Omega.{arith}
 use mathlib.Core.Path.{◌∙◌, ap, sym}
 use lib.ListN.{drop, length-drop}
@@ -8,11 +9,10 @@ use Rattle.integers.proofs.Words.{first_le}
 use Rattle.integers.specs.Words.{first_of}
 use Rattle.integers.specs.declared.ident.Found.{Found}
 use Rattle.text.proofs.Lists.{tail_part}
-use Rattle.floats.specs.declared.float.AnyFloat.TheVariants.{Refused as refused}
 use Rattle.floats.proofs.float.run_at.Goals as goal
 
 pub returns-then-n-eq0 : goal.returns-then-n-eq0
-returns-then-n-eq0 c = ap refused c.expected_float.ensures ∙ run_none c.args.s.now c.float_run-n.result c.float_run-n.ensures c.if-n-eq0.true
+returns-then-n-eq0 c = ap Err c.expected_float.ensures ∙ run_none c.args.s.now c.float_run-n.result c.float_run-n.ensures c.if-n-eq0.true
 
 pub slice_bounds-judge_run-end : goal.slice_bounds-judge_run-end
 slice_bounds-judge_run-end c = sym (length-take-le c.float_run-n.result c.args.s.now (omega (arith, c.float_run-n.ensures, float_run_le c.args.s.now)))

@@ -1,3 +1,4 @@
+use Rattle.std.proofs.Common.{Option}
 use Prim.Native.Nat.{◌+◌, ◌-◌, ◌<◌, ℕ}
 use native.Mathlib.Omega.{arith}
 use mathlib.Core.Path.{◌∙◌, ◌≡◌, ap, subst, sym}
@@ -8,7 +9,6 @@ use Rattle.comments.proofs.GapLaws.{comment_ended, comment_line, comment_none, c
 use Rattle.comments.proofs.LineLaws.{line_end_le}
 use Rattle.comments.specs.Gaps.{comment_of, line_item}
 use Rattle.comments.specs.Lines.{line_end}
-use Rattle.comments.specs.declared.block.CommentEnd.{CommentEnd}
 use Rattle.text.proofs.Lists.{tail_part}
 use Rattle.text.proofs.Utf8Agree.{char_len_le}
 use Rattle.text.specs.Utf8.{char_len}
@@ -29,23 +29,23 @@ returns-then-s-eq1 c = ap (step_by c.args.s.now) (sym (comment_ended _ c.if-s-eq
 pub overflow_add-taken : goal.overflow_add-taken
 overflow_add-taken c =
     let line_end : c.line_comment-end.result ≡ line_end (drop 2 (c.args.s.now)) = c.line_comment-end.ensures ∙ ap line_end (tail_part (c.args.s.now) 2) in
-    omega (arith, subst (Bounded 0 _) (sym (line_end) ∙ c.in-Closed.is) (line_end_le _), length-drop 2 c.args.s.now)
+    omega (arith, subst (Bounded 0 _) (sym (line_end) ∙ c.in-Some.is) (line_end_le _), length-drop 2 c.args.s.now)
 
-pub returns-in-Closed : goal.returns-in-Closed
-returns-in-Closed c =
+pub returns-in-Some : goal.returns-in-Some
+returns-in-Some c =
     let two : 1 < length (c.args.s.now) = omega arith in
     let line_end : c.line_comment-end.result ≡ line_end (drop 2 (c.args.s.now)) = c.line_comment-end.ensures ∙ ap line_end (tail_part (c.args.s.now) 2) in
-    let line_step : (e : CommentEnd) → c.line_comment-end.result ≡ e → step_by (c.args.s.now) (line_item e) ≡ step_by (c.args.s.now) (comment_of (c.args.s.now)) = λ e g. ap (λ (x : CommentEnd). step_by (c.args.s.now) (line_item x)) (sym g ∙ line_end)
+    let line_step : (e : Option ℕ) → c.line_comment-end.result ≡ e → step_by (c.args.s.now) (line_item e) ≡ step_by (c.args.s.now) (comment_of (c.args.s.now)) = λ e g. ap (λ (x : Option ℕ). step_by (c.args.s.now) (line_item x)) (sym g ∙ line_end)
     ∙ ap (step_by (c.args.s.now)) (sym (comment_line (c.args.s.now) (two) c.if-s-ne47.false c.if-b-eq47.true)) in
-    line_step _ c.in-Closed.is
+    line_step _ c.in-Some.is
 
-pub returns-in-Unclosed : goal.returns-in-Unclosed
-returns-in-Unclosed c =
+pub returns-in-None : goal.returns-in-None
+returns-in-None c =
     let two : 1 < length (c.args.s.now) = omega arith in
     let line_end : c.line_comment-end.result ≡ line_end (drop 2 (c.args.s.now)) = c.line_comment-end.ensures ∙ ap line_end (tail_part (c.args.s.now) 2) in
-    let line_step : (e : CommentEnd) → c.line_comment-end.result ≡ e → step_by (c.args.s.now) (line_item e) ≡ step_by (c.args.s.now) (comment_of (c.args.s.now)) = λ e g. ap (λ (x : CommentEnd). step_by (c.args.s.now) (line_item x)) (sym g ∙ line_end)
+    let line_step : (e : Option ℕ) → c.line_comment-end.result ≡ e → step_by (c.args.s.now) (line_item e) ≡ step_by (c.args.s.now) (comment_of (c.args.s.now)) = λ e g. ap (λ (x : Option ℕ). step_by (c.args.s.now) (line_item x)) (sym g ∙ line_end)
     ∙ ap (step_by (c.args.s.now)) (sym (comment_line (c.args.s.now) (two) c.if-s-ne47.false c.if-b-eq47.true)) in
-    line_step _ c.in-Unclosed.is
+    line_step _ c.in-None.is
 
 pub returns-in-Ok : goal.returns-in-Ok
 returns-in-Ok c =

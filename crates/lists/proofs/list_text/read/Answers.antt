@@ -1,9 +1,8 @@
+use Rattle.std.proofs.Common.{Err}
+use Rattle.text.specs.Refusals.{Told}
 use Prim.Native.Nat.{ℕ}
 use mathlib.Core.List.{List}
 use mathlib.Core.Path.{refl, sym, ap, ◌∙◌}
-use Rattle.read.specs.Read.{told_read}
-use Rattle.read.specs.declared.measure.ReadAnswer.{ReadAnswer}
-use Rattle.text.specs.Refusals.{refused}
 use Rattle.lists.proofs.LineLaws.{read_listed, accepted_listed}
 use Rattle.lists.proofs.list_text.read.Goals as goal
 
@@ -16,7 +15,7 @@ returns-in-Accepted c =
     let spare : List ℕ = c.args.spare.now in
     let out : List ℕ × ℕ = (c.args.o.now, c.args.at) in
     let z = accepted_listed text tape links numbers spare _ c.read-r.ensures.1 out _
-    c.in-Accepted.n (sym (ap (λ (a : ReadAnswer). told_read a) c.in-Accepted.is) ∙ c.read-r.ensures.0)
+    c.in-Accepted.n (sym (ap (λ (a : Told ℕ). a) c.in-Accepted.is) ∙ c.read-r.ensures.0)
     _ _ _ c.gather-k.ensures.value c.gather-k.ensures.list_after c.first-items.ensures _ c.asked-q.ensures _ _ (c.answer.ensures.result_after, c.answer.ensures.spare_after) in
     record {
       result_after = z.0;
@@ -33,7 +32,7 @@ returns-in-Refused c =
     let spare : List ℕ = c.args.spare.now in
     let out : List ℕ × ℕ = (c.args.o.now, c.args.at) in
     let z = read_listed text tape links numbers spare _ c.read-r.ensures.1 out _ (links, numbers, spare)
-    (refused c.in-Refused.f) (sym (ap (λ (a : ReadAnswer). told_read a) c.in-Refused.is) ∙ c.read-r.ensures.0) c.refused.ensures refl in
+    (Err c.in-Refused.f) (sym (ap (λ (a : Told ℕ). a) c.in-Refused.is) ∙ c.read-r.ensures.0) c.refused.ensures refl in
     record {
       result_after = z.0;
       tape_after = z.1.0;

@@ -5,12 +5,12 @@ use Rattle.octets.specs.Octets.{allowed_of, by_place}
 use Rattle.octets.proofs.front.allowed.Goals as goal
 
 pub at_bad-requires : goal.at_bad-requires
-at_bad-requires c = omega (arith, (bad_means c.args.s.now c.in-BadAt.k (sym c.first_bad-found.ensures ∙ c.in-BadAt.is)).0)
+at_bad-requires c = omega (arith, (bad_means c.args.s.now c.in-Some.k (sym c.first_bad-found.ensures ∙ c.in-Some.is)).0)
 
-pub returns-in-Good : goal.returns-in-Good
+pub returns-in-None : goal.returns-in-None
 unfolding allowed_of
-returns-in-Good c = sym (ap (by_place c.args.s.now) (sym c.first_bad-found.ensures ∙ c.in-Good.is))
+returns-in-None c = sym (ap (by_place c.args.s.now) (sym c.first_bad-found.ensures ∙ c.in-None.is))
 
-pub returns-in-BadAt : goal.returns-in-BadAt
+pub returns-in-Some : goal.returns-in-Some
 unfolding allowed_of
-returns-in-BadAt c = c.at_bad.ensures ∙ sym (ap (by_place c.args.s.now) (sym c.first_bad-found.ensures ∙ c.in-BadAt.is))
+returns-in-Some c = c.at_bad.ensures ∙ sym (ap (by_place c.args.s.now) (sym c.first_bad-found.ensures ∙ c.in-Some.is))

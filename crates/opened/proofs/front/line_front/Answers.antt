@@ -1,3 +1,4 @@
+use Rattle.std.proofs.Common.{Option}
 use Prim.Native.Nat.{ℕ}
 use native.Mathlib.Omega.{arith}
 use mathlib.Core.List.{List}
@@ -7,7 +8,6 @@ use Rattle.comments.proofs.BlockLaws.{Bounded}
 use Rattle.comments.proofs.LineLaws.{line_end_le}
 use Rattle.comments.specs.Lines.{line_end}
 use Rattle.comments.specs.Gaps.{line_item}
-use Rattle.comments.specs.declared.block.CommentEnd.{CommentEnd}
 use Rattle.text.proofs.Lists.{tail_part}
 use Rattle.opened.specs.Fronts.{by_item}
 use Rattle.opened.proofs.front.line_front.Goals as goal
@@ -15,15 +15,15 @@ use Rattle.opened.proofs.front.line_front.Goals as goal
 pub overflow_add-taken : goal.overflow_add-taken
 overflow_add-taken c =
     let s : List ℕ = c.args.s.now in
-    let e : line_end (drop 2 s) ≡ _ = sym (c.line_comment-end.ensures ∙ ap line_end (tail_part s 2)) ∙ c.in-Closed.is in
+    let e : line_end (drop 2 s) ≡ _ = sym (c.line_comment-end.ensures ∙ ap line_end (tail_part s 2)) ∙ c.in-Some.is in
     omega (arith, subst (Bounded 0 _) e (line_end_le _), length-drop 2 s)
 
-pub returns-in-Closed : goal.returns-in-Closed
-returns-in-Closed c =
+pub returns-in-Some : goal.returns-in-Some
+returns-in-Some c =
     let s : List ℕ = c.args.s.now in
-    ap (λ (x : CommentEnd). by_item (line_item x) s) (sym c.in-Closed.is ∙ c.line_comment-end.ensures ∙ ap line_end (tail_part s 2))
+    ap (λ (x : Option ℕ). by_item (line_item x) s) (sym c.in-Some.is ∙ c.line_comment-end.ensures ∙ ap line_end (tail_part s 2))
 
-pub returns-in-Unclosed : goal.returns-in-Unclosed
-returns-in-Unclosed c =
+pub returns-in-None : goal.returns-in-None
+returns-in-None c =
     let s : List ℕ = c.args.s.now in
-    ap (λ (x : CommentEnd). by_item (line_item x) s) (sym c.in-Unclosed.is ∙ c.line_comment-end.ensures ∙ ap line_end (tail_part s 2))
+    ap (λ (x : Option ℕ). by_item (line_item x) s) (sym c.in-None.is ∙ c.line_comment-end.ensures ∙ ap line_end (tail_part s 2))

@@ -34,15 +34,15 @@ placed_behind-requires c =
     let a = c.args in
     let p = c.requires in
     let n = numbers a.state p.order in
-    omega (arith, scan_within a.s.now a.from c.scan-all.result c.scan-all.ensures _ c.in-Broken.is, n.short, p.inside, p.all, n.held)
+    omega (arith, scan_within a.s.now a.from c.scan-all.result c.scan-all.ensures _ c.in-Err.is, n.short, p.inside, p.all, n.held)
 
-pub returns-in-Complete : goal.returns-in-Complete
-returns-in-Complete c =
+pub returns-in-Ok : goal.returns-in-Ok
+returns-in-Ok c =
     let a = c.args in
-    complete_given _ a.tape.now a.state a.s.now a.from c.scan-all.result c.scan-all.ensures (omega (arith, c.if-room-all.false, c.room.ensures)) _ c.lay.ensures c.in-Complete.is
+    complete_given _ a.tape.now a.state a.s.now a.from c.scan-all.result c.scan-all.ensures (omega (arith, c.if-room-all.false, c.room.ensures)) _ c.lay.ensures c.in-Ok.is
 
-pub returns-in-Broken : goal.returns-in-Broken
-returns-in-Broken c =
+pub returns-in-Err : goal.returns-in-Err
+returns-in-Err c =
     let a = c.args in
     broken_given _ a.tape.now a.state a.s.now a.from c.scan-all.result c.scan-all.ensures (omega (arith, c.if-room-all.false, c.room.ensures)) _ c.lay.ensures
-    _ _ c.in-Broken.is c.placed_behind.ensures _ c.ended_with.ensures
+    _ _ c.in-Err.is c.placed_behind.ensures _ c.ended_with.ensures

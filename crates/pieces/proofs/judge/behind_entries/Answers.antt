@@ -6,16 +6,16 @@ use borrow.Author.Rules.{rules}
 use Rattle.pieces.proofs.judge.behind_entries.Goals as goal
 
 pub returns-then-is_decider : goal.returns-then-is_decider
-returns-then-is_decider c = c.gives.ensures ∙ whole_gives c.args.part.now c.args.s c.in-Complete.is (sym c.is_decider.ensures ∙ c.if-is_decider.true)
+returns-then-is_decider c = c.gives.ensures ∙ whole_gives c.args.part.now c.args.s c.in-Ok.is (sym c.is_decider.ensures ∙ c.if-is_decider.true)
 
 pub returns-then-settles : goal.returns-then-settles
-returns-then-settles c = broken_shuts c.args.part.now c.args.s _ c.in-Broken.is (on_part ron_settles c.args.part.now c.args.s.end _ _ c.settles.ensures c.if-settles.true)
+returns-then-settles c = broken_shuts c.args.part.now c.args.s _ c.in-Err.is (on_part ron_settles c.args.part.now c.args.s.end _ _ c.settles.ensures c.if-settles.true)
 
 pub returns-then-is_decider-2 : goal.returns-then-is_decider-2
-returns-then-is_decider-2 c = c.gives-then-is_decider-2.ensures ∙ broken_gives c.args.part.now c.args.s _ c.in-Broken.is (on_part ron_settles c.args.part.now c.args.s.end _ _ c.settles.ensures c.if-settles.false) (sym c.is_decider-in-Broken.ensures ∙ c.if-is_decider-2.true)
+returns-then-is_decider-2 c = c.gives-then-is_decider-2.ensures ∙ broken_gives c.args.part.now c.args.s _ c.in-Err.is (on_part ron_settles c.args.part.now c.args.s.end _ _ c.settles.ensures c.if-settles.false) (sym c.is_decider-in-Err.ensures ∙ c.if-is_decider-2.true)
 
 pub returns-else-is_decider : goal.returns-else-is_decider
-returns-else-is_decider c = whole_keeps c.args.part.now c.args.s c.in-Complete.is (sym c.is_decider.ensures ∙ c.if-is_decider.false)
+returns-else-is_decider c = whole_keeps c.args.part.now c.args.s c.in-Ok.is (sym c.is_decider.ensures ∙ c.if-is_decider.false)
 
 pub returns-else-is_decider-2 : goal.returns-else-is_decider-2
-returns-else-is_decider-2 c = broken_keeps c.args.part.now c.args.s _ c.in-Broken.is (on_part ron_settles c.args.part.now c.args.s.end _ _ c.settles.ensures c.if-settles.false) (sym c.is_decider-in-Broken.ensures ∙ c.if-is_decider-2.false)
+returns-else-is_decider-2 c = broken_keeps c.args.part.now c.args.s _ c.in-Err.is (on_part ron_settles c.args.part.now c.args.s.end _ _ c.settles.ensures c.if-settles.false) (sym c.is_decider-in-Err.ensures ∙ c.if-is_decider-2.false)

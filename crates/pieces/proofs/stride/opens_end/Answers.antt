@@ -3,5 +3,5 @@ use Rattle.pieces.specs.inner.Waiting.{opens_end}
 use borrow.Author.Rules.{rules}
 use Rattle.pieces.proofs.stride.opens_end.Goals as goal
 
-pub returns-in-Broken : goal.returns-in-Broken
-returns-in-Broken c = c.tells_end.ensures ∙ ap opens_end (sym c.in-Broken.is)
+pub returns-in-Err : goal.returns-in-Err
+returns-in-Err c = c.tells_end.ensures ∙ ap opens_end (sym c.in-Err.is)

@@ -1,3 +1,4 @@
+use Rattle.std.proofs.Common.{Ok, Err}
 use Prim.Native.Nat.{ℕ}
 use native.Mathlib.Omega.{arith}
 use mathlib.Core.Bool.{cond}
@@ -7,7 +8,6 @@ use Rattle.reading.specs.Owed.{quiet_byte}
 use Rattle.reading.specs.Readings.{read_from}
 use Rattle.read.proofs.PassLaws.{left_broken, left_complete, left_entry, left_full}
 use Rattle.read.proofs.ReadSteps.{blanks_broken, blanks_complete, blanks_entry, blanks_within, plain_within, refuse_within, step_plain, step_refuse, step_stop, step_token, step_within}
-use Rattle.read.specs.declared.scanned.Ending.TheVariants.{Broken, Complete}
 use Rattle.rows.specs.Rows.{written}
 use Rattle.rows.specs.declared.Entry.{Entry}
 use Rattle.text.specs.declared.refusal.Refusal.{Refusal}
@@ -46,7 +46,7 @@ pub placed_behind-requires : goal.placed_behind-requires
 placed_behind-requires c = let f = blanks_within c.args.text.now c.loop-i.at c.behind_blanks-front.result c.behind_blanks-front.ensures c.loop-i.invariant.0 in let w = refuse_within c.args.text.now c.behind_blanks-front.result _ c.next_token-found.ensures _ c.in-Refused.is in omega (arith, w, f, c.requires.0)
 
 pub returns-in-Refused : goal.returns-in-Refused
-returns-in-Refused c = let w = left_broken c.args.on c.args.n c.args.from (read_from ron_token c.args.text.now c.args.from) c.args.tape.now c.loop-i.i c.loop-i.at c.loop-i.before (read_from ron_token c.args.text.now c.loop-i.at) c.loop-i.tape c.loop-i.invariant.2 c.requires.2 _ c.loop-i-test.true (blanks_broken c.args.text.now c.loop-i.at c.behind_blanks-front.result c.behind_blanks-front.ensures _ (step_refuse c.args.text.now c.behind_blanks-front.result _ c.next_token-found.ensures _ c.in-Refused.is)) in (c.told-in-Refused.ensures ∙ ap (λ (d : Refusal). record { count = c.loop-i.i; end = c.loop-i.at; before = c.loop-i.before; ending = Broken d }) c.placed_behind.ensures ∙ w.answer, w.rows)
+returns-in-Refused c = let w = left_broken c.args.on c.args.n c.args.from (read_from ron_token c.args.text.now c.args.from) c.args.tape.now c.loop-i.i c.loop-i.at c.loop-i.before (read_from ron_token c.args.text.now c.loop-i.at) c.loop-i.tape c.loop-i.invariant.2 c.requires.2 _ c.loop-i-test.true (blanks_broken c.args.text.now c.loop-i.at c.behind_blanks-front.result c.behind_blanks-front.ensures _ (step_refuse c.args.text.now c.behind_blanks-front.result _ c.next_token-found.ensures _ c.in-Refused.is)) in (c.told-in-Refused.ensures ∙ ap (λ (d : Refusal). record { count = c.loop-i.i; end = c.loop-i.at; before = c.loop-i.before; ending = Err d }) c.placed_behind.ensures ∙ w.answer, w.rows)
 
 pub returns : goal.returns
-returns c = let w = left_full c.args.on c.args.n c.args.from (read_from ron_token c.args.text.now c.args.from) c.args.tape.now c.loop-i.i c.loop-i.at c.loop-i.before (read_from ron_token c.args.text.now c.loop-i.at) c.loop-i.tape c.loop-i.invariant.2 c.requires.2 c.loop-i-test.false in let z : c.args.n ≡ c.loop-i.i = omega arith in (c.told-2.ensures ∙ ap (λ (k : ℕ). record { count = k; end = c.loop-i.at; before = c.loop-i.before; ending = Complete }) z ∙ w.answer, w.rows)
+returns c = let w = left_full c.args.on c.args.n c.args.from (read_from ron_token c.args.text.now c.args.from) c.args.tape.now c.loop-i.i c.loop-i.at c.loop-i.before (read_from ron_token c.args.text.now c.loop-i.at) c.loop-i.tape c.loop-i.invariant.2 c.requires.2 c.loop-i-test.false in let z : c.args.n ≡ c.loop-i.i = omega arith in (c.told-2.ensures ∙ ap (λ (k : ℕ). record { count = k; end = c.loop-i.at; before = c.loop-i.before; ending = Ok tt }) z ∙ w.answer, w.rows)

@@ -1,3 +1,4 @@
+use Rattle.std.proofs.Common.{Ok, Err}
 use Prim.Native.Nat.{◌+◌, ◌-◌, ◌≤◌}
 use native.Mathlib.Omega.{arith}
 use mathlib.Core.Path.{◌∙◌, ◌≡◌, ap, refl, sym}
@@ -9,7 +10,6 @@ use Rattle.reading.specs.Owed.{quiet_byte}
 use Rattle.reading.specs.Readings.{read_from}
 use Rattle.repair.proofs.Searching.{Standing, met_next, scan_at, scan_broken, scan_end, scan_on, stands}
 use Rattle.repair.specs.Repair.{scan_of}
-use Rattle.repair.specs.declared.join.Scan.TheVariants.{Found, Refused}
 use Rattle.rows.proofs.RowLaws.{length_entries}
 use Rattle.rows.specs.Rows.{entries_of}
 use Rattle.tokens.proofs.RonLaws.{laws}
@@ -41,13 +41,13 @@ pub loop-at-preserved : goal.loop-at-preserved
 loop-at-preserved c = let w = step_within c.args.text.now c.loop-at.at _ c.next_token-found.ensures _ _ c.in-Token.is in let m = sym c.meet-met.ensures ∙ c.in-Next.is in (omega (arith, w.1), omega (arith, w.0, c.loop-at.invariant.1), λ y h l. (met_next (entries_of c.args.count c.args.tape.now) c.args.b c.args.e c.loop-at.i c.in-Token.g (c.loop-at.at + c.in-Token.g) _ m).1 y (omega arith) (c.loop-at.invariant.2 y h (omega arith)), sym (ap (scan_of (entries_of c.args.count c.args.tape.now) c.args.b c.args.e c.loop-at.n) (step_token c.args.text.now c.loop-at.at _ c.next_token-found.ensures _ _ c.in-Token.is) ∙ scan_on (entries_of c.args.count c.args.tape.now) c.args.b c.args.e c.loop-at.n c.loop-at.i _ _ _ m) ∙ c.loop-at.invariant.3)
 
 pub returns-in-End : goal.returns-in-End
-returns-in-End c = sym (ap (scan_of (entries_of c.args.count c.args.tape.now) c.args.b c.args.e c.loop-at.n) (step_stop c.args.text.now c.loop-at.at _ c.next_token-found.ensures c.in-End.is) ∙ scan_end (entries_of c.args.count c.args.tape.now) c.args.b c.args.e c.loop-at.n ∙ ap (Found c.loop-at.n) (length_entries c.args.count c.args.tape.now)) ∙ c.loop-at.invariant.3
+returns-in-End c = sym (ap (scan_of (entries_of c.args.count c.args.tape.now) c.args.b c.args.e c.loop-at.n) (step_stop c.args.text.now c.loop-at.at _ c.next_token-found.ensures c.in-End.is) ∙ scan_end (entries_of c.args.count c.args.tape.now) c.args.b c.args.e c.loop-at.n ∙ ap (λ (y : ℕ). Ok (c.loop-at.n, y)) (length_entries c.args.count c.args.tape.now)) ∙ c.loop-at.invariant.3
 
 pub placed_behind-requires : goal.placed_behind-requires
 placed_behind-requires c = omega (arith, refuse_within c.args.text.now c.loop-at.at _ c.next_token-found.ensures _ c.in-Refused.is, c.requires.0)
 
 pub returns-in-Refused : goal.returns-in-Refused
-returns-in-Refused c = ap Refused c.placed_behind.ensures ∙ sym (ap (scan_of (entries_of c.args.count c.args.tape.now) c.args.b c.args.e c.loop-at.n) (step_refuse c.args.text.now c.loop-at.at _ c.next_token-found.ensures _ c.in-Refused.is) ∙ scan_broken (entries_of c.args.count c.args.tape.now) c.args.b c.args.e c.loop-at.n _) ∙ c.loop-at.invariant.3
+returns-in-Refused c = ap Err c.placed_behind.ensures ∙ sym (ap (scan_of (entries_of c.args.count c.args.tape.now) c.args.b c.args.e c.loop-at.n) (step_refuse c.args.text.now c.loop-at.at _ c.next_token-found.ensures _ c.in-Refused.is) ∙ scan_broken (entries_of c.args.count c.args.tape.now) c.args.b c.args.e c.loop-at.n _) ∙ c.loop-at.invariant.3
 
 pub returns : goal.returns
-returns c = sym (ap (scan_of (entries_of c.args.count c.args.tape.now) c.args.b c.args.e c.loop-at.n) (from_end ron_token quiet_byte laws c.args.text.now c.loop-at.at (omega arith)) ∙ scan_end (entries_of c.args.count c.args.tape.now) c.args.b c.args.e c.loop-at.n ∙ ap (Found c.loop-at.n) (length_entries c.args.count c.args.tape.now)) ∙ c.loop-at.invariant.3
+returns c = sym (ap (scan_of (entries_of c.args.count c.args.tape.now) c.args.b c.args.e c.loop-at.n) (from_end ron_token quiet_byte laws c.args.text.now c.loop-at.at (omega arith)) ∙ scan_end (entries_of c.args.count c.args.tape.now) c.args.b c.args.e c.loop-at.n ∙ ap (λ (y : ℕ). Ok (c.loop-at.n, y)) (length_entries c.args.count c.args.tape.now)) ∙ c.loop-at.invariant.3

@@ -9,7 +9,6 @@ use Rattle.reading.specs.Owed.{quiet_byte}
 use Rattle.reading.specs.Readings.{read_from}
 use Rattle.repair.proofs.Searching.{Standing, met_next, scan_at, scan_broken, scan_end, scan_on, stands}
 use Rattle.repair.specs.Repair.{scan_of}
-use Rattle.repair.specs.declared.join.Scan.TheVariants.{Found, Refused}
 use Rattle.rows.proofs.RowLaws.{length_entries}
 use Rattle.rows.specs.Rows.{entries_of}
 use Rattle.tokens.proofs.RonLaws.{laws}

@@ -7,16 +7,16 @@ use Rattle.sarridok.specs.Contents.{part_of}
 use Rattle.sarridok.proofs.contents_call.contents_part.Goals as goal
 
 pub slice_bounds-result-count : goal.slice_bounds-result-count
-slice_bounds-result-count c = omega (arith, part_inside c.args.text.now c.args.tape.now c.args.count c.args.entry _ (sym (ap told_contents c.in-Part.is) ∙ c.contents-answer.ensures))
+slice_bounds-result-count c = omega (arith, part_inside c.args.text.now c.args.tape.now c.args.count c.args.entry _ (sym (ap told_contents c.in-Ok.is) ∙ c.contents-answer.ensures))
 
 pub slice_bounds-result-start : goal.slice_bounds-result-start
-slice_bounds-result-start c = omega (arith, part_inside c.args.text.now c.args.tape.now c.args.count c.args.entry _ (sym (ap told_contents c.in-Part.is) ∙ c.contents-answer.ensures))
+slice_bounds-result-start c = omega (arith, part_inside c.args.text.now c.args.tape.now c.args.count c.args.entry _ (sym (ap told_contents c.in-Ok.is) ∙ c.contents-answer.ensures))
 
 pub slice_bounds-result-end : goal.slice_bounds-result-end
-slice_bounds-result-end c = omega (arith, part_inside c.args.text.now c.args.tape.now c.args.count c.args.entry _ (sym (ap told_contents c.in-Part.is) ∙ c.contents-answer.ensures))
+slice_bounds-result-end c = omega (arith, part_inside c.args.text.now c.args.tape.now c.args.count c.args.entry _ (sym (ap told_contents c.in-Ok.is) ∙ c.contents-answer.ensures))
 
-pub returns-in-Part : goal.returns-in-Part
-returns-in-Part c = ap (part_of c.args.text.now) (sym (ap told_contents c.in-Part.is) ∙ c.contents-answer.ensures)
+pub returns-in-Ok : goal.returns-in-Ok
+returns-in-Ok c = ap (part_of c.args.text.now) (sym (ap told_contents c.in-Ok.is) ∙ c.contents-answer.ensures)
 
-pub returns-in-Refused : goal.returns-in-Refused
-returns-in-Refused c = ap (part_of c.args.text.now) (sym (ap told_contents c.in-Refused.is) ∙ c.contents-answer.ensures)
+pub returns-in-Err : goal.returns-in-Err
+returns-in-Err c = ap (part_of c.args.text.now) (sym (ap told_contents c.in-Err.is) ∙ c.contents-answer.ensures)

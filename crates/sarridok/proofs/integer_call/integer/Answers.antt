@@ -1,3 +1,4 @@
+use Rattle.std.proofs.Common.{Err}
 use native.Mathlib.Omega.{arith}
 use mathlib.Core.Path.{◌∙◌, ap, sym}
 use borrow.Author.Rules.{rules}
@@ -6,16 +7,15 @@ use Rattle.sarridok.proofs.Places.{at_fits}
 use Rattle.sarridok.specs.Typed.{integer_at, integer_of, placed_at, told_integer}
 use Rattle.text.proofs.JudgeLaws.{front_fit, front_refused, front_unfit, place_within}
 use Rattle.text.proofs.Lists.{tail_part}
-use Rattle.text.specs.Refusals.Told.{refused}
 use Rattle.sarridok.proofs.integer_call.integer.Goals as goal
 
-pub returns-in-Refused : goal.returns-in-Refused
+pub returns-in-Err : goal.returns-in-Err
 unfolding integer_of
-returns-in-Refused c = sym (front_refused _ _ _ _ (sym c.judge-judged.ensures ∙ c.in-Refused.is))
+returns-in-Err c = sym (front_refused _ _ _ _ (sym c.judge-judged.ensures ∙ c.in-Err.is))
 
 pub returns-then-not-place_fits : goal.returns-then-not-place_fits
 unfolding integer_of
-returns-then-not-place_fits c = ap refused c.unfit.ensures ∙ sym (front_unfit _ _ _ (sym c.judge-judged.ensures ∙ c.in_default.is) (sym c.place_fits.ensures ∙ c.if-not-place_fits.true))
+returns-then-not-place_fits c = ap Err c.unfit.ensures ∙ sym (front_unfit _ _ _ (sym c.judge-judged.ensures ∙ c.in_default.is) (sym c.place_fits.ensures ∙ c.if-not-place_fits.true))
 
 pub slice_bounds-number_at-count : goal.slice_bounds-number_at-count
 slice_bounds-number_at-count c = omega (arith, place_within c.args.text.now c.args.place (sym c.place_fits.ensures ∙ c.if-not-place_fits.false))

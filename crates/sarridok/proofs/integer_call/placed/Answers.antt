@@ -1,7 +1,7 @@
+use Rattle.std.proofs.Common.{Err}
 use native.Mathlib.Omega.{arith}
 use mathlib.Core.Path.{ap}
 use borrow.Author.Rules.{rules}
-use Rattle.sarridok.specs.declared.integer_call.IntegerAnswer.TheVariants.{Refused as refuse}
 use Rattle.sarridok.proofs.integer_call.placed.Goals as goal
 
 pub overflow_add-result : goal.overflow_add-result
@@ -16,7 +16,7 @@ pub returns-in-Read : goal.returns-in-Read
 returns-in-Read c = rw c.in-Read.is
 
 pub returns-in-OtherSuffix : goal.returns-in-OtherSuffix
-returns-in-OtherSuffix c = rw c.in-OtherSuffix.is (ap refuse c.other_kind.ensures)
+returns-in-OtherSuffix c = rw c.in-OtherSuffix.is (ap Err c.other_kind.ensures)
 
 pub returns-in-Refused : goal.returns-in-Refused
-returns-in-Refused c = rw c.in-Refused.is (ap refuse c.placed_behind.ensures)
+returns-in-Refused c = rw c.in-Refused.is (ap Err c.placed_behind.ensures)

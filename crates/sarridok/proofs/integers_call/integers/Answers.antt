@@ -1,14 +1,14 @@
+use Rattle.std.proofs.Common.{Err}
 use native.Mathlib.Omega.{arith}
 use mathlib.Core.Path.{◌∙◌, ap, sym}
 use lib.ListN.{length}
 use Rattle.sarridok.proofs.IntegersLaws.{all_refused, all_written, by_codes, by-count, by-item, by_judged, by_magnitudes, by-room}
 use borrow.Author.Rules.{rules}
-use Rattle.text.specs.Refusals.Told.{refused}
 use Rattle.sarridok.proofs.integers_call.integers.Goals as goal
 
-pub returns-in-Refused : goal.returns-in-Refused
-returns-in-Refused c =
-    let z = all_refused c.args.text.now c.args.tape.now c.args.count c.args.items.now c.args.magnitudes.now c.args.codes.now _ (by_judged c.args.text.now c.args.tape.now c.args.count c.args.items.now (length c.args.magnitudes.now) (length c.args.codes.now) _ (sym c.judge-judged.ensures ∙ c.in-Refused.is)) in
+pub returns-in-Err : goal.returns-in-Err
+returns-in-Err c =
+    let z = all_refused c.args.text.now c.args.tape.now c.args.count c.args.items.now c.args.magnitudes.now c.args.codes.now _ (by_judged c.args.text.now c.args.tape.now c.args.count c.args.items.now (length c.args.magnitudes.now) (length c.args.codes.now) _ (sym c.judge-judged.ensures ∙ c.in-Err.is)) in
     record {
       answer = z.0;
       magnitudes = z.1.0;
@@ -19,7 +19,7 @@ pub returns-then-room-count : goal.returns-then-room-count
 returns-then-room-count c =
     let z = all_refused c.args.text.now c.args.tape.now c.args.count c.args.items.now c.args.magnitudes.now c.args.codes.now _ (by-count c.args.text.now c.args.tape.now c.args.count c.args.items.now (length c.args.magnitudes.now) (length c.args.codes.now) (sym c.judge-judged.ensures ∙ c.in_default.is) (omega (arith, c.room.ensures, c.if-room-count.true))) in
     record {
-      answer = ap refused c.not_in_order.ensures ∙ z.0;
+      answer = ap Err c.not_in_order.ensures ∙ z.0;
       magnitudes = z.1.0;
       codes = z.1.1;
     }
@@ -27,9 +27,9 @@ returns-then-room-count c =
 pub judge_items-read-requires : goal.judge_items-read-requires
 judge_items-read-requires c = ((sym c.judge-judged.ensures ∙ c.in_default.is), (omega (arith, c.room.ensures, c.if-room-count.false)))
 
-pub returns-in-Refused-read : goal.returns-in-Refused-read
-returns-in-Refused-read c =
-    let z = all_refused c.args.text.now c.args.tape.now c.args.count c.args.items.now c.args.magnitudes.now c.args.codes.now _ (by-item c.args.text.now c.args.tape.now c.args.count c.args.items.now (length c.args.magnitudes.now) (length c.args.codes.now) (sym c.judge-judged.ensures ∙ c.in_default.is) (omega (arith, c.room.ensures, c.if-room-count.false)) _ (sym c.judge_items-read.ensures ∙ c.in-Refused-read.is)) in
+pub returns-in-Err-read : goal.returns-in-Err-read
+returns-in-Err-read c =
+    let z = all_refused c.args.text.now c.args.tape.now c.args.count c.args.items.now c.args.magnitudes.now c.args.codes.now _ (by-item c.args.text.now c.args.tape.now c.args.count c.args.items.now (length c.args.magnitudes.now) (length c.args.codes.now) (sym c.judge-judged.ensures ∙ c.in_default.is) (omega (arith, c.room.ensures, c.if-room-count.false)) _ (sym c.judge_items-read.ensures ∙ c.in-Err-read.is)) in
     record {
       answer = z.0;
       magnitudes = z.1.0;
@@ -40,7 +40,7 @@ pub returns-then-magnitudes-items : goal.returns-then-magnitudes-items
 returns-then-magnitudes-items c =
     let z = all_refused c.args.text.now c.args.tape.now c.args.count c.args.items.now c.args.magnitudes.now c.args.codes.now _ (by_magnitudes c.args.text.now c.args.tape.now c.args.count c.args.items.now (length c.args.magnitudes.now) (length c.args.codes.now) (sym c.judge-judged.ensures ∙ c.in_default.is) (omega (arith, c.room.ensures, c.if-room-count.false)) (sym c.judge_items-read.ensures ∙ c.in_default-read.is) c.if-magnitudes-items.true) in
     record {
-      answer = ap refused c.no_room.ensures ∙ z.0;
+      answer = ap Err c.no_room.ensures ∙ z.0;
       magnitudes = z.1.0;
       codes = z.1.1;
     }
@@ -49,7 +49,7 @@ pub returns-then-codes-items : goal.returns-then-codes-items
 returns-then-codes-items c =
     let z = all_refused c.args.text.now c.args.tape.now c.args.count c.args.items.now c.args.magnitudes.now c.args.codes.now _ (by_codes c.args.text.now c.args.tape.now c.args.count c.args.items.now (length c.args.magnitudes.now) (length c.args.codes.now) (sym c.judge-judged.ensures ∙ c.in_default.is) (omega (arith, c.room.ensures, c.if-room-count.false)) (sym c.judge_items-read.ensures ∙ c.in_default-read.is) c.if-codes-items.true) in
     record {
-      answer = ap refused c.no_room-then-codes-items.ensures ∙ z.0;
+      answer = ap Err c.no_room-then-codes-items.ensures ∙ z.0;
       magnitudes = z.1.0;
       codes = z.1.1;
     }

@@ -1,5 +1,4 @@
 use mathlib.Core.Path.{◌∙◌, ap}
-use Rattle.text.specs.Refusals.Told.{accepted, refused}
 use borrow.Author.Rules.{rules}
 use Rattle.sarridok.proofs.items.coded.Goals as goal
 

@@ -1,3 +1,4 @@
+use Rattle.std.proofs.Common.{Err}
 use native.Mathlib.Omega.{arith}
 use mathlib.Core.Path.{◌∙◌, ap, sym}
 use mathlib.Core.List.{List}
@@ -5,7 +6,7 @@ use Prim.Native.Nat.{ℕ}
 use borrow.Author.Tests.{not-false, not-true}
 use Rattle.text.proofs.JudgeLaws.{place_within}
 use Rattle.text.proofs.Lists.{tail_part}
-use Rattle.text.specs.Refusals.{at_place, refused}
+use Rattle.text.specs.Refusals.{at_place}
 use Rattle.text.specs.declared.refusal.Refusal.{Refusal}
 use Rattle.integers.specs.Width.{width_at}
 use Rattle.sarridok.specs.Typed.{integer_at}
@@ -15,10 +16,10 @@ use borrow.Author.Rules.{rules}
 use Rattle.sarridok.proofs.items.entry_integer.Goals as goal
 
 pub returns-then-not-place_fits : goal.returns-then-not-place_fits
-returns-then-not-place_fits c = ap refused (c.at_item.ensures ∙ ap (λ (r : Refusal). at_place r c.args.k) c.unfit.ensures) ∙ entry_unfit c.args.text.now c.args.e c.args.k (sym c.place_fits.ensures ∙ c.if-not-place_fits.true)
+returns-then-not-place_fits c = ap Err (c.at_item.ensures ∙ ap (λ (r : Refusal). at_place r c.args.k) c.unfit.ensures) ∙ entry_unfit c.args.text.now c.args.e c.args.k (sym c.place_fits.ensures ∙ c.if-not-place_fits.true)
 
 pub returns-then-not-names_integer : goal.returns-then-not-names_integer
-returns-then-not-names_integer c = ap refused (c.at_item-then-not-names_integer.ensures ∙ ap (λ (r : Refusal). at_place r c.args.k) c.other_kind.ensures) ∙ entry_other c.args.text.now c.args.e c.args.k (sym c.place_fits.ensures ∙ c.if-not-place_fits.false) (sym c.names_integer.ensures ∙ c.if-not-names_integer.true)
+returns-then-not-names_integer c = ap Err (c.at_item-then-not-names_integer.ensures ∙ ap (λ (r : Refusal). at_place r c.args.k) c.other_kind.ensures) ∙ entry_other c.args.text.now c.args.e c.args.k (sym c.place_fits.ensures ∙ c.if-not-place_fits.false) (sym c.names_integer.ensures ∙ c.if-not-names_integer.true)
 
 pub slice_bounds-integer_in-count : goal.slice_bounds-integer_in-count
 slice_bounds-integer_in-count c = omega (arith, place_within c.args.text.now c.args.e.start (sym c.place_fits.ensures ∙ c.if-not-place_fits.false))

@@ -10,8 +10,8 @@ use Rattle.sarridok.proofs.items.judge_items.Goals as goal
 pub loop-k-init : goal.loop-k-init
 loop-k-init c = refl
 
-pub returns-in-Refused : goal.returns-in-Refused
-returns-in-Refused c = sym (judge_stops c.args.text.now c.args.tape.now c.args.count c.args.items.now c.loop-k.k _ c.loop-k-test.true (ap told_item (sym c.in-Refused.is) ∙ c.item_at-judged.ensures)) ∙ c.loop-k.invariant
+pub returns-in-Err : goal.returns-in-Err
+returns-in-Err c = sym (judge_stops c.args.text.now c.args.tape.now c.args.count c.args.items.now c.loop-k.k _ c.loop-k-test.true (ap told_item (sym c.in-Err.is) ∙ c.item_at-judged.ensures)) ∙ c.loop-k.invariant
 
 pub loop-k-preserved : goal.loop-k-preserved
 loop-k-preserved c = sym (judge_passes c.args.text.now c.args.tape.now c.args.count c.args.items.now c.loop-k.k _ c.loop-k-test.true (ap told_item (sym c.in_default.is) ∙ c.item_at-judged.ensures)) ∙ c.loop-k.invariant

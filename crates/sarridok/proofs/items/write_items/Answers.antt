@@ -17,7 +17,7 @@ returns-in_default c = absurd (never_refused c.args.text.now c.args.tape.now c.a
 
 pub loop-k-preserved : goal.loop-k-preserved
 loop-k-preserved c =
-    let reads = ap told_item (sym c.in-Number.is) ∙ c.item_at-read.ensures in (
+    let reads = ap told_item (sym c.in-Ok.is) ∙ c.item_at-read.ensures in (
       search rules,
       search rules,
       turn c.args.text.now c.args.tape.now c.args.count c.args.items.now c.requires.2 (λ (v : Coded). v.magnitude) c.loop-k.k c.args.magnitudes.now _ _ c.loop-k-test.true c.requires.3 reads c.loop-k.invariant.2,

@@ -5,9 +5,9 @@ use Rattle.text.proofs.JudgeLaws.{fit_short}
 use Rattle.read.proofs.ReadLaws.{read_fit, read_refused, tape-by}
 use Rattle.sarridok.proofs.read_call.read.Goals as goal
 
-pub returns-in-Refused : goal.returns-in-Refused
-returns-in-Refused c =
-    let e = read_refused c.args.text.now (length c.args.tape.now) _ (sym c.judge-judged.ensures ∙ c.in-Refused.is) in
+pub returns-in-Err : goal.returns-in-Err
+returns-in-Err c =
+    let e = read_refused c.args.text.now (length c.args.tape.now) _ (sym c.judge-judged.ensures ∙ c.in-Err.is) in
     (sym e, sym (tape-by c.args.text.now c.args.tape.now _ (sym e)))
 
 pub read_text-requires : goal.read_text-requires

@@ -1,19 +1,19 @@
+use Rattle.std.proofs.Common.{Err}
 use mathlib.Core.Path.{◌∙◌, ap, sym}
 use borrow.Author.Rules.{rules}
 use borrow.Author.Tests.{not-false, not-true}
-use Rattle.sarridok.specs.Skip.{told_skip, skip_of}
+use Rattle.sarridok.specs.Skip.{skip_of}
 use Rattle.text.proofs.JudgeLaws.{front_fit, front_refused, front_unfit}
-use Rattle.text.specs.Refusals.Told.{refused}
 use Rattle.sarridok.proofs.skip_call.skip.Goals as goal
 
-pub returns-in-Refused : goal.returns-in-Refused
+pub returns-in-Err : goal.returns-in-Err
 unfolding skip_of
-returns-in-Refused c = sym (front_refused _ _ _ _ (sym c.judge-judged.ensures ∙ c.in-Refused.is))
+returns-in-Err c = sym (front_refused _ _ _ _ (sym c.judge-judged.ensures ∙ c.in-Err.is))
 
 pub returns-then-not-fits : goal.returns-then-not-fits
 unfolding skip_of
-returns-then-not-fits c = ap refused c.unfit.ensures ∙ sym (front_unfit _ _ _ (sym c.judge-judged.ensures ∙ c.in_default.is) (sym c.fits.ensures ∙ c.if-not-fits.true))
+returns-then-not-fits c = ap Err c.unfit.ensures ∙ sym (front_unfit _ _ _ (sym c.judge-judged.ensures ∙ c.in_default.is) (sym c.fits.ensures ∙ c.if-not-fits.true))
 
 pub returns : goal.returns
 unfolding skip_of
-returns c = ap told_skip c.skip_ws.ensures ∙ sym (front_fit _ _ _ (sym c.judge-judged.ensures ∙ c.in_default.is) (sym c.fits.ensures ∙ c.if-not-fits.false))
+returns c = c.skip_ws.ensures ∙ sym (front_fit _ _ _ (sym c.judge-judged.ensures ∙ c.in_default.is) (sym c.fits.ensures ∙ c.if-not-fits.false))

@@ -15,9 +15,9 @@ use Rattle.sarridok.proofs.WalkFront.{walk_unread, walk_28, walk_23, walk_23_ord
 use borrow.Author.Rules.{rules}
 use Rattle.sarridok.proofs.walk_call.walk.Goals as goal
 
-pub returns-in-Refused : goal.returns-in-Refused
-returns-in-Refused c =
-    let z = refused_meets c.args.text.now c.args.tape.now c.args.count c.args.limit c.args.links.now _ _ refl (walk_unread c.args.text.now c.args.tape.now c.args.count c.args.limit (length c.args.links.now) _ (sym c.judge-judged.ensures ∙ c.in-Refused.is)) in
+pub returns-in-Err : goal.returns-in-Err
+returns-in-Err c =
+    let z = refused_meets c.args.text.now c.args.tape.now c.args.count c.args.limit c.args.links.now _ _ refl (walk_unread c.args.text.now c.args.tape.now c.args.count c.args.limit (length c.args.links.now) _ (sym c.judge-judged.ensures ∙ c.in-Err.is)) in
     record {
       answer = z.0;
       left = z.1;
@@ -70,9 +70,9 @@ pub judge-verdict-requires : goal.judge-verdict-requires
 unfolding in_order
 judge-verdict-requires c = (omega (arith, c.room.ensures), omega arith, omega (arith, in_order_short (entries_of c.args.count c.args.tape.now) 0 (length c.args.text.now) (sym c.in_order.ensures ∙ c.if-not-in_order.false), length_entries c.args.count c.args.tape.now, fit_short c.args.text.now (sym c.judge-judged.ensures ∙ c.in_default.is)), (sym c.in_order.ensures ∙ c.if-not-in_order.false), (sym c.raws_fit.ensures ∙ c.if-not-raws_fit.false))
 
-pub returns-in-Refused-verdict : goal.returns-in-Refused-verdict
-returns-in-Refused-verdict c =
-    let z = refused_meets c.args.text.now c.args.tape.now c.args.count c.args.limit c.args.links.now _ _ refl (walk_judged c.args.text.now c.args.tape.now c.args.count c.args.limit (length c.args.links.now) (sym c.judge-judged.ensures ∙ c.in_default.is) (omega arith) (omega (arith, c.room.ensures)) (sym c.in_order.ensures ∙ c.if-not-in_order.false) (sym c.raws_fit.ensures ∙ c.if-not-raws_fit.false) (omega arith) _ (sym c.in-Refused-verdict.is ∙ c.judge-verdict.ensures)) in
+pub returns-in-Err-verdict : goal.returns-in-Err-verdict
+returns-in-Err-verdict c =
+    let z = refused_meets c.args.text.now c.args.tape.now c.args.count c.args.limit c.args.links.now _ _ refl (walk_judged c.args.text.now c.args.tape.now c.args.count c.args.limit (length c.args.links.now) (sym c.judge-judged.ensures ∙ c.in_default.is) (omega arith) (omega (arith, c.room.ensures)) (sym c.in_order.ensures ∙ c.if-not-in_order.false) (sym c.raws_fit.ensures ∙ c.if-not-raws_fit.false) (omega arith) _ (sym c.in-Err-verdict.is ∙ c.judge-verdict.ensures)) in
     record {
       answer = z.0;
       left = z.1;

@@ -3,10 +3,10 @@ use Rattle.sarridok_c.specs.Packed.{unfit_in, unless_judged}
 use borrow.Author.Rules.{rules}
 use Rattle.sarridok_c.proofs.packing.unfit_in.Goals as goal
 
-pub returns-in-Fit : goal.returns-in-Fit
+pub returns-in-Ok : goal.returns-in-Ok
 unfolding unfit_in
-returns-in-Fit c = c.unfit.ensures ∙ sym (ap unless_judged (sym c.judge-judged.ensures ∙ c.in-Fit.is))
+returns-in-Ok c = c.unfit.ensures ∙ sym (ap unless_judged (sym c.judge-judged.ensures ∙ c.in-Ok.is))
 
-pub returns-in-Refused : goal.returns-in-Refused
+pub returns-in-Err : goal.returns-in-Err
 unfolding unfit_in
-returns-in-Refused c = sym (ap unless_judged (sym c.judge-judged.ensures ∙ c.in-Refused.is))
+returns-in-Err c = sym (ap unless_judged (sym c.judge-judged.ensures ∙ c.in-Err.is))

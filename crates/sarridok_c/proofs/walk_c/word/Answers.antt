@@ -1,8 +1,8 @@
 use borrow.Author.Rules.{rules}
 use Rattle.sarridok_c.proofs.walk_c.word.Goals as goal
 
-pub returns-in-Walked : goal.returns-in-Walked
-returns-in-Walked c = rw c.in-Walked.is
+pub returns-in-Ok : goal.returns-in-Ok
+returns-in-Ok c = rw c.in-Ok.is
 
-pub returns-in-Refused : goal.returns-in-Refused
-returns-in-Refused c = rw c.in-Refused.is c.refused.ensures
+pub returns-in-Err : goal.returns-in-Err
+returns-in-Err c = rw c.in-Err.is c.refused.ensures

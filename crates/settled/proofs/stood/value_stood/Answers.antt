@@ -2,10 +2,10 @@ use mathlib.Core.Path.{◌∙◌, ap, sym}
 use Rattle.settled.specs.Stood.{value_by, value_stood}
 use Rattle.settled.proofs.stood.value_stood.Goals as goal
 
-pub returns-in-On : goal.returns-in-On
+pub returns-in-Ok : goal.returns-in-Ok
 unfolding value_stood
-returns-in-On c = c.string_stood.ensures ∙ ap (value_by c.args.s.now c.args.at) (sym c.in-On.is ∙ c.sign-given.ensures)
+returns-in-Ok c = c.string_stood.ensures ∙ ap (value_by c.args.s.now c.args.at) (sym c.in-Ok.is ∙ c.sign-given.ensures)
 
-pub returns-in-Refused : goal.returns-in-Refused
+pub returns-in-Err : goal.returns-in-Err
 unfolding value_stood
-returns-in-Refused c = c.sign_stood.ensures ∙ ap (value_by c.args.s.now c.args.at) (sym c.in-Refused.is ∙ c.sign-given.ensures)
+returns-in-Err c = c.sign_stood.ensures ∙ ap (value_by c.args.s.now c.args.at) (sym c.in-Err.is ∙ c.sign-given.ensures)

@@ -1,10 +1,9 @@
+use Rattle.text.specs.Refusals.{Told}
 use Prim.Native.Nat.{ℕ, ◌-◌}
 use native.Mathlib.Omega.{arith}
 use mathlib.Core.List.{List}
 use mathlib.Core.Path.{◌≡◌, sym, ap, ◌∙◌}
 use lib.ListN.{take}
-use Rattle.entries.specs.Contents.{told_decoded}
-use Rattle.entries.specs.declared.decoding.DecodedAnswer.{DecodedAnswer}
 use Rattle.lines.specs.Out.{put}
 use Rattle.show.specs.Answers.{answer_text}
 use Rattle.show.specs.Contents.{bytes_text, wrote_text}
@@ -18,10 +17,10 @@ returns-in-Wrote c =
     let n : ℕ = c.in-Wrote.n in
     let all : n - 0 ≡ n = omega arith in
     c.wrote.ensures ∙ ap (λ (t : List ℕ). put out (bytes_text t)) (c.part.ensures ∙ ap (λ (k : ℕ). take k buffer) all)
-    ∙ ap (λ (a : DecodedAnswer). put out (answer_text (wrote_text buffer) (told_decoded a))) (sym c.in-Wrote.is)
+    ∙ ap (λ (a : Told ℕ). put out (answer_text (wrote_text buffer) (a))) (sym c.in-Wrote.is)
 
 pub returns-in-Refused : goal.returns-in-Refused
 returns-in-Refused c =
     let out : List ℕ × ℕ = (c.args.o.now, c.args.at) in
     let buffer : List ℕ = c.args.buffer.now in
-    c.refused.ensures ∙ ap (λ (a : DecodedAnswer). put out (answer_text (wrote_text buffer) (told_decoded a))) (sym c.in-Refused.is)
+    c.refused.ensures ∙ ap (λ (a : Told ℕ). put out (answer_text (wrote_text buffer) (a))) (sym c.in-Refused.is)

@@ -1,8 +1,8 @@
+use Rattle.text.specs.Refusals.{Told}
 use Prim.Native.Nat.{ℕ}
 use mathlib.Core.List.{List, ◌++◌}
 use mathlib.Core.Path.{sym, ap, ◌∙◌}
 use Rattle.entries.specs.Contents.{told_contents}
-use Rattle.entries.specs.declared.view.ContentsAnswer.{ContentsAnswer}
 use Rattle.lines.proofs.OutLaws.{then}
 use Rattle.lines.specs.Ascii.{ascii}
 use Rattle.lines.specs.Decimal.{word_of}
@@ -19,9 +19,9 @@ returns-in-Part c =
     let end : ℕ = c.in-Part.end in
     then out _ _ (ascii "ok part") (word_of start ++ word_of end) c.bytes-a.ensures
     (then _ _ _ (word_of start) (word_of end) c.word-b.ensures c.word.ensures)
-    ∙ ap (λ (a : ContentsAnswer). put out (answer_text span_text (told_contents a))) (sym c.in-Part.is)
+    ∙ ap (λ (a : Told (ℕ × ℕ)). put out (answer_text span_text (told_contents a))) (sym c.in-Part.is)
 
 pub returns-in-Refused : goal.returns-in-Refused
 returns-in-Refused c =
     let out : List ℕ × ℕ = (c.args.o.now, c.args.at) in
-    c.refused.ensures ∙ ap (λ (a : ContentsAnswer). put out (answer_text span_text (told_contents a))) (sym c.in-Refused.is)
+    c.refused.ensures ∙ ap (λ (a : Told (ℕ × ℕ)). put out (answer_text span_text (told_contents a))) (sym c.in-Refused.is)

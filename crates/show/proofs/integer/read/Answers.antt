@@ -1,3 +1,4 @@
+use Rattle.text.specs.Refusals.{Told}
 use Prim.Native.Nat.{ℕ}
 use mathlib.Core.List.{List, ◌++◌}
 use mathlib.Core.Path.{sym, ap, ◌∙◌}
@@ -7,22 +8,21 @@ use Rattle.lines.specs.Ascii.{ascii}
 use Rattle.lines.specs.Decimal.{word_of}
 use Rattle.lines.specs.Out.{put}
 use Rattle.sarridok.specs.Typed.{signed_number, told_integer}
-use Rattle.sarridok.specs.declared.integer_call.IntegerAnswer.{IntegerAnswer}
 use Rattle.show.specs.Answers.{answer_text}
 use Rattle.show.specs.Integers.{signed_text, typed_text}
 use Rattle.show.proofs.integer.read.Goals as goal
 
-pub returns-in-Value : goal.returns-in-Value
+pub returns-in-Ok : goal.returns-in-Ok
 unfolding typed_text
-returns-in-Value c =
+returns-in-Ok c =
     let out : List ℕ × ℕ = (c.args.o.now, c.args.at) in
-    let v : Value = c.in-Value.v in
-    let end : ℕ = c.in-Value.end in
+    let v : Value = c.in-Ok.v in
+    let end : ℕ = c.in-Ok.end in
     then out _ _ (ascii "ok ") (signed_text (signed_number v) ++ word_of end) c.bytes-a.ensures
     (then _ _ _ (signed_text (signed_number v)) (word_of end) c.value-b.ensures c.word.ensures)
-    ∙ ap (λ (a : IntegerAnswer). put out (answer_text typed_text (told_integer a))) (sym c.in-Value.is)
+    ∙ ap (λ (a : Told (Value × ℕ)). put out (answer_text typed_text (told_integer a))) (sym c.in-Ok.is)
 
-pub returns-in-Refused : goal.returns-in-Refused
-returns-in-Refused c =
+pub returns-in-Err : goal.returns-in-Err
+returns-in-Err c =
     let out : List ℕ × ℕ = (c.args.o.now, c.args.at) in
-    c.refused.ensures ∙ ap (λ (a : IntegerAnswer). put out (answer_text typed_text (told_integer a))) (sym c.in-Refused.is)
+    c.refused.ensures ∙ ap (λ (a : Told (Value × ℕ)). put out (answer_text typed_text (told_integer a))) (sym c.in-Err.is)

@@ -1,3 +1,5 @@
+use Rattle.std.proofs.Common.{Ok, Err}
+use Rattle.text.specs.Refusals.{Told}
 use Prim.Native.Nat.{◌+◌, ◌<◌, ◌≤◌, ℕ}
 use native.Mathlib.Omega.{arith}
 use mathlib.Core.Bool.{false, true}
@@ -8,12 +10,9 @@ use borrow.Author.Tests.{not-false, not-true}
 use Rattle.cursor.proofs.CharLaws.{found_here, lost_here}
 use Rattle.cursor.specs.Cursor.{cursor_at, moved_by}
 use Rattle.cursor.specs.declared.ParserCursor.{ParserCursor}
-use Rattle.cursor.specs.declared.chars.Next.TheVariants as next
-use Rattle.cursor.specs.declared.chars.Next.{Next}
 use Rattle.cursor.specs.inner.Chars.{consumed_of, next_of}
 use Rattle.strings.proofs.CursorLaws.{Narrow, byte_marked, byte-next, byte_unnamed, byte_unquoted, byte_wide, byte_next, narrow, wide_inside}
 use Rattle.strings.specs.Chars.{byte_of}
-use Rattle.strings.specs.declared.chars.ByteAnswer.TheVariants.{Refused as NoByte}
 use Rattle.text.proofs.Utf8Agree.{part_char}
 use Rattle.text.specs.Refusals.{expected_byte_literal}
 use Rattle.text.specs.Utf8.{char_len}
@@ -73,8 +72,8 @@ returns-then-peek-ge128 c =
     let s = c.args.s.now in
     let at = c.consume_char-opened.result.cursor.cursor in
     c.no_byte-then-peek-ge128.ensures
-    ∙ ap (λ (n : ℕ). NoByte (expected_byte_literal (at + n))) (sym (part_char s at _ c.char_len.ensures).0)
-    ∙ ap (λ (n : ℕ). NoByte (expected_byte_literal (n + char_len (drop n s)))) (place)
+    ∙ ap (λ (n : ℕ). Err (expected_byte_literal (at + n))) (sym (part_char s at _ c.char_len.ensures).0)
+    ∙ ap (λ (n : ℕ). Err (expected_byte_literal (n + char_len (drop n s)))) (place)
     ∙ byte_wide s (begun).1 (opened).1 (unmarked) (wide)
 
 pub overflow_cast-code : goal.overflow_cast-code
@@ -87,11 +86,11 @@ overflow_cast-code c =
     let peeked : c.peek.result ≡ get_or c.args.s.now 2 0 = c.peek.ensures ∙ ap (λ (n : ℕ). get_or c.args.s.now n 0) (place) in
     let low : get_or c.args.s.now 2 0 < 0x80 = omega (arith, c.if-peek-ge128.false, peeked) in
     let read : c.next_char-read.result ≡ next_of c.args.s.now (moved_by 1 (moved_by 1 (cursor_at 0))) = c.next_char-read.ensures ∙ ap (next_of c.args.s.now) (opened).0 in
-    let ascii : (x : Next) → c.next_char-read.result ≡ x → Narrow x = λ x e. subst Narrow (sym (read) ∙ e) (narrow c.args.s.now (low)) in
-    omega (arith, ascii (next.Char _ _) c.in-Char.is)
+    let ascii : (x : Told (ℕ × ParserCursor)) → c.next_char-read.result ≡ x → Narrow x = λ x e. subst Narrow (sym (read) ∙ e) (narrow c.args.s.now (low)) in
+    omega (arith, ascii (Ok (_, _)) c.in-Ok.is)
 
-pub returns-in-Char : goal.returns-in-Char
-returns-in-Char c =
+pub returns-in-Ok : goal.returns-in-Ok
+returns-in-Ok c =
     let begun : (c.consume_char-begun.result.cursor ≡ moved_by 1 (cursor_at 0)) × (eqb (get_or c.args.s.now 0 0) 0x62 ≡ true) = let s = c.args.s.now in
     found_here s (cursor_at 0) 0x62 (omega arith) c.consume_char-begun.result (c.consume_char-begun.ensures ∙ ap (λ (k : ParserCursor). consumed_of s k 0x62) c.at.ensures) (not-false _ c.if-not-begun.false) in
     let opened : (c.consume_char-opened.result.cursor ≡ moved_by 1 (moved_by 1 (cursor_at 0))) × (eqb (get_or c.args.s.now 1 0) 0x27 ≡ true) = let s = c.args.s.now in
@@ -102,12 +101,12 @@ returns-in-Char c =
     let peeked : c.peek.result ≡ get_or c.args.s.now 2 0 = c.peek.ensures ∙ ap (λ (n : ℕ). get_or c.args.s.now n 0) (place) in
     let low : get_or c.args.s.now 2 0 < 0x80 = omega (arith, c.if-peek-ge128.false, peeked) in
     let read : c.next_char-read.result ≡ next_of c.args.s.now (moved_by 1 (moved_by 1 (cursor_at 0))) = c.next_char-read.ensures ∙ ap (next_of c.args.s.now) (opened).0 in
-    let after : (x : Next) → c.next_char-read.result ≡ x → byte_next c.args.s.now x ≡ byte_of c.args.s.now = λ x e. let s = c.args.s.now in
+    let after : (x : Told (ℕ × ParserCursor)) → c.next_char-read.result ≡ x → byte_next c.args.s.now x ≡ byte_of c.args.s.now = λ x e. let s = c.args.s.now in
     ap (byte_next s) (sym e ∙ read) ∙ byte-next s (begun).1 (opened).1 (unmarked) (low) in
-    c.byte_ends.ensures ∙ after (next.Char _ _) c.in-Char.is
+    c.byte_ends.ensures ∙ after (Ok (_, _)) c.in-Ok.is
 
-pub returns-in-Refused : goal.returns-in-Refused
-returns-in-Refused c =
+pub returns-in-Err : goal.returns-in-Err
+returns-in-Err c =
     let begun : (c.consume_char-begun.result.cursor ≡ moved_by 1 (cursor_at 0)) × (eqb (get_or c.args.s.now 0 0) 0x62 ≡ true) = let s = c.args.s.now in
     found_here s (cursor_at 0) 0x62 (omega arith) c.consume_char-begun.result (c.consume_char-begun.ensures ∙ ap (λ (k : ParserCursor). consumed_of s k 0x62) c.at.ensures) (not-false _ c.if-not-begun.false) in
     let opened : (c.consume_char-opened.result.cursor ≡ moved_by 1 (moved_by 1 (cursor_at 0))) × (eqb (get_or c.args.s.now 1 0) 0x27 ≡ true) = let s = c.args.s.now in
@@ -118,6 +117,6 @@ returns-in-Refused c =
     let peeked : c.peek.result ≡ get_or c.args.s.now 2 0 = c.peek.ensures ∙ ap (λ (n : ℕ). get_or c.args.s.now n 0) (place) in
     let low : get_or c.args.s.now 2 0 < 0x80 = omega (arith, c.if-peek-ge128.false, peeked) in
     let read : c.next_char-read.result ≡ next_of c.args.s.now (moved_by 1 (moved_by 1 (cursor_at 0))) = c.next_char-read.ensures ∙ ap (next_of c.args.s.now) (opened).0 in
-    let after : (x : Next) → c.next_char-read.result ≡ x → byte_next c.args.s.now x ≡ byte_of c.args.s.now = λ x e. let s = c.args.s.now in
+    let after : (x : Told (ℕ × ParserCursor)) → c.next_char-read.result ≡ x → byte_next c.args.s.now x ≡ byte_of c.args.s.now = λ x e. let s = c.args.s.now in
     ap (byte_next s) (sym e ∙ read) ∙ byte-next s (begun).1 (opened).1 (unmarked) (low) in
-    after (next.Refused _) c.in-Refused.is
+    after (Err _) c.in-Err.is

@@ -1,3 +1,5 @@
+use Rattle.std.proofs.Common.{Ok, Err, ℕ}
+use Rattle.text.specs.Refusals.{Told}
 use lib.Dec.{eqb}
 use lib.ListN.{get_or}
 use mathlib.Core.Bool.{true}
@@ -6,64 +8,59 @@ use native.Mathlib.Omega.{arith}
 use Rattle.cursor.proofs.CharLaws.{Expected, expected_here, found_here, lost_here}
 use Rattle.cursor.specs.Cursor.{cursor_at, moved_by}
 use Rattle.cursor.specs.declared.ParserCursor.{ParserCursor}
-use Rattle.cursor.specs.declared.chars.Next.TheVariants as next
-use Rattle.cursor.specs.declared.chars.Next.{Next}
-use Rattle.cursor.specs.declared.skip.Step.TheVariants.{Moved, Refused}
-use Rattle.cursor.specs.declared.skip.Step.{Step}
 use Rattle.cursor.specs.inner.Chars.{consumed_of, expected_of, next_of}
 use Rattle.strings.proofs.CursorLaws.{char_marked, char-next, char_none, char_next}
 use Rattle.strings.specs.Chars.{char_of}
-use Rattle.strings.specs.declared.chars.CharAnswer.TheVariants.{Refused as NoChar}
 use Rattle.text.specs.Refusals.{expected_char}
 use Rattle.strings.proofs.chars.char_literal.Goals as goal
 
 pub returns-in_default : goal.returns-in_default
 returns-in_default c =
-    let opened : (x : Step) → c.expect_char-opened.result ≡ x → Expected c.args.s.now (cursor_at 0) 0x27 (expected_char 0) x = λ x e. let s = c.args.s.now in
+    let opened : (x : Told ParserCursor) → c.expect_char-opened.result ≡ x → Expected c.args.s.now (cursor_at 0) 0x27 (expected_char 0) x = λ x e. let s = c.args.s.now in
     let same = c.expect_char-opened.ensures ∙ ap (λ (k : ParserCursor). expected_of s k 0x27 c.expected_char-none.result) c.at.ensures ∙ ap (expected_of s (cursor_at 0) 0x27) c.expected_char-none.ensures in
     subst (Expected s (cursor_at 0) 0x27 (expected_char 0)) (sym same ∙ e) (expected_here s (cursor_at 0) 0x27 (expected_char 0) (omega arith)) in
-    ap NoChar c.expected_char-none.ensures ∙ char_none c.args.s.now (opened (Refused _) c.in_default.is).1
+    ap Err c.expected_char-none.ensures ∙ char_none c.args.s.now (opened (Err _) c.in_default.is).1
 
 pub escaped_char-requires : goal.escaped_char-requires
 escaped_char-requires c =
-    let opened : (x : Step) → c.expect_char-opened.result ≡ x → Expected c.args.s.now (cursor_at 0) 0x27 (expected_char 0) x = λ x e. let s = c.args.s.now in
+    let opened : (x : Told ParserCursor) → c.expect_char-opened.result ≡ x → Expected c.args.s.now (cursor_at 0) 0x27 (expected_char 0) x = λ x e. let s = c.args.s.now in
     let same = c.expect_char-opened.ensures ∙ ap (λ (k : ParserCursor). expected_of s k 0x27 c.expected_char-none.result) c.at.ensures ∙ ap (expected_of s (cursor_at 0) 0x27) c.expected_char-none.ensures in
     subst (Expected s (cursor_at 0) 0x27 (expected_char 0)) (sym same ∙ e) (expected_here s (cursor_at 0) 0x27 (expected_char 0) (omega arith)) in
-    let inside : (c.in-Moved.inside ≡ moved_by 1 (cursor_at 0)) × (eqb (get_or c.args.s.now 0 0) 0x27 ≡ true) = opened (Moved _) c.in-Moved.is in
+    let inside : (c.in-Ok.inside ≡ moved_by 1 (cursor_at 0)) × (eqb (get_or c.args.s.now 0 0) 0x27 ≡ true) = opened (Ok _) c.in-Ok.is in
     let marked : (c.consume_char-mark.result.cursor ≡ moved_by 1 (moved_by 1 (cursor_at 0))) × (eqb (get_or c.args.s.now 1 0) 0x5C ≡ true) = let s = c.args.s.now in
     found_here s (moved_by 1 (cursor_at 0)) 0x5C (omega arith) c.consume_char-mark.result (c.consume_char-mark.ensures ∙ ap (λ (k : ParserCursor). consumed_of s k 0x5C) (inside).0) c.if-mark.true in
     ap (λ (k : ParserCursor). k.cursor) (marked).0
 
 pub returns-then-mark : goal.returns-then-mark
 returns-then-mark c =
-    let opened : (x : Step) → c.expect_char-opened.result ≡ x → Expected c.args.s.now (cursor_at 0) 0x27 (expected_char 0) x = λ x e. let s = c.args.s.now in
+    let opened : (x : Told ParserCursor) → c.expect_char-opened.result ≡ x → Expected c.args.s.now (cursor_at 0) 0x27 (expected_char 0) x = λ x e. let s = c.args.s.now in
     let same = c.expect_char-opened.ensures ∙ ap (λ (k : ParserCursor). expected_of s k 0x27 c.expected_char-none.result) c.at.ensures ∙ ap (expected_of s (cursor_at 0) 0x27) c.expected_char-none.ensures in
     subst (Expected s (cursor_at 0) 0x27 (expected_char 0)) (sym same ∙ e) (expected_here s (cursor_at 0) 0x27 (expected_char 0) (omega arith)) in
-    let inside : (c.in-Moved.inside ≡ moved_by 1 (cursor_at 0)) × (eqb (get_or c.args.s.now 0 0) 0x27 ≡ true) = opened (Moved _) c.in-Moved.is in
+    let inside : (c.in-Ok.inside ≡ moved_by 1 (cursor_at 0)) × (eqb (get_or c.args.s.now 0 0) 0x27 ≡ true) = opened (Ok _) c.in-Ok.is in
     let marked : (c.consume_char-mark.result.cursor ≡ moved_by 1 (moved_by 1 (cursor_at 0))) × (eqb (get_or c.args.s.now 1 0) 0x5C ≡ true) = let s = c.args.s.now in
     found_here s (moved_by 1 (cursor_at 0)) 0x5C (omega arith) c.consume_char-mark.result (c.consume_char-mark.ensures ∙ ap (λ (k : ParserCursor). consumed_of s k 0x5C) (inside).0) c.if-mark.true in
     c.escaped_char.ensures ∙ char_marked c.args.s.now (inside).1 (marked).1
 
-pub returns-in-Char : goal.returns-in-Char
-returns-in-Char c =
-    let opened : (x : Step) → c.expect_char-opened.result ≡ x → Expected c.args.s.now (cursor_at 0) 0x27 (expected_char 0) x = λ x e. let s = c.args.s.now in
+pub returns-in-Ok : goal.returns-in-Ok
+returns-in-Ok c =
+    let opened : (x : Told ParserCursor) → c.expect_char-opened.result ≡ x → Expected c.args.s.now (cursor_at 0) 0x27 (expected_char 0) x = λ x e. let s = c.args.s.now in
     let same = c.expect_char-opened.ensures ∙ ap (λ (k : ParserCursor). expected_of s k 0x27 c.expected_char-none.result) c.at.ensures ∙ ap (expected_of s (cursor_at 0) 0x27) c.expected_char-none.ensures in
     subst (Expected s (cursor_at 0) 0x27 (expected_char 0)) (sym same ∙ e) (expected_here s (cursor_at 0) 0x27 (expected_char 0) (omega arith)) in
-    let inside : (c.in-Moved.inside ≡ moved_by 1 (cursor_at 0)) × (eqb (get_or c.args.s.now 0 0) 0x27 ≡ true) = opened (Moved _) c.in-Moved.is in
-    let after : (x : Next) → c.next_char-read.result ≡ x → char_next c.args.s.now x ≡ char_of c.args.s.now = λ x e. let s = c.args.s.now in
+    let inside : (c.in-Ok.inside ≡ moved_by 1 (cursor_at 0)) × (eqb (get_or c.args.s.now 0 0) 0x27 ≡ true) = opened (Ok _) c.in-Ok.is in
+    let after : (x : Told (ℕ × ParserCursor)) → c.next_char-read.result ≡ x → char_next c.args.s.now x ≡ char_of c.args.s.now = λ x e. let s = c.args.s.now in
     let front = inside in
     ap (char_next s) (sym e ∙ c.next_char-read.ensures ∙ ap (next_of s) front.0)
     ∙ char-next s front.1 (lost_here s (moved_by 1 (cursor_at 0)) 0x5C (omega arith) c.consume_char-mark.result (c.consume_char-mark.ensures ∙ ap (λ (k : ParserCursor). consumed_of s k 0x5C) front.0) c.if-mark.false) in
-    c.char_ends.ensures ∙ after (next.Char _ _) c.in-Char.is
+    c.char_ends.ensures ∙ after (Ok (_, _)) c.in-Ok.is
 
-pub returns-in-Refused : goal.returns-in-Refused
-returns-in-Refused c =
-    let opened : (x : Step) → c.expect_char-opened.result ≡ x → Expected c.args.s.now (cursor_at 0) 0x27 (expected_char 0) x = λ x e. let s = c.args.s.now in
+pub returns-in-Err : goal.returns-in-Err
+returns-in-Err c =
+    let opened : (x : Told ParserCursor) → c.expect_char-opened.result ≡ x → Expected c.args.s.now (cursor_at 0) 0x27 (expected_char 0) x = λ x e. let s = c.args.s.now in
     let same = c.expect_char-opened.ensures ∙ ap (λ (k : ParserCursor). expected_of s k 0x27 c.expected_char-none.result) c.at.ensures ∙ ap (expected_of s (cursor_at 0) 0x27) c.expected_char-none.ensures in
     subst (Expected s (cursor_at 0) 0x27 (expected_char 0)) (sym same ∙ e) (expected_here s (cursor_at 0) 0x27 (expected_char 0) (omega arith)) in
-    let inside : (c.in-Moved.inside ≡ moved_by 1 (cursor_at 0)) × (eqb (get_or c.args.s.now 0 0) 0x27 ≡ true) = opened (Moved _) c.in-Moved.is in
-    let after : (x : Next) → c.next_char-read.result ≡ x → char_next c.args.s.now x ≡ char_of c.args.s.now = λ x e. let s = c.args.s.now in
+    let inside : (c.in-Ok.inside ≡ moved_by 1 (cursor_at 0)) × (eqb (get_or c.args.s.now 0 0) 0x27 ≡ true) = opened (Ok _) c.in-Ok.is in
+    let after : (x : Told (ℕ × ParserCursor)) → c.next_char-read.result ≡ x → char_next c.args.s.now x ≡ char_of c.args.s.now = λ x e. let s = c.args.s.now in
     let front = inside in
     ap (char_next s) (sym e ∙ c.next_char-read.ensures ∙ ap (next_of s) front.0)
     ∙ char-next s front.1 (lost_here s (moved_by 1 (cursor_at 0)) 0x5C (omega arith) c.consume_char-mark.result (c.consume_char-mark.ensures ∙ ap (λ (k : ParserCursor). consumed_of s k 0x5C) front.0) c.if-mark.false) in
-    after (next.Refused _) c.in-Refused.is
+    after (Err _) c.in-Err.is

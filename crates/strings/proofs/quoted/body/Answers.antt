@@ -1,3 +1,4 @@
+use Rattle.std.proofs.Common.{Err}
 use Prim.Native.Nat.{◌+◌, ℕ}
 use native.Mathlib.Omega.{arith}
 use mathlib.Core.Bool.{true}
@@ -6,7 +7,6 @@ use lib.ListN.{drop}
 use Rattle.strings.proofs.QuotedLaws.{backslash_size, backslash_step, end_step, plain_size, plain_step, quote_step, spoilt_size, spoilt_step}
 use Rattle.strings.specs.Pieces.{body_of}
 use Rattle.strings.specs.Quoted.{measured}
-use Rattle.strings.specs.declared.literal.LiteralAnswer.TheVariants.{Refused}
 use Rattle.text.proofs.Lists.{tail_part}
 use lib.ListN.{get_or}
 use Rattle.escapes.specs.Escapes.{simple_of}
@@ -62,7 +62,7 @@ pub placed_behind-requires : goal.placed_behind-requires
 placed_behind-requires c = omega (arith, spoilt_size c.args.m c.args.s.now c.args.start c.loop-at.from c.loop-at.at c.loop-at.decoded c.loop-at.escaped c.loop-at-test.true c.in-Refused.r (simp tail_part at (sym c.in-Refused.is ∙ c.next_piece-p.ensures)))
 
 pub returns-in-Refused : goal.returns-in-Refused
-returns-in-Refused c = ap Refused c.placed_behind.ensures ∙ sym (c.loop-at.invariant.2 ∙ spoilt_step c.args.m c.args.s.now c.args.start c.loop-at.from c.loop-at.at c.loop-at.decoded c.loop-at.escaped c.loop-at-test.true c.in-Refused.r (simp tail_part at (sym c.in-Refused.is ∙ c.next_piece-p.ensures)))
+returns-in-Refused c = ap Err c.placed_behind.ensures ∙ sym (c.loop-at.invariant.2 ∙ spoilt_step c.args.m c.args.s.now c.args.start c.loop-at.from c.loop-at.at c.loop-at.decoded c.loop-at.escaped c.loop-at-test.true c.in-Refused.r (simp tail_part at (sym c.in-Refused.is ∙ c.next_piece-p.ensures)))
 
 pub returns : goal.returns
 returns c = c.unclosed.ensures ∙ sym (c.loop-at.invariant.2 ∙ end_step c.args.m c.args.s.now c.args.start c.loop-at.from c.loop-at.at c.loop-at.decoded c.loop-at.escaped c.loop-at-test.false)

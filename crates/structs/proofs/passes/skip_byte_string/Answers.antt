@@ -8,16 +8,16 @@ use Rattle.text.proofs.Lists.{tail_part}
 use Rattle.structs.proofs.passes.skip_byte_string.Goals as goal
 
 pub slice_bounds-byte_string_no_base64-count : goal.slice_bounds-byte_string_no_base64-count
-slice_bounds-byte_string_no_base64-count c = place_le c.args.s.now c.args.from _ c.in-To.is c.requires
+slice_bounds-byte_string_no_base64-count c = place_le c.args.s.now c.args.from _ c.in-Ok.is c.requires
 
 pub slice_bounds-byte_string_no_base64-start : goal.slice_bounds-byte_string_no_base64-start
-slice_bounds-byte_string_no_base64-start c = place_le c.args.s.now c.args.from _ c.in-To.is c.requires
+slice_bounds-byte_string_no_base64-start c = place_le c.args.s.now c.args.from _ c.in-Ok.is c.requires
 
 pub behind_literal-requires : goal.behind_literal-requires
-behind_literal-requires c = rw (c.byte_string_no_base64.ensures ∙ ap byte_string_of (tail_part c.args.s.now c.in-To.at)) (byte_string_places c.args.s.now c.in-To.at (place_le c.args.s.now c.args.from _ c.in-To.is c.requires) (omega arith))
+behind_literal-requires c = rw (c.byte_string_no_base64.ensures ∙ ap byte_string_of (tail_part c.args.s.now c.in-Ok.at)) (byte_string_places c.args.s.now c.in-Ok.at (place_le c.args.s.now c.args.from _ c.in-Ok.is c.requires) (omega arith))
 
 pub returns : goal.returns
-returns c = c.behind_literal.ensures ∙ sym (past-byte-string c.args.s.now c.args.from _ c.in-To.is _ (sym (c.byte_string_no_base64.ensures ∙ ap byte_string_of (tail_part c.args.s.now c.in-To.at))))
+returns c = c.behind_literal.ensures ∙ sym (past-byte-string c.args.s.now c.args.from _ c.in-Ok.is _ (sym (c.byte_string_no_base64.ensures ∙ ap byte_string_of (tail_part c.args.s.now c.in-Ok.at))))
 
 pub returns-in_default : goal.returns-in_default
 unfolding past_byte_string

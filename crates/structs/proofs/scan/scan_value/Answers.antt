@@ -1,3 +1,4 @@
+use Rattle.std.proofs.Common.{Err}
 use Prim.Native.Nat.{◌+◌, ◌-◌, ◌≤◌, ℕ}
 use native.Mathlib.Omega.{arith}
 use mathlib.Core.List.{List}
@@ -12,7 +13,6 @@ use Rattle.structs.specs.Scan.{after_comma, by_step, scan_from, scan_of, step_of
 use Rattle.structs.specs.declared.steps.Step.{Step}
 use Rattle.structs.specs.declared.steps.Step.TheVariants.{Closing, Comma, Opening, Plain, Refused}
 use Rattle.text.proofs.Lists.{tail_part, on_part}
-use Rattle.structs.specs.declared.kinds.StructAnswer.TheVariants as answer
 use Rattle.structs.proofs.scan.scan_value.Goals as goal
 
 pub loop-n-init : goal.loop-n-init
@@ -167,4 +167,4 @@ pub returns-in-Refused : goal.returns-in-Refused
 returns-in-Refused c =
     let step_is : (x : Step) → c.next_step-step.result ≡ x → step_of (drop (c.loop-n.i) (c.args.s.now)) ≡ x = λ x e. on_part step_of (c.args.s.now) (c.loop-n.i) _ x c.next_step-step.ensures e in
     let comes : (x : Step) → c.next_step-step.result ≡ x → by_step x (c.loop-n.braces) (λ n braces. scan_from (drop (c.loop-n.i + n) (c.args.s.now)) 0 braces (c.loop-n.i + n)) (λ n. placed_kind (c.loop-n.i + n) (after_comma (drop (c.loop-n.i + n) (c.args.s.now)))) (c.loop-n.i) ≡ scan_of (c.args.s.now) c.args.at = λ x e. sym (scan_at (c.args.s.now) (c.loop-n.i) (c.loop-n.braces) x (step_is x e)) ∙ c.loop-n.invariant.3 in
-    ap answer.Refused c.placed_behind.ensures ∙ comes (Refused _) c.in-Refused.is
+    ap Err c.placed_behind.ensures ∙ comes (Refused _) c.in-Refused.is

@@ -12,7 +12,6 @@ use Rattle.structs.specs.Scan.{after_comma, by_step, scan_from, scan_of, step_of
 use Rattle.structs.specs.declared.steps.Step.{Step}
 use Rattle.structs.specs.declared.steps.Step.TheVariants.{Closing, Comma, Opening, Plain, Refused}
 use Rattle.text.proofs.Lists.{tail_part, on_part}
-use Rattle.structs.specs.declared.kinds.StructAnswer.TheVariants as answer
 use Rattle.structs.proofs.scan.scan_value.Given as goal
 
 abbrev pub invariant-loop-n : goal.invariant-loop-n

@@ -7,12 +7,12 @@ use Rattle.structs.proofs.steps.next_step.Goals as goal
 
 pub returns-then-s-n : goal.returns-then-s-n
 unfolding step_of
-returns-then-s-n c = simp (sym c.skip_spurious-passed.ensures ∙ c.in-To.is, le-ltb _ _ c.if-s-n.true) (ap Refused c.eof.ensures)
+returns-then-s-n c = simp (sym c.skip_spurious-passed.ensures ∙ c.in-Ok.is, le-ltb _ _ c.if-s-n.true) (ap Refused c.eof.ensures)
 
 pub returns-else-s-n : goal.returns-else-s-n
 unfolding step_of
-returns-else-s-n c = simp (sym c.skip_spurious-passed.ensures ∙ c.in-To.is, lt-ltb _ _ c.if-s-n.false) c.marked.ensures
+returns-else-s-n c = simp (sym c.skip_spurious-passed.ensures ∙ c.in-Ok.is, lt-ltb _ _ c.if-s-n.false) c.marked.ensures
 
-pub returns-in-Refused : goal.returns-in-Refused
+pub returns-in-Err : goal.returns-in-Err
 unfolding step_of
-returns-in-Refused c = simp (sym c.skip_spurious-passed.ensures ∙ c.in-Refused.is)
+returns-in-Err c = simp (sym c.skip_spurious-passed.ensures ∙ c.in-Err.is)

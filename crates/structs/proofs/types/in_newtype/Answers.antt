@@ -1,18 +1,18 @@
+use Rattle.std.proofs.Common.{Ok}
 use native.Mathlib.Omega.{arith}
 use mathlib.Core.Path.{◌∙◌, sym}
 use borrow.Author.Rules.{rules}
 use Rattle.structs.proofs.PassLaws.{gap_fits, place_le}
 use Rattle.structs.specs.Structs.{inside_newtype}
-use Rattle.structs.specs.declared.passes.Passed.TheVariants.{To}
 use Rattle.structs.proofs.types.in_newtype.Goals as goal
 
 pub contents-requires : goal.contents-requires
-contents-requires c = place_le c.args.s.now _ _ (sym c.skip_ws-gap.ensures ∙ c.in-To.is) (gap_fits c.args.s.now (To 0) (omega arith))
+contents-requires c = place_le c.args.s.now _ _ (sym c.skip_ws-gap.ensures ∙ c.in-Ok.is) (gap_fits c.args.s.now (Ok 0) (omega arith))
 
-pub returns-in-To : goal.returns-in-To
+pub returns-in-Ok : goal.returns-in-Ok
 unfolding inside_newtype
-returns-in-To c = simp (sym c.skip_ws-gap.ensures ∙ c.in-To.is) c.contents.ensures
+returns-in-Ok c = simp (sym c.skip_ws-gap.ensures ∙ c.in-Ok.is) c.contents.ensures
 
-pub returns-in-Refused : goal.returns-in-Refused
+pub returns-in-Err : goal.returns-in-Err
 unfolding inside_newtype
-returns-in-Refused c = simp (sym c.skip_ws-gap.ensures ∙ c.in-Refused.is)
+returns-in-Err c = simp (sym c.skip_ws-gap.ensures ∙ c.in-Err.is)

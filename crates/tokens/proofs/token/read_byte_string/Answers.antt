@@ -3,8 +3,8 @@ use borrow.Author.Rules.{rules}
 use Rattle.tokens.specs.Token.{of_byte_string}
 use Rattle.tokens.proofs.token.read_byte_string.Goals as goal
 
-pub returns-in-Read : goal.returns-in-Read
-returns-in-Read c = sym (ap (of_byte_string) (sym c.byte_string_no_base64-found.ensures ∙ c.in-Read.is))
+pub returns-in-Ok : goal.returns-in-Ok
+returns-in-Ok c = sym (ap (of_byte_string) (sym c.byte_string_no_base64-found.ensures ∙ c.in-Ok.is))
 
-pub returns-in-Refused : goal.returns-in-Refused
-returns-in-Refused c = sym (ap (of_byte_string) (sym c.byte_string_no_base64-found.ensures ∙ c.in-Refused.is))
+pub returns-in-Err : goal.returns-in-Err
+returns-in-Err c = sym (ap (of_byte_string) (sym c.byte_string_no_base64-found.ensures ∙ c.in-Err.is))

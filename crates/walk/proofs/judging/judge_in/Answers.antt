@@ -1,10 +1,10 @@
+use Rattle.std.proofs.Common.{Option, ℕ}
 use Prim.Native.Nat.{◌-◌}
 use native.Mathlib.Omega.{arith}
 use mathlib.Core.Path.{◌∙◌, ap, refl, subst}
 use lib.ListN.{length-set}
 use Rattle.rows.specs.Rows.{entry_at}
 use Rattle.grammar.specs.Kinds.{kind_of}
-use Rattle.fields.specs.declared.again.Again.{Again}
 use Rattle.fields.proofs.Readable.{has_name}
 use Rattle.walk.specs.inner.Gathered.{told_by}
 use Rattle.walk.specs.inner.Turns.{Comes}
@@ -29,4 +29,4 @@ pub loop-w-preserved : goal.loop-w-preserved
 loop-w-preserved c = let s = subst (Comes c.args.tape.now c.args.count c.args.limit c.loop-w.next c.loop-w.depth c.loop-w.want c.loop-w.inside) c.in-Pop.is c.comes_to.ensures in (omega (arith, s.0.there), omega arith, search rules, search rules, c.closed-found.ensures.kept.as_long ∙ c.loop-w.invariant.4, turn_pops c.args.text.now c.args.tape.now c.args.count c.args.limit c.loop-w.fields c.loop-w.outer c.loop-w.bases c.loop-w.depth c.loop-w.top c.loop-w.want c.loop-w.inside c.loop-w.found c.loop-w.next c.loop-w.invariant.5 (kind_of (entry_at c.args.tape.now c.loop-w.next).kind) s.0.there refl c.closed-found.new.fields c.closed-found.result s.0.does s.1 c.closed-found.ensures.kept c.closed-found.ensures.told)
 
 pub returns : goal.returns
-returns c = c.told.ensures ∙ ap (λ (a : Again). told_by a c.in-Stop.v) c.still_open-again.ensures ∙ stop_with c.args.text.now c.args.tape.now c.args.count c.args.limit c.loop-w.fields c.loop-w.outer c.loop-w.bases c.loop-w.depth c.loop-w.top c.loop-w.want c.loop-w.inside c.loop-w.found c.loop-w.next c.loop-w.invariant.5 _ (subst (Comes c.args.tape.now c.args.count c.args.limit c.loop-w.next c.loop-w.depth c.loop-w.want c.loop-w.inside) c.in-Stop.is c.comes_to.ensures)
+returns c = c.told.ensures ∙ ap (λ (a : Option ℕ). told_by a c.in-Stop.v) c.still_open-again.ensures ∙ stop_with c.args.text.now c.args.tape.now c.args.count c.args.limit c.loop-w.fields c.loop-w.outer c.loop-w.bases c.loop-w.depth c.loop-w.top c.loop-w.want c.loop-w.inside c.loop-w.found c.loop-w.next c.loop-w.invariant.5 _ (subst (Comes c.args.tape.now c.args.count c.args.limit c.loop-w.next c.loop-w.depth c.loop-w.want c.loop-w.inside) c.in-Stop.is c.comes_to.ensures)
