@@ -27,7 +27,7 @@ fn at_end(inside: Frame, i: usize) -> Result<(), Refusal>
     }
 }
 
-// Where something is still wanted, the tape ends early.
+// Whether the entries are a document: where something is still wanted, the tape ends early.
 pub fn finished(want: Want, inside: Frame, i: usize) -> Result<(), Refusal>
     ensures { result ≡ finish want inside i }
 {
