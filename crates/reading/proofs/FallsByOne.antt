@@ -1,7 +1,7 @@
 -- The gap lowers the count behind by one at most (document 02, CR 6): behind the first entry, gaps are distances between entries that moved alike. Assumes nothing.
 use Prim.Native.Nat.{◌+◌, ◌-◌, ◌≤◌, suc, zero, ℕ}
 use native.Mathlib.Omega.{arith}
-use mathlib.Core.Bool.{◌&&◌, true}
+use mathlib.Core.Bool.{true}
 use mathlib.Core.List.{List, [], ◌∷◌}
 use mathlib.Core.Path.{◌∙◌, ◌≡◌, ap, refl, subst, sym}
 use lib.Dec.{leb}
@@ -9,7 +9,7 @@ use lib.ListN.{drop, get_or, length}
 use lib.Seq.{drop-cons}
 use Rattle.reading.proofs.Joins.{moved_test, test_moved}
 use Rattle.reading.proofs.KeptLaws.{kept_behind_holds, kept_behind_most, no_entry}
-use Rattle.reading.specs.Kept.{AllThere, KeptThere, MovedThere, all_behind, are_moved, is_moved, kept_behind, last_of}
+use Rattle.reading.specs.Kept.{AllThere, KeptThere, all_behind, are_moved, is_moved, kept_behind, last_of}
 use Rattle.reading.specs.Kept.AllThere.{none, more}
 use Rattle.rows.proofs.OrderLaws.{in_order_drop, in_order_first}
 use Rattle.rows.specs.Order.{in_order_from}
