@@ -10,7 +10,7 @@ use crate::comparing::{compare, same_name};
 use crate::names::{name_from, name_if_any};
 use rows::row;
 
-// The earlier of two.
+// The earlier of two entries that may be none.
 pub fn earlier(a: Option<usize>, b: Option<usize>) -> Option<usize>
     ensures { result ≡ earlierOf a b }
 {
@@ -153,7 +153,7 @@ fn neighbours(text: &[u8], tape: &[u32], fields: &[u16]) -> Option<Option<usize>
     Some(found)
 }
 
-// The first of the fields that repeats one; they are left in another order.
+// The first of the fields that repeats one, or none; they are left in another order.
 pub fn first_again(text: &[u8], tape: &[u32], fields: &mut [u16]) -> Option<usize>
     requires { (length fields.old ≤ 32768) × AllNamed text.now tape.now fields.old }
     ensures first { FirstIn (name_at text.now tape.now) fields.old result }
