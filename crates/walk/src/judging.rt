@@ -164,7 +164,7 @@ fn judge_within<const N: usize>(
     judge_in(text, tape, count, limit, &mut fields)
 }
 
-// The verdict over the first `count` entries.
+// The verdict over the first `count` entries: that they are a document, or the refusal.
 pub fn judge(text: &[u8], tape: &[u32], count: usize, limit: usize) -> Result<(), Refusal>
     requires { (count ≤ room_of (length tape.now)) × (limit ≤ 128) × (count ≤ 65536)
         × (in_order (entries_of count tape.now) (length text.now) ≡ true) × (raws_fit text.now (entries_of count tape.now) ≡ true) }
