@@ -14,7 +14,7 @@ pub struct Consumed {
 }
 
 impl ParserCursor {
-    // The next character, by its code point; 6 at the end of the text.
+    // The next character, by its code point, and the cursor behind it; 6 at the end of the text.
     pub fn next_char(self, text: &[u8]) -> Result<(u32, ParserCursor), Refusal>
         ensures { result ≡ next_of text.now self }
     {
@@ -64,7 +64,7 @@ impl ParserCursor {
         }
     }
 
-    // The same, refused where it does not stand.
+    // The same, refused where it does not stand: the cursor behind it, or the refusal that is given.
     pub fn expect_char(self, text: &[u8], c: u8, refusal: Refusal) -> Result<ParserCursor, Refusal>
         ensures { result ≡ expected_of text.now self c refusal }
     {

@@ -46,7 +46,7 @@ impl ParserCursor {
         if len < at - pre { at } else { pre }
     }
 
-    // Behind the whitespace and comments at the cursor.
+    // The cursor behind the whitespace and comments at it, or the refusal.
     pub fn skip_ws(self, text: &[u8]) -> Result<ParserCursor, Refusal>
         ensures { result ≡ skip_ws_of text.now self }
     {
