@@ -1,4 +1,5 @@
 -- Words compared. Assumes nothing.
+use Rattle.std.specs.Prelude.{Some}
 use Prim.Native.Nat.{ℕ}
 use mathlib.Core.Bool.{Bool, true, false, true≢false, cond}
 use mathlib.Core.List.{List, [], ◌∷◌}
@@ -9,7 +10,6 @@ use Rattle.lines.specs.Ascii.{ascii}
 use Rattle.cursor.specs.Cursor.{unclosed_line}
 use Rattle.text.proofs.Choices.{and_true, bool_cases, either}
 use Rattle.words.specs.Number.{decimal_of}
-use Rattle.words.specs.declared.number.Decimal.TheVariants.{Value}
 use Rattle.cases.specs.Bytes.{same_bytes}
 use Rattle.cases.specs.Skips.{length_of}
 
@@ -24,7 +24,7 @@ same-bytes (a ∷ s) (b ∷ t) e =
     ap (λ (x : ℕ). x ∷ s) (eqb-true a b both.0) ∙ ap (λ (l : List ℕ). b ∷ l) (same-bytes s t both.1)
 
 module _ (word : List ℕ) where
-  pub length_mark : word ≡ ascii "mark" → Value unclosed_line ≡ length_of word
+  pub length_mark : word ≡ ascii "mark" → Some unclosed_line ≡ length_of word
   unfolding length_of same_bytes
   length_mark e = sym (ap length_of e)
 
@@ -33,4 +33,4 @@ module _ (word : List ℕ) where
   length_number r same f =
       either (bool_cases (same_bytes word (ascii "mark")))
       (λ t. absurd (true≢false (sym (same (same-bytes word (ascii "mark") t)) ∙ f)))
-      (λ n. sym (ap (λ (b : Bool). cond b (Value unclosed_line) (decimal_of word)) n))
+      (λ n. sym (ap (λ (b : Bool). cond b (Some unclosed_line) (decimal_of word)) n))

@@ -1,4 +1,5 @@
 -- The lines of contents: one entry with room enough, and any tape. Assumes nothing.
+use Rattle.std.specs.Prelude.{Option, Some, None}
 use Prim.Native.Nat.{ℕ, ◌-◌, ◌^◌}
 use mathlib.Core.List.{List, [], ◌∷◌}
 use mathlib.Core.Path.{◌≡◌, sym, ap, ◌∙◌}
@@ -12,17 +13,8 @@ use Rattle.words.specs.Numbers.{numbers_in, numbers_of}
 use Rattle.words.specs.Said.{by_small, by_list, by_bytes, by_numbers}
 use Rattle.words.specs.Small.{small_of}
 use Rattle.words.specs.Split.{first_word, behind_word}
-use Rattle.words.specs.declared.hex.Hex.TheVariants as hex
-use Rattle.words.specs.declared.list.Count.{Count}
-use Rattle.words.specs.declared.list.Count.TheVariants as count
-use Rattle.words.specs.declared.number.Decimal.{Decimal}
-use Rattle.words.specs.declared.number.Decimal.TheVariants as number
-use Rattle.words.specs.declared.small.Small.{Small}
-use Rattle.words.specs.declared.small.Small.TheVariants as small
 use Rattle.cases.specs.Contents.{asked, contents_in, contents_line, front_of, by_said, any_line}
 use Rattle.cases.specs.declared.contents.Asked.{Asked}
-use Rattle.cases.specs.declared.any_c.Said.{Said}
-use Rattle.cases.specs.declared.any_c.Said.TheVariants.{Asks, Bad}
 use Rattle.words.proofs.DecidedLaws.{three_first, three_second, three_third, three_all, bytes_bad, bytes_good}
 
 -- ---- one entry
@@ -53,58 +45,58 @@ module _ (words text spare : List ℕ) where
   abbrev on_start : ℕ → Three
   on_start kind = by_small (small_of (first_word (behind_word words))) bad (λ start. on_bytes kind start)
 
-  pub no_kind : small_of (first_word words) ≡ small.Bad → contents_line words text spare ≡ bad
+  pub no_kind : small_of (first_word words) ≡ None → contents_line words text spare ≡ bad
   unfolding contents_line
-  no_kind e = ap (λ (d : Small). by_small d bad (λ kind. on_start kind)) e
+  no_kind e = ap (λ (d : Option ℕ). by_small d bad (λ kind. on_start kind)) e
 
-  module _ (kind : ℕ) (e : small_of (first_word words) ≡ small.Value kind) where
+  module _ (kind : ℕ) (e : small_of (first_word words) ≡ Some kind) where
     kind_on : contents_line words text spare ≡ on_start kind
     unfolding contents_line
-    kind_on = ap (λ (d : Small). by_small d bad (λ kind. on_start kind)) e
+    kind_on = ap (λ (d : Option ℕ). by_small d bad (λ kind. on_start kind)) e
 
-    pub no_start : small_of (first_word (behind_word words)) ≡ small.Bad → contents_line words text spare ≡ bad
-    no_start f = kind_on ∙ ap (λ (d : Small). by_small d bad (λ start. on_bytes kind start)) f
+    pub no_start : small_of (first_word (behind_word words)) ≡ None → contents_line words text spare ≡ bad
+    no_start f = kind_on ∙ ap (λ (d : Option ℕ). by_small d bad (λ start. on_bytes kind start)) f
 
-    module _ (start : ℕ) (f : small_of (first_word (behind_word words)) ≡ small.Value start) where
+    module _ (start : ℕ) (f : small_of (first_word (behind_word words)) ≡ Some start) where
       start_on : contents_line words text spare ≡ on_bytes kind start
-      start_on = kind_on ∙ ap (λ (d : Small). by_small d bad (λ start. on_bytes kind start)) f
+      start_on = kind_on ∙ ap (λ (d : Option ℕ). by_small d bad (λ start. on_bytes kind start)) f
 
-      pub no_bytes : hex_in word (length text) ≡ hex.Bad → contents_line words text spare ≡ (bad_text, left, spare)
+      pub no_bytes : hex_in word (length text) ≡ None → contents_line words text spare ≡ (bad_text, left, spare)
       no_bytes h = start_on ∙ bytes_bad word (length text) (bad_text, left, spare) (λ s. own_of kind start s) h
 
-      pub entry_line : (n : ℕ) → hex_in word (length text) ≡ hex.Bytes n → contents_line words text spare ≡ own_of kind start (pairs word)
+      pub entry_line : (n : ℕ) → hex_in word (length text) ≡ Some n → contents_line words text spare ≡ own_of kind start (pairs word)
       entry_line n h = start_on ∙ bytes_good word (length text) (bad_text, left, spare) (λ s. own_of kind start s) n h
 
 -- ---- any tape
 
 module _ (words : List ℕ) where
-  abbrev first : Decimal
+  abbrev first : Option ℕ
   first = decimal_of (first_word words)
 
-  abbrev second : Decimal
+  abbrev second : Option ℕ
   second = decimal_of (first_word (behind_word words))
 
-  abbrev third : Decimal
+  abbrev third : Option ℕ
   third = decimal_of (first_word (behind_word (behind_word words)))
 
-  abbrev asks : ℕ → ℕ → ℕ → Said
-  asks entry count buffer = Asks (asked entry count buffer)
+  abbrev asks : ℕ → ℕ → ℕ → Option Asked
+  asks entry count buffer = Some (asked entry count buffer)
 
-  pub no_entry : first ≡ number.Bad → Bad ≡ front_of words
+  pub no_entry : first ≡ None → None ≡ front_of words
   unfolding front_of
-  no_entry e = sym (three_first first second third Bad asks e)
+  no_entry e = sym (three_first first second third None asks e)
 
-  pub no_count : (a : ℕ) → first ≡ number.Value a → second ≡ number.Bad → Bad ≡ front_of words
+  pub no_count : (a : ℕ) → first ≡ Some a → second ≡ None → None ≡ front_of words
   unfolding front_of
-  no_count a e f = sym (three_second first second third Bad asks a e f)
+  no_count a e f = sym (three_second first second third None asks a e f)
 
-  pub no_buffer : (a b : ℕ) → first ≡ number.Value a → second ≡ number.Value b → third ≡ number.Bad → Bad ≡ front_of words
+  pub no_buffer : (a b : ℕ) → first ≡ Some a → second ≡ Some b → third ≡ None → None ≡ front_of words
   unfolding front_of
-  no_buffer a b e f g = sym (three_third first second third Bad asks a b e f g)
+  no_buffer a b e f g = sym (three_third first second third None asks a b e f g)
 
-  pub asks_at : (a b n : ℕ) → first ≡ number.Value a → second ≡ number.Value b → third ≡ number.Value n → Asks (asked a b n) ≡ front_of words
+  pub asks_at : (a b n : ℕ) → first ≡ Some a → second ≡ Some b → third ≡ Some n → Some (asked a b n) ≡ front_of words
   unfolding front_of
-  asks_at a b n e f g = sym (three_all first second third Bad asks a b n e f g)
+  asks_at a b n e f g = sym (three_all first second third None asks a b n e f g)
 
 module _ (words text tape spare : List ℕ) where
   abbrev Four : Type 0
@@ -131,32 +123,32 @@ module _ (words text tape spare : List ℕ) where
   abbrev on_asked : Asked → Four
   on_asked q = by_bytes (first_word fourth) (length text) (bad_text, left_of, tape, spare) (λ s. on_tape q s)
 
-  pub not_asked : front_of words ≡ Bad → any_line words text tape spare ≡ bad_four
+  pub not_asked : front_of words ≡ None → any_line words text tape spare ≡ bad_four
   unfolding any_line
-  not_asked e = ap (λ (a : Said). by_said a bad_four (λ q. on_asked q)) e
+  not_asked e = ap (λ (a : Option Asked). by_said a bad_four (λ q. on_asked q)) e
 
-  module _ (q : Asked) (e : front_of words ≡ Asks q) where
+  module _ (q : Asked) (e : front_of words ≡ Some q) where
     asked_on : any_line words text tape spare ≡ on_asked q
     unfolding any_line
-    asked_on = ap (λ (a : Said). by_said a bad_four (λ q. on_asked q)) e
+    asked_on = ap (λ (a : Option Asked). by_said a bad_four (λ q. on_asked q)) e
 
-    pub no_text : hex_in (first_word fourth) (length text) ≡ hex.Bad → any_line words text tape spare ≡ (bad_text, left_of, tape, spare)
+    pub no_text : hex_in (first_word fourth) (length text) ≡ None → any_line words text tape spare ≡ (bad_text, left_of, tape, spare)
     no_text h = asked_on ∙ bytes_bad (first_word fourth) (length text) (bad_text, left_of, tape, spare) (λ s. on_tape q s) h
 
-    module _ (n : ℕ) (h : hex_in (first_word fourth) (length text) ≡ hex.Bytes n) where
+    module _ (n : ℕ) (h : hex_in (first_word fourth) (length text) ≡ Some n) where
       text_on : any_line words text tape spare ≡ on_tape q (pairs (first_word fourth))
       text_on = asked_on ∙ bytes_good (first_word fourth) (length text) (bad_text, left_of, tape, spare) (λ s. on_tape q s) n h
 
-      pub no_tape : numbers_in (behind_word fourth) (length tape) ≡ count.Bad → any_line words text tape spare ≡ (bad_text, left_of, stored_of, spare)
+      pub no_tape : numbers_in (behind_word fourth) (length tape) ≡ None → any_line words text tape spare ≡ (bad_text, left_of, stored_of, spare)
       no_tape k =
           text_on
-          ∙ ap (λ (c : Count). by_list c (bad_text, left_of, stored_of, spare) (tape_own q (pairs (first_word fourth)) (numbers_of (behind_word fourth)))) k
+          ∙ ap (λ (c : Option ℕ). by_list c (bad_text, left_of, stored_of, spare) (tape_own q (pairs (first_word fourth)) (numbers_of (behind_word fourth)))) k
 
-      pub tape_line : (m : ℕ) → numbers_in (behind_word fourth) (length tape) ≡ count.Stored m
+      pub tape_line : (m : ℕ) → numbers_in (behind_word fourth) (length tape) ≡ Some m
           → any_line words text tape spare ≡ tape_own q (pairs (first_word fourth)) (numbers_of (behind_word fourth))
       tape_line m k =
           text_on
-          ∙ ap (λ (c : Count). by_list c (bad_text, left_of, stored_of, spare) (tape_own q (pairs (first_word fourth)) (numbers_of (behind_word fourth)))) k
+          ∙ ap (λ (c : Option ℕ). by_list c (bad_text, left_of, stored_of, spare) (tape_own q (pairs (first_word fourth)) (numbers_of (behind_word fourth)))) k
 
 -- what is said of a text and a tape that are equal to others
 pub said_same : (q : Asked) (spare s s' t t' last : List ℕ) (out end : List ℕ × ℕ) → s ≡ s' → t ≡ t'

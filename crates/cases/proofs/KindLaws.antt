@@ -1,4 +1,5 @@
 -- The line of a struct kind. Assumes nothing.
+use Rattle.std.specs.Prelude.{Option, Some, None}
 use Prim.Native.Nat.{ℕ}
 use mathlib.Core.List.{List}
 use mathlib.Core.Path.{◌≡◌, sym, ap}
@@ -13,38 +14,35 @@ use Rattle.words.specs.Hex.{pairs}
 use Rattle.words.specs.Number.{decimal_of}
 use Rattle.words.specs.Said.{by_bytes}
 use Rattle.words.specs.Split.{first_word, behind_word}
-use Rattle.words.specs.declared.number.Decimal.{Decimal}
-use Rattle.words.specs.declared.number.Decimal.TheVariants as number
 use Rattle.cases.specs.Kinds.{modes_of, front_of, by_asked, kind_line}
 use Rattle.cases.specs.declared.k.Asked.{Asked}
-use Rattle.cases.specs.declared.k.Asked.TheVariants.{At, Bad}
 use Rattle.words.proofs.DecidedLaws.{three_first, three_second, three_third, three_all}
 
 module _ (words : List ℕ) where
-  abbrev first : Decimal
+  abbrev first : Option ℕ
   first = decimal_of (first_word words)
 
-  abbrev second : Decimal
+  abbrev second : Option ℕ
   second = decimal_of (first_word (behind_word words))
 
-  abbrev third : Decimal
+  abbrev third : Option ℕ
   third = decimal_of (first_word (behind_word (behind_word words)))
 
-  pub no_newtype : first ≡ number.Bad → Bad ≡ front_of words
+  pub no_newtype : first ≡ None → None ≡ front_of words
   unfolding front_of
-  no_newtype e = sym (three_first first second third Bad modes_of e)
+  no_newtype e = sym (three_first first second third None modes_of e)
 
-  pub no_tuple : (a : ℕ) → first ≡ number.Value a → second ≡ number.Bad → Bad ≡ front_of words
+  pub no_tuple : (a : ℕ) → first ≡ Some a → second ≡ None → None ≡ front_of words
   unfolding front_of
-  no_tuple a e f = sym (three_second first second third Bad modes_of a e f)
+  no_tuple a e f = sym (three_second first second third None modes_of a e f)
 
-  pub no_place : (a b : ℕ) → first ≡ number.Value a → second ≡ number.Value b → third ≡ number.Bad → Bad ≡ front_of words
+  pub no_place : (a b : ℕ) → first ≡ Some a → second ≡ Some b → third ≡ None → None ≡ front_of words
   unfolding front_of
-  no_place a b e f g = sym (three_third first second third Bad modes_of a b e f g)
+  no_place a b e f g = sym (three_third first second third None modes_of a b e f g)
 
-  pub modes_at : (a b n : ℕ) → first ≡ number.Value a → second ≡ number.Value b → third ≡ number.Value n → modes_of a b n ≡ front_of words
+  pub modes_at : (a b n : ℕ) → first ≡ Some a → second ≡ Some b → third ≡ Some n → modes_of a b n ≡ front_of words
   unfolding front_of
-  modes_at a b n e f g = sym (three_all first second third Bad modes_of a b n e f g)
+  modes_at a b n e f g = sym (three_all first second third None modes_of a b n e f g)
 
 module _ (words text : List ℕ) where
   abbrev own : NewtypeMode → TupleMode → ℕ → List ℕ × List ℕ
@@ -53,11 +51,10 @@ module _ (words text : List ℕ) where
     over (pairs (behind_word (behind_word (behind_word words)))) text,
   )
 
-  pub kind_bad : front_of words ≡ Bad → kind_line words text ≡ (bad_text, text)
+  pub kind_bad : front_of words ≡ None → kind_line words text ≡ (bad_text, text)
   unfolding kind_line
-  kind_bad e = ap (λ (a : Asked). by_asked a (bad_text, text) own) e
+  kind_bad e = ap (λ (a : Option Asked). by_asked a (bad_text, text) own) e
 
-  pub kind_at : (newtype : NewtypeMode) (tuple : TupleMode) (place : ℕ) → front_of words ≡ At newtype tuple place
-      → kind_line words text ≡ own newtype tuple place
+  pub kind_at : (q : Asked) → front_of words ≡ Some q → kind_line words text ≡ own q.newtype q.tuple q.place
   unfolding kind_line
-  kind_at newtype tuple place e = ap (λ (a : Asked). by_asked a (bad_text, text) own) e
+  kind_at q e = ap (λ (a : Option Asked). by_asked a (bad_text, text) own) e

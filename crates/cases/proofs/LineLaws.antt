@@ -1,4 +1,5 @@
 -- A line whose last word says bytes, and of these what a call says. Assumes nothing.
+use Rattle.std.specs.Prelude.{Some, None}
 use Prim.Native.Nat.{ℕ, ◌-◌}
 use mathlib.Core.List.{List}
 use mathlib.Core.Path.{◌≡◌, sym, ap, ◌∙◌}
@@ -12,18 +13,17 @@ use Rattle.words.proofs.DecidedLaws.{bytes_bad, bytes_good}
 use Rattle.words.proofs.SaidLaws.{part_said}
 use Rattle.words.specs.Hex.{hex_in, pairs}
 use Rattle.words.specs.Said.{by_bytes}
-use Rattle.words.specs.declared.hex.Hex.TheVariants as hex
 
 module _ (out end : List ℕ × ℕ) (line : List ℕ × List ℕ) (left : List ℕ) where
   -- a line whose last word says bytes, and of these what a call says
   module _ {A : Type 0} (own : A → List ℕ) (of : List ℕ → Told A) (word text : List ℕ)
       (l : line ≡ (by_bytes word (length text) bad_text (λ s. answer_text own (of s)), over (pairs word) text)) (f : left ≡ over (pairs word) text) where
-    pub line_bad : hex_in word (length text) ≡ hex.Bad → end ≡ put out bad_text → (end ≡ put out line.0) × (left ≡ line.1)
+    pub line_bad : hex_in word (length text) ≡ None → end ≡ put out bad_text → (end ≡ put out line.0) × (left ≡ line.1)
     line_bad h e =
         line2 out end (by_bytes word (length text) bad_text (λ s. answer_text own (of s))) left (over (pairs word) text) line l
         (e ∙ sym (ap (put out) (bytes_bad word (length text) bad_text (λ s. answer_text own (of s)) h))) f
 
-    pub line_good : (n : ℕ) (part : List ℕ) (a : Told A) → hex_in word (length text) ≡ hex.Bytes n → part ≡ take (n - 0) left → a ≡ of part
+    pub line_good : (n : ℕ) (part : List ℕ) (a : Told A) → hex_in word (length text) ≡ Some n → part ≡ take (n - 0) left → a ≡ of part
         → end ≡ put out (answer_text own a) → (end ≡ put out line.0) × (left ≡ line.1)
     line_good n part a h p r e =
         line2 out end (by_bytes word (length text) bad_text (λ s. answer_text own (of s))) left (over (pairs word) text) line l

@@ -1,4 +1,5 @@
 -- The line of a skip. Assumes nothing.
+use Rattle.std.specs.Prelude.{Option, Some, None}
 use Prim.Native.Nat.{ℕ}
 use mathlib.Core.List.{List}
 use mathlib.Core.Path.{◌≡◌}
@@ -12,19 +13,17 @@ use Rattle.words.specs.Hex.{pairs}
 use Rattle.words.specs.Number.{decimal_of}
 use Rattle.words.specs.Said.{by_bytes}
 use Rattle.words.specs.Split.{first_word, behind_word}
-use Rattle.words.specs.declared.number.Decimal.{Decimal}
-use Rattle.words.specs.declared.number.Decimal.TheVariants.{Value, Bad}
 use Rattle.cases.specs.Skips.{length_of, skip_line}
 use Rattle.words.proofs.DecidedLaws.{three_first, three_second, three_third, three_all}
 
 module _ (words text : List ℕ) where
-  abbrev first : Decimal
+  abbrev first : Option ℕ
   first = decimal_of (first_word words)
 
-  abbrev second : Decimal
+  abbrev second : Option ℕ
   second = decimal_of (first_word (behind_word words))
 
-  abbrev third : Decimal
+  abbrev third : Option ℕ
   third = length_of (first_word (behind_word (behind_word words)))
 
   abbrev own : ℕ → ℕ → ℕ → List ℕ × List ℕ
@@ -33,18 +32,18 @@ module _ (words text : List ℕ) where
     over (pairs (behind_word (behind_word (behind_word words)))) text,
   )
 
-  pub no_cursor : first ≡ Bad → skip_line words text ≡ (bad_text, text)
+  pub no_cursor : first ≡ None → skip_line words text ≡ (bad_text, text)
   unfolding skip_line
   no_cursor e = three_first first second third (bad_text, text) own e
 
-  pub no_pre : (a : ℕ) → first ≡ Value a → second ≡ Bad → skip_line words text ≡ (bad_text, text)
+  pub no_pre : (a : ℕ) → first ≡ Some a → second ≡ None → skip_line words text ≡ (bad_text, text)
   unfolding skip_line
   no_pre a e f = three_second first second third (bad_text, text) own a e f
 
-  pub no_length : (a b : ℕ) → first ≡ Value a → second ≡ Value b → third ≡ Bad → skip_line words text ≡ (bad_text, text)
+  pub no_length : (a b : ℕ) → first ≡ Some a → second ≡ Some b → third ≡ None → skip_line words text ≡ (bad_text, text)
   unfolding skip_line
   no_length a b e f g = three_third first second third (bad_text, text) own a b e f g
 
-  pub skip_at : (a b n : ℕ) → first ≡ Value a → second ≡ Value b → third ≡ Value n → skip_line words text ≡ own a b n
+  pub skip_at : (a b n : ℕ) → first ≡ Some a → second ≡ Some b → third ≡ Some n → skip_line words text ≡ own a b n
   unfolding skip_line
   skip_at a b n e f g = three_all first second third (bad_text, text) own a b n e f g

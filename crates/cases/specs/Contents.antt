@@ -1,6 +1,6 @@
 -- `c KIND START HEX` and `C ENTRY COUNT BUFFER HEX N,N,..`: contents and decoded of an entry, the view and then the decoding into a marked buffer.
 use Rattle.std.specs.Prelude.{Ok, Err}
-use Rattle.std.specs.Prelude.{ℕ, ◌+◌, ◌-◌, ◌^◌, min, List, [], ◌∷◌, ◌++◌, length, take, drop}
+use Rattle.std.specs.Prelude.{ℕ, ◌+◌, ◌-◌, ◌^◌, min, List, [], ◌∷◌, ◌++◌, length, take, drop, Option, Some, None}
 use Rattle.lent.specs.Marks.{byte_mark_at, marked, kept_from}
 use Rattle.lines.specs.Ascii.{ascii}
 use Rattle.lines.specs.Over.{over}
@@ -15,8 +15,6 @@ use Rattle.words.specs.Said.{by_number, by_small, by_bytes, by_numbers}
 use Rattle.words.specs.Small.{small_of}
 use Rattle.words.specs.Split.{first_word, behind_word}
 use Rattle.cases.specs.declared.contents.Asked.{Asked}
-use Rattle.cases.specs.declared.any_c.Said.{Said}
-use Rattle.cases.specs.declared.any_c.Said.TheVariants.{Asks, Bad}
 
 -- An entry, the tape's count, and how many bytes the buffer has.
 abbrev pub asked : ℕ → ℕ → ℕ → Asked
@@ -71,17 +69,17 @@ contents_line words text spare =
     (both.0, left, both.1))))
 
 -- What the first three words of `C` say.
-unfoldable pub front_of : List ℕ → Said
+unfoldable pub front_of : List ℕ → Option Asked
 front_of words =
     let two = behind_word words in
-    by_number (decimal_of (first_word words)) Bad (λ entry.
-    by_number (decimal_of (first_word two)) Bad (λ count.
-    by_number (decimal_of (first_word (behind_word two))) Bad (λ buffer. Asks (asked entry count buffer))))
+    by_number (decimal_of (first_word words)) None (λ entry.
+    by_number (decimal_of (first_word two)) None (λ count.
+    by_number (decimal_of (first_word (behind_word two))) None (λ buffer. Some (asked entry count buffer))))
 
 -- What goes on with them, or what is said of a line that is no case.
-abbrev pub by_said : {A : Type 0} → Said → A → (Asked → A) → A
-by_said (Asks q) bad own = own q
-by_said Bad bad own = bad
+abbrev pub by_said : {A : Type 0} → Option Asked → A → (Asked → A) → A
+by_said (Some q) bad own = own q
+by_said None bad own = bad
 
 -- `C ENTRY COUNT BUFFER HEX N,N,..`: any tape. What is said, and the rooms for the text, the tape and the buffer afterwards.
 unfoldable pub any_line : List ℕ → List ℕ → List ℕ → List ℕ → List ℕ × List ℕ × List ℕ × List ℕ

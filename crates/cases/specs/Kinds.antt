@@ -1,5 +1,5 @@
 -- `k NEWTYPE TUPLE PLACE HEX`: a struct kind.
-use Rattle.std.specs.Prelude.{ℕ, cond, List, eqb, ltb, length}
+use Rattle.std.specs.Prelude.{ℕ, cond, List, eqb, ltb, length, Option, Some, None}
 use Rattle.lines.specs.Over.{over}
 use Rattle.sarridok.specs.StructKind.{struct_kind_of}
 use Rattle.show.specs.Answers.{answer_text, bad_text}
@@ -13,26 +13,29 @@ use Rattle.words.specs.Number.{decimal_of}
 use Rattle.words.specs.Said.{by_number, by_bytes}
 use Rattle.words.specs.Split.{first_word, behind_word}
 use Rattle.cases.specs.declared.k.Asked.{Asked}
-use Rattle.cases.specs.declared.k.Asked.TheVariants.{At, Bad}
 
 -- The modes that two numbers say, in the order of the crate's enums.
-unfoldable pub modes_of : ℕ → ℕ → ℕ → Asked
+unfoldable pub modes_of : ℕ → ℕ → ℕ → Option Asked
 modes_of newtype tuple place =
-    cond (ltb 1 newtype) Bad (cond (ltb 1 tuple) Bad
-    (At (cond (eqb newtype 0) NoParensMeanUnit InsideNewtype) (cond (eqb tuple 0) ImpreciseTupleOrNewtype DifferentiateNewtype) place))
+    cond (ltb 1 newtype) None (cond (ltb 1 tuple) None
+    (Some (record {
+      newtype = cond (eqb newtype 0) NoParensMeanUnit InsideNewtype;
+      tuple = cond (eqb tuple 0) ImpreciseTupleOrNewtype DifferentiateNewtype;
+      place = place;
+    })))
 
 -- The modes and the place that the first three words say.
-unfoldable pub front_of : List ℕ → Asked
+unfoldable pub front_of : List ℕ → Option Asked
 front_of words =
     let two = behind_word words in
-    by_number (decimal_of (first_word words)) Bad (λ newtype.
-    by_number (decimal_of (first_word two)) Bad (λ tuple.
-    by_number (decimal_of (first_word (behind_word two))) Bad (λ place. modes_of newtype tuple place)))
+    by_number (decimal_of (first_word words)) None (λ newtype.
+    by_number (decimal_of (first_word two)) None (λ tuple.
+    by_number (decimal_of (first_word (behind_word two))) None (λ place. modes_of newtype tuple place)))
 
 -- What goes on with them, or what is said of a line that is no case.
-abbrev pub by_asked : {A : Type 0} → Asked → A → (NewtypeMode → TupleMode → ℕ → A) → A
-by_asked (At newtype tuple place) bad own = own newtype tuple place
-by_asked Bad bad own = bad
+abbrev pub by_asked : {A : Type 0} → Option Asked → A → (NewtypeMode → TupleMode → ℕ → A) → A
+by_asked (Some q) bad own = own q.newtype q.tuple q.place
+by_asked None bad own = bad
 
 -- What is said, and the room for the text afterwards.
 unfoldable pub kind_line : List ℕ → List ℕ → List ℕ × List ℕ

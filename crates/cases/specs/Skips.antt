@@ -1,13 +1,11 @@
 -- `s CURSOR PRE LEN HEX`: a skip.
-use Rattle.std.specs.Prelude.{ℕ, cond, List, length}
+use Rattle.std.specs.Prelude.{ℕ, cond, List, length, Option, Some}
 use Rattle.cursor.specs.Cursor.{cursor, unclosed_line}
 use Rattle.lines.specs.Ascii.{ascii}
 use Rattle.lines.specs.Over.{over}
 use Rattle.sarridok.specs.Skip.{skip_of}
 use Rattle.show.specs.Answers.{answer_text, bad_text}
 use Rattle.show.specs.Skips.{moved_text}
-use Rattle.words.specs.declared.number.Decimal.{Decimal}
-use Rattle.words.specs.declared.number.Decimal.TheVariants.{Value}
 use Rattle.words.specs.Hex.{pairs}
 use Rattle.words.specs.Number.{decimal_of}
 use Rattle.words.specs.Said.{by_number, by_bytes}
@@ -15,8 +13,8 @@ use Rattle.words.specs.Split.{first_word, behind_word}
 use Rattle.cases.specs.Bytes.{same_bytes}
 
 -- A number, or the word `mark` for that of a line that is not closed.
-unfoldable pub length_of : List ℕ → Decimal
-length_of word = cond (same_bytes word (ascii "mark")) (Value unclosed_line) (decimal_of word)
+unfoldable pub length_of : List ℕ → Option ℕ
+length_of word = cond (same_bytes word (ascii "mark")) (Some unclosed_line) (decimal_of word)
 
 -- What is said, and the room for the text afterwards.
 unfoldable pub skip_line : List ℕ → List ℕ → List ℕ × List ℕ

@@ -5,36 +5,17 @@ ghost use Rattle.cases.specs.Contents.{front_of, any_line};
 
 use crate::contents;
 use crate::contents::Asked;
-use words::hex::Hex;
-use words::list::Count;
-use words::number::Decimal;
 use words::{hex, list, number};
 
-// What is asked; or the line is no case.
-#[derive(Clone, Copy)]
-enum Said {
-    Asks(Asked),
-    Bad,
-}
-
-// What the first three words say.
-fn front(words: &[u8]) -> Said
+// What the first three words ask; none where the line is no case.
+fn front(words: &[u8]) -> Option<Asked>
     ensures { result ≡ front_of words.now }
 {
-    let first = number::decimal_of(words::word(words));
-    let Decimal::Value(entry) = first else {
-        return Said::Bad;
-    };
+    let entry = number::decimal_of(words::word(words))?;
     let words = words::behind(words);
-    let second = number::decimal_of(words::word(words));
-    let Decimal::Value(count) = second else {
-        return Said::Bad;
-    };
-    let third = number::decimal_of(words::word(words::behind(words)));
-    let Decimal::Value(buffer) = third else {
-        return Said::Bad;
-    };
-    Said::Asks(Asked {
+    let count = number::decimal_of(words::word(words))?;
+    let buffer = number::decimal_of(words::word(words::behind(words)))?;
+    Some(Asked {
         entry: entry as usize,
         count: count as usize,
         buffer,
@@ -56,17 +37,14 @@ pub fn answer(
         × (tape.new ≡ (any_line words.now text.old tape.old spare.old).2)
         × (spare.new ≡ (any_line words.now text.old tape.old spare.old).3) }
 {
-    let asked = front(words);
-    let Said::Asks(q) = asked else {
+    let Some(q) = front(words) else {
         return show::bad(o, at);
     };
     let words = words::behind(words::behind(words::behind(words)));
-    let bytes = hex::bytes(words::word(words), text);
-    let Hex::Bytes(n) = bytes else {
+    let Some(n) = hex::bytes(words::word(words), text) else {
         return show::bad(o, at);
     };
-    let numbers = list::numbers(words::behind(words), tape);
-    let Count::Stored(k) = numbers else {
+    let Some(k) = list::numbers(words::behind(words), tape) else {
         return show::bad(o, at);
     };
     contents::answer(

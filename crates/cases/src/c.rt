@@ -5,8 +5,6 @@ ghost use Rattle.cases.specs.Contents.{contents_line};
 
 use crate::contents;
 use crate::contents::Asked;
-use words::hex::Hex;
-use words::small::Small;
 use words::{hex, small};
 
 // The tape has this one entry; the buffer is as long as the text can need.
@@ -15,17 +13,14 @@ pub fn answer(words: &[u8], text: &mut [u8], spare: &mut [u8], o: &mut [u8], at:
         × (text.new ≡ (contents_line words.now text.old spare.old).1)
         × (spare.new ≡ (contents_line words.now text.old spare.old).2) }
 {
-    let first = small::small_of(words::word(words));
-    let Small::Value(kind) = first else {
+    let Some(kind) = small::small_of(words::word(words)) else {
         return show::bad(o, at);
     };
     let words = words::behind(words);
-    let second = small::small_of(words::word(words));
-    let Small::Value(start) = second else {
+    let Some(start) = small::small_of(words::word(words)) else {
         return show::bad(o, at);
     };
-    let last = hex::bytes(words::behind(words), text);
-    let Hex::Bytes(n) = last else {
+    let Some(n) = hex::bytes(words::behind(words), text) else {
         return show::bad(o, at);
     };
     let tape = [kind, start, 0, 0, 0];

@@ -4,72 +4,62 @@ ghost use Rattle.lines.specs.Out.{put};
 ghost use Rattle.cases.specs.Kinds.{modes_of, front_of, kind_line};
 
 use sarridok::{NewtypeMode, TupleMode};
-use words::hex::Hex;
-use words::number::Decimal;
 use words::{hex, number};
 
-// The two modes and the place; or the line is no case.
+// What a line asks: the two modes and the place.
 #[derive(Clone, Copy)]
-enum Asked {
-    At(NewtypeMode, TupleMode, usize),
-    Bad,
+struct Asked {
+    newtype: NewtypeMode,
+    tuple: TupleMode,
+    place: usize,
 }
 
-// The modes that two numbers say, in the order of the crate's enums.
-fn modes_of(newtype: u64, tuple: u64, place: usize) -> Asked
+// The modes that two numbers say, in the order of the crate's enums; none where there are no such modes.
+fn modes_of(newtype: u64, tuple: u64, place: usize) -> Option<Asked>
     ensures { result ≡ modes_of newtype tuple place }
 {
     if 1 < newtype {
-        return Asked::Bad;
+        return None;
     }
     if 1 < tuple {
-        return Asked::Bad;
+        return None;
     }
     if newtype == 0 {
         if tuple == 0 {
-            return Asked::At(
-                NewtypeMode::NoParensMeanUnit,
-                TupleMode::ImpreciseTupleOrNewtype,
+            return Some(Asked {
+                newtype: NewtypeMode::NoParensMeanUnit,
+                tuple: TupleMode::ImpreciseTupleOrNewtype,
                 place,
-            );
+            });
         }
-        return Asked::At(
-            NewtypeMode::NoParensMeanUnit,
-            TupleMode::DifferentiateNewtype,
+        return Some(Asked {
+            newtype: NewtypeMode::NoParensMeanUnit,
+            tuple: TupleMode::DifferentiateNewtype,
             place,
-        );
+        });
     }
     if tuple == 0 {
-        return Asked::At(
-            NewtypeMode::InsideNewtype,
-            TupleMode::ImpreciseTupleOrNewtype,
+        return Some(Asked {
+            newtype: NewtypeMode::InsideNewtype,
+            tuple: TupleMode::ImpreciseTupleOrNewtype,
             place,
-        );
+        });
     }
-    Asked::At(
-        NewtypeMode::InsideNewtype,
-        TupleMode::DifferentiateNewtype,
+    Some(Asked {
+        newtype: NewtypeMode::InsideNewtype,
+        tuple: TupleMode::DifferentiateNewtype,
         place,
-    )
+    })
 }
 
-// The modes and the place that the first three words say.
-fn front(words: &[u8]) -> Asked
+// The modes and the place that the first three words say; none where the line is no case.
+fn front(words: &[u8]) -> Option<Asked>
     ensures { result ≡ front_of words.now }
 {
-    let first = number::decimal_of(words::word(words));
-    let Decimal::Value(newtype) = first else {
-        return Asked::Bad;
-    };
+    let newtype = number::decimal_of(words::word(words))?;
     let words = words::behind(words);
-    let second = number::decimal_of(words::word(words));
-    let Decimal::Value(tuple) = second else {
-        return Asked::Bad;
-    };
-    let third = number::decimal_of(words::word(words::behind(words)));
-    let Decimal::Value(place) = third else {
-        return Asked::Bad;
-    };
+    let tuple = number::decimal_of(words::word(words))?;
+    let place = number::decimal_of(words::word(words::behind(words)))?;
     modes_of(newtype, tuple, place as usize)
 }
 
@@ -78,14 +68,17 @@ pub fn answer(words: &[u8], text: &mut [u8], o: &mut [u8], at: usize) -> usize
     ensures { ((o.new, result) ≡ put (o.old, at) (kind_line words.now text.old).0)
         × (text.new ≡ (kind_line words.now text.old).1) }
 {
-    let read = front(words);
-    let Asked::At(newtype, tuple, place) = read else {
+    let Some(asked) = front(words) else {
         return show::bad(o, at);
     };
-    let last = hex::bytes(words::behind(words::behind(words::behind(words))), text);
-    let Hex::Bytes(n) = last else {
+    let Some(n) = hex::bytes(words::behind(words::behind(words::behind(words))), text) else {
         return show::bad(o, at);
     };
-    let kind = sarridok::struct_kind(lines::part(&text[..], 0, n), place, newtype, tuple);
+    let kind = sarridok::struct_kind(
+        lines::part(&text[..], 0, n),
+        asked.place,
+        asked.newtype,
+        asked.tuple,
+    );
     show::struct_kind::kind(o, at, kind)
 }

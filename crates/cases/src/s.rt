@@ -4,16 +4,14 @@ ghost use Rattle.lines.specs.Out.{put};
 ghost use Rattle.cases.specs.Skips.{length_of, skip_line};
 
 use sarridok::ParserCursor;
-use words::hex::Hex;
-use words::number::Decimal;
 use words::{hex, number};
 
 // A number, or the word `mark` for that of a line that is not closed.
-fn length_of(word: &[u8]) -> Decimal
+fn length_of(word: &[u8]) -> Option<u64>
     ensures { result ≡ length_of word.now }
 {
     if check::same(word, b"mark") {
-        return Decimal::Value(ParserCursor::WS_CURSOR_UNCLOSED_LINE as u64);
+        return Some(ParserCursor::WS_CURSOR_UNCLOSED_LINE as u64);
     }
     number::decimal_of(word)
 }
@@ -23,22 +21,18 @@ pub fn answer(words: &[u8], text: &mut [u8], o: &mut [u8], at: usize) -> usize
     ensures { ((o.new, result) ≡ put (o.old, at) (skip_line words.now text.old).0)
         × (text.new ≡ (skip_line words.now text.old).1) }
 {
-    let first = number::decimal_of(words::word(words));
-    let Decimal::Value(cursor) = first else {
+    let Some(cursor) = number::decimal_of(words::word(words)) else {
         return show::bad(o, at);
     };
     let words = words::behind(words);
-    let second = number::decimal_of(words::word(words));
-    let Decimal::Value(pre) = second else {
+    let Some(pre) = number::decimal_of(words::word(words)) else {
         return show::bad(o, at);
     };
     let words = words::behind(words);
-    let third = length_of(words::word(words));
-    let Decimal::Value(len) = third else {
+    let Some(len) = length_of(words::word(words)) else {
         return show::bad(o, at);
     };
-    let last = hex::bytes(words::behind(words), text);
-    let Hex::Bytes(n) = last else {
+    let Some(n) = hex::bytes(words::behind(words), text) else {
         return show::bad(o, at);
     };
     let from = ParserCursor {

@@ -1,6 +1,6 @@
 -- `I LISTROOM CODEROOM COUNT E,E,.. HEX N,N,..` and `n HEX`: a list of integers over a text and its tape.
 use Rattle.std.specs.Prelude.{Ok, Err}
-use Rattle.std.specs.Prelude.{ℕ, cond, List, ltb, length}
+use Rattle.std.specs.Prelude.{ℕ, cond, List, ltb, length, Option, Some, None}
 use Rattle.lines.specs.Over.{over}
 use Rattle.read.specs.Read.{read_answer, read_tape}
 use Rattle.show.specs.Answers.{bad_text, refused_text}
@@ -13,25 +13,23 @@ use Rattle.words.specs.Split.{first_word, behind_word}
 use Rattle.lists.specs.Gathers.{gathered}
 use Rattle.lists.specs.Listed.{asked, most_for, list_in}
 use Rattle.lists.specs.declared.listed.Asked.{Asked}
-use Rattle.lists.specs.declared.list_any.Said.{Said}
-use Rattle.lists.specs.declared.list_any.Said.TheVariants.{Asks, Bad}
 
 -- What is said, and the rooms for the text, the tape, the list, the magnitudes and the codes afterwards.
 abbrev pub Line : Type 0
 Line = List ℕ × (List ℕ × List ℕ × List ℕ × List ℕ × List ℕ)
 
 -- What the first three words of `I` say.
-unfoldable pub front_of : List ℕ → Said
+unfoldable pub front_of : List ℕ → Option Asked
 front_of words =
     let two = behind_word words in
-    by_number (decimal_of (first_word words)) Bad (λ magnitudes.
-    by_number (decimal_of (first_word two)) Bad (λ codes.
-    by_number (decimal_of (first_word (behind_word two))) Bad (λ count. Asks (asked magnitudes codes count))))
+    by_number (decimal_of (first_word words)) None (λ magnitudes.
+    by_number (decimal_of (first_word two)) None (λ codes.
+    by_number (decimal_of (first_word (behind_word two))) None (λ count. Some (asked magnitudes codes count))))
 
 -- What goes on with them, or what is said of a line that is no case.
-abbrev pub by_said : {A : Type 0} → Said → A → (Asked → A) → A
-by_said (Asks q) bad own = own q
-by_said Bad bad own = bad
+abbrev pub by_said : {A : Type 0} → Option Asked → A → (Asked → A) → A
+by_said (Some q) bad own = own q
+by_said None bad own = bad
 
 -- By a list of entries: what goes on with it, where it has at most 65,536.
 abbrev pub by_items : {A : Type 0} → List ℕ → ℕ → A → (List ℕ → A) → A

@@ -5,36 +5,17 @@ ghost use Rattle.lists.specs.Lists.{front_of, over_tape, any_line};
 
 use crate::listed;
 use crate::listed::Asked;
-use words::hex::Hex;
-use words::list::Count;
-use words::number::Decimal;
 use words::{hex, list, number};
 
-// What is asked; or the line is no case.
-#[derive(Clone, Copy)]
-enum Said {
-    Asks(Asked),
-    Bad,
-}
-
-// What the first three words say.
-fn front(words: &[u8]) -> Said
+// What the first three words ask; none where the line is no case.
+fn front(words: &[u8]) -> Option<Asked>
     ensures { result ≡ front_of words.now }
 {
-    let first = number::decimal_of(words::word(words));
-    let Decimal::Value(magnitudes) = first else {
-        return Said::Bad;
-    };
+    let magnitudes = number::decimal_of(words::word(words))?;
     let words = words::behind(words);
-    let second = number::decimal_of(words::word(words));
-    let Decimal::Value(codes) = second else {
-        return Said::Bad;
-    };
-    let third = number::decimal_of(words::word(words::behind(words)));
-    let Decimal::Value(count) = third else {
-        return Said::Bad;
-    };
-    Said::Asks(Asked {
+    let codes = number::decimal_of(words::word(words))?;
+    let count = number::decimal_of(words::word(words::behind(words)))?;
+    Some(Asked {
         magnitudes: magnitudes as usize,
         codes: codes as usize,
         count: count as usize,
@@ -58,12 +39,10 @@ fn over_tape(
     ensures spare_after { (text.new, tape.new, numbers.new, spare.new)
         ≡ (over_tape q items.now words.now text.old tape.old numbers.old spare.old).1 }
 {
-    let bytes = hex::bytes(words::word(words), text);
-    let Hex::Bytes(n) = bytes else {
+    let Some(n) = hex::bytes(words::word(words), text) else {
         return show::bad(o, at);
     };
-    let last = list::numbers(words::behind(words), tape);
-    let Count::Stored(m) = last else {
+    let Some(m) = list::numbers(words::behind(words), tape) else {
         return show::bad(o, at);
     };
     let s = lines::part(&text[..], 0, n);
@@ -87,13 +66,11 @@ pub fn answer(
     ensures spare_after { (text.new, tape.new, links.new, numbers.new, spare.new)
         ≡ (any_line words.now text.old tape.old links.old numbers.old spare.old).1 }
 {
-    let asked = front(words);
-    let Said::Asks(q) = asked else {
+    let Some(q) = front(words) else {
         return show::bad(o, at);
     };
     let words = words::behind(words::behind(words::behind(words)));
-    let listed = list::numbers(words::word(words), links);
-    let Count::Stored(k) = listed else {
+    let Some(k) = list::numbers(words::word(words), links) else {
         return show::bad(o, at);
     };
     let items = list::first(&links[..], k);

@@ -8,7 +8,6 @@ ghost use Rattle.lists.specs.Lists.{list_of_text, list_line};
 use crate::listed::Asked;
 use crate::{gather, listed};
 use sarridok::ReadAnswer;
-use words::hex::Hex;
 use words::{hex, list};
 
 // Buffers for so many items, and a few behind them.
@@ -67,8 +66,7 @@ pub fn answer(
     ensures spare_after { (text.new, tape.new, links.new, numbers.new, spare.new)
         ≡ (list_line words.now text.old tape.old links.old numbers.old spare.old).1 }
 {
-    let bytes = hex::bytes(words, text);
-    let Hex::Bytes(n) = bytes else {
+    let Some(n) = hex::bytes(words, text) else {
         return show::bad(o, at);
     };
     read(

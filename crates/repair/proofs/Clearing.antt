@@ -1,18 +1,17 @@
 -- The part of the tape that is written anew, and the tape around it. Assumes nothing.
 use Prim.Native.Nat.{◌*◌, ◌+◌, ◌-◌, ◌≤◌, suc, zero, ℕ}
 use native.Mathlib.Omega.{arith}
-use mathlib.Core.List.{[], ◌++◌, ◌∷◌, append_assoc, List}
+use mathlib.Core.List.{◌++◌, append_assoc, List}
 use mathlib.Core.Path.{◌∙◌, ◌≡◌, ap, ap₂, refl, sym}
 use lib.ListN.{drop, length, length-append, length-drop, length-replicate, replicate, replicate-append-replicate, take}
-use lib.Seq.{drop-append-add, drop-append-le, drop_at, drop-drop, take-add, take_at}
-use Rattle.repair.proofs.Laying.{drop_front}
+use lib.Seq.{drop-append-add, drop-append-le, drop_at, drop-drop, length-take-le, take-add, take_at}
+use Rattle.repair.proofs.Laying.{drop_front, laid_none}
 use Rattle.repair.specs.Repair.{cleared, no_entry}
 use Rattle.repair.specs.inner.Steps.{emptied, laid_at}
 use Rattle.rows.proofs.RowLaws.{cells_take, flat_append, length_entries, length_flat}
 use Rattle.rows.specs.Rows.{cells, entries_of, flat, laid, width}
 use Rattle.rows.specs.declared.Entry.{Entry}
 use Rattle.text.proofs.Choices.{either, lt_or_le}
-use Rattle.text.proofs.Stops.{part}
 
 -- ---- rows are their numbers
 
@@ -32,6 +31,23 @@ flat_zeros zero = refl
 flat_zeros (suc n) =
     let w : width + width * n ≡ width * suc n = omega arith in
     ap (λ (l : List ℕ). cells no_entry ++ l) (flat_zeros n) ∙ replicate-append-replicate width (width * n) 0 ∙ ap (λ (k : ℕ). replicate {A = ℕ} k 0) w
+
+-- a row range filled with them is emptied
+pub zeros_laid : (x y a n : ℕ) (t s : List ℕ) → x ≤ y → width * y ≤ length t → a ≡ width * x → a + n ≡ width * y → s ≡ replicate (length (take n (drop a t))) 0
+    → take a t ++ (s ++ drop n (drop a t)) ≡ emptied x y t
+unfolding laid_at
+zeros_laid x y a n t s le fit ea en es =
+    let k : length {A = Entry} (replicate (y - x) no_entry) ≡ y - x = length-replicate (y - x) no_entry in
+    let u : a + n ≡ width * (x + length {A = Entry} (replicate (y - x) no_entry)) = omega arith in
+    let v : length (take n (drop a t)) ≡ width * (y - x) = omega (arith, length-take-le n (drop a t) (omega (arith, length-drop a t))) in
+    let z : s ≡ flat (replicate (y - x) no_entry) = es ∙ ap (λ (m : ℕ). replicate {A = ℕ} m 0) v ∙ sym (flat_zeros (y - x)) in
+    let w : drop n (drop a t) ≡ drop (width * (x + length {A = Entry} (replicate (y - x) no_entry))) t = drop-drop n a t ∙ ap (λ (m : ℕ). drop m t) u in
+    ap₂ (λ (h : List ℕ) (r : List ℕ). h ++ r) (ap (λ (m : ℕ). take m t) ea) (ap₂ (λ (h : List ℕ) (r : List ℕ). h ++ r) z w)
+    ∙ sym (append_assoc (take (width * x) t) (flat (replicate (y - x) no_entry)) (drop (width * (x + length {A = Entry} (replicate (y - x) no_entry))) t))
+
+-- no row is emptied behind the last
+pub none_laid : (x y : ℕ) (t : List ℕ) → y ≤ x → t ≡ emptied x y t
+none_laid x y t h = let z : y - x ≡ 0 = omega arith in sym (ap (λ (n : ℕ). laid_at x (replicate n no_entry) t) z ∙ laid_none x t)
 
 drop_zeros : (n k : ℕ) → drop {A = ℕ} k (replicate n 0) ≡ replicate (n - k) 0
 drop_zeros n zero = let z : n - 0 ≡ n = omega arith in ap (λ (m : ℕ). replicate {A = ℕ} m 0) (sym z)

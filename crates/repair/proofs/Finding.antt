@@ -1,7 +1,7 @@
 -- What a repair finds lies within its text and tape, whatever the tape in order is. Assumes nothing.
 use Rattle.std.proofs.Common.{Ok}
 use Rattle.text.specs.Refusals.{Told}
-use Prim.Native.Nat.{◌*◌, ◌+◌, ◌-◌, ◌<◌, ◌≤◌, suc, zero, ℕ}
+use Prim.Native.Nat.{◌*◌, ◌+◌, ◌-◌, ◌<◌, ◌≤◌, suc, ℕ}
 use native.Mathlib.Omega.{arith}
 use mathlib.Core.Bool.{false, Bool, ◌&&◌, cond, true}
 use mathlib.Core.List.{List, [], ◌∷◌}
@@ -10,11 +10,10 @@ use lib.Dec.{eqb, leb, ltb}
 use lib.ListN.{drop, get_or, length, length-drop, length-take, take}
 use lib.Seq.{get_or-drop}
 use borrow.Author.Tests.{eqb-true, leb-true, lt-ltb, ltb-true}
-use Rattle.reading.proofs.Entries.{read_in_order}
 use Rattle.reading.proofs.QuietLaws.{last_le}
 use Rattle.reading.specs.Kept.{last_quiet}
 use Rattle.reading.specs.Owed.{quiet_byte}
-use Rattle.reading.specs.Readings.{Reading, end_of, entries, read_from, ◌▸◌}
+use Rattle.reading.specs.Readings.{Reading, end_of, entries, read_from}
 use Rattle.reading.specs.Readings.Reading.{broken, complete, entry}
 use Rattle.repair.proofs.Checks.{Fits}
 use Rattle.repair.proofs.Leading.{lead_at, lead_le}
@@ -26,7 +25,6 @@ use Rattle.rows.specs.Order.{in_order, in_order_from}
 use Rattle.rows.specs.Rows.{entries_of, width}
 use Rattle.rows.specs.declared.Entry.{Entry}
 use Rattle.text.proofs.Choices.{and_true, either, lt_or_le}
-use Rattle.tokens.proofs.RonLaws.{kinds, laws}
 use Rattle.tokens.specs.Ron.{ron_token}
 use Rattle.repair.proofs.Rows.{entries_drop, entries_take}
 

@@ -1,6 +1,6 @@
 -- The ways out of a repair. Assumes nothing.
 use Rattle.std.proofs.Common.{Ok, Err}
-use Prim.Native.Nat.{◌*◌, ◌+◌, ◌-◌, ◌<◌, ◌≤◌, suc, zero, ℕ}
+use Prim.Native.Nat.{◌*◌, ◌+◌, ◌-◌, ◌<◌, ◌≤◌, ℕ}
 use native.Mathlib.Omega.{arith}
 use mathlib.Core.Bool.{Bool, cond, true, false}
 use mathlib.Core.List.{[], ◌++◌, ◌∷◌, append-nil, map, List}
@@ -23,7 +23,7 @@ use Rattle.rows.specs.Rows.{entries_of, laid, room_of, width}
 use Rattle.rows.specs.declared.Entry.{Entry}
 use Rattle.text.proofs.Choices.{cond_cases}
 use Rattle.text.proofs.Lists.{tail_part}
-use Rattle.text.proofs.Stops.{behind, part}
+use Rattle.text.proofs.Stops.{part}
 use Rattle.text.specs.Refusals.{no_room, not_in_order, Told}
 use Rattle.text.specs.declared.refusal.Refusal.{Refusal}
 use Rattle.tokens.specs.Ron.{ron_token}

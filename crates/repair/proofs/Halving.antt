@@ -2,7 +2,7 @@
 use Prim.Native.Nat.{◌+◌, ◌<◌, ◌≤◌, ℕ}
 use native.Mathlib.Omega.{arith}
 use mathlib.Core.List.{List}
-use mathlib.Core.Path.{◌∙◌, ◌≡◌, ap}
+use mathlib.Core.Path.{◌≡◌, ap}
 use lib.ListN.{get_or, length}
 use borrow.Author.Tests.{ltb-false, ltb-true}
 use Rattle.repair.proofs.Leading.{lead_at, lead_not}

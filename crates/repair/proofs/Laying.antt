@@ -1,13 +1,13 @@
 -- Entries laid on a tape from a row on, and the loops that move and clear rows. Assumes nothing.
-use Prim.Native.Nat.{◌*◌, ◌+◌, ◌-◌, ◌<◌, ◌≤◌, suc, zero, ℕ}
+use Prim.Native.Nat.{◌*◌, ◌+◌, ◌-◌, ◌<◌, ◌≤◌, suc, ℕ}
 use native.Mathlib.Numerals.{add-one}
 use native.Mathlib.Omega.{arith}
 use mathlib.Core.List.{[], ◌++◌, ◌∷◌, append_assoc, append-nil, map, List}
 use mathlib.Core.Path.{◌∙◌, ◌≡◌, ap, ap₂, refl, subst, sym}
-use lib.ListN.{drop, drop_of_length-le, length, length-append, length-drop, length-map, length-replicate, replicate, take, take-append-drop}
+use lib.ListN.{drop, drop_of_length-le, length, length-append, length-drop, length-map, take, take-append-drop}
 use lib.Seq.{drop_at, drop-cons, drop-drop, length-take-le, take-append-le, take_at, take-take}
 use Rattle.repair.specs.Repair.{no_entry}
-use Rattle.repair.specs.inner.Steps.{Movable, MovableRow, clipped, clipped_from, emptied, laid_at, shifted}
+use Rattle.repair.specs.inner.Steps.{Movable, MovableRow, clipped, clipped_from, laid_at, shifted}
 use Rattle.rows.proofs.RowLaws.{entries_at, entries_last, entry_agree, entry_part, flat_append, length_entries, length_flat}
 use Rattle.rows.specs.Rows.{cells, entries_of, entry_at, entry_of, flat, width, written}
 use Rattle.rows.specs.declared.Entry.{Entry}
@@ -175,26 +175,3 @@ module _ (b e m f g : ℕ) (t : List ℕ) where
 
   pub down_ends : (k : ℕ) (s : List ℕ) → k ≤ 0 → Down k s → s ≡ shifted b e m f g t
   down_ends k s h inv = let z : k ≡ 0 = omega arith in down_zero s (inv ∙ ap (λ (n : ℕ). laid_at (g + n) (rest n) t) z)
-
--- ---- cleared rows
-
-repeat_last : (n : ℕ) → replicate n no_entry ++ (no_entry ∷ []) ≡ replicate (suc n) no_entry
-repeat_last zero = refl
-repeat_last (suc n) = ap {B = List Entry} (λ (l : List Entry). no_entry ∷ l) (repeat_last n)
-
-module _ (x y : ℕ) (t : List ℕ) where
-  abbrev pub Clearing : ℕ → List ℕ → Type 0
-  Clearing i s = s ≡ emptied x i t
-
-  pub clear_starts : Clearing x t
-  clear_starts = let z : x - x ≡ 0 = omega arith in sym (ap (λ (n : ℕ). laid_at x (replicate n no_entry) t) z ∙ laid_none x t)
-
-  pub clear_goes : (i : ℕ) (s s' : List ℕ) → x ≤ i → width * (i + 1) ≤ length t → Clearing i s → s' ≡ written s i no_entry → Clearing (i + 1) s'
-  clear_goes i s s' l h inv w =
-      let z : suc (i - x) ≡ i + 1 - x = omega arith in
-      w ∙ ap (λ (u : List ℕ). written u i no_entry) inv
-      ∙ laid_next x (replicate (i - x) no_entry) t i no_entry (omega (arith, length-replicate (i - x) no_entry)) h
-      ∙ ap (λ (d : List Entry). laid_at x d t) (repeat_last (i - x) ∙ ap (λ (n : ℕ). replicate n no_entry) z)
-
-  pub clear_ends : (i : ℕ) (s : List ℕ) → i - x ≡ y - x → Clearing i s → s ≡ emptied x y t
-  clear_ends i s e inv = inv ∙ ap (λ (n : ℕ). laid_at x (replicate n no_entry) t) e

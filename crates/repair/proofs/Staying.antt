@@ -8,7 +8,7 @@ use lib.Seq.{take-add}
 use Rattle.repair.proofs.Clearing.{flat_take}
 use Rattle.repair.specs.inner.Steps.{Movable, clipped, clipped_from, laid_at, shifted}
 use Rattle.rows.proofs.RowLaws.{length_entries}
-use Rattle.rows.specs.Rows.{entries_of, flat, width}
+use Rattle.rows.specs.Rows.{entries_of, width}
 use Rattle.rows.specs.declared.Entry.{Entry}
 
 unmoved : (b e : ℕ) (l : List Entry) → b ≡ e → Movable b e l → map (clipped_from b e) l ≡ l

@@ -75,14 +75,8 @@ pub fn clear(tape: &mut [u32], x: usize, y: usize)
     requires { y ≤ room_of (length tape.old) }
     ensures { tape.new ≡ emptied x y tape.old }
 {
-    let blank = Entry {
-        kind: 0,
-        start: 0,
-        end: 0,
-        detail: 0,
-        gap: 0,
-    };
-    for i in x..y {
-        row::write(tape, i, blank);
+    if y <= x {
+        return;
     }
+    tape[row::begins(x)..row::begins(y)].fill(0);
 }

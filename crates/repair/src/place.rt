@@ -2,7 +2,7 @@
 ghost use Rattle.std.specs.Prelude.{◌≡◌, ◌≤◌, ◌+◌};
 ghost use Rattle.repair.specs.inner.Steps.{clipped};
 
-// As the places of a text are.
+// As the places of a text are: `usize` is no `From<u32>`.
 pub fn wide(place: u32) -> usize
     ensures { result ≡ place }
 {

@@ -9,10 +9,8 @@ use quiet::bytes::is_quiet;
 pub fn last_quiet(s: &[u8]) -> usize
     ensures { result ≡ last_quiet quiet_byte s.now }
 {
-    for i in (0..s.len()).rev() {
-        if is_quiet(s[i]) {
-            return i + 1;
-        }
+    match s.iter().rposition(|byte| is_quiet(*byte)) {
+        Some(i) => i + 1,
+        None => 0,
     }
-    0
 }

@@ -8,14 +8,15 @@ ghost use Rattle.repair.specs.inner.Steps.{InOrder, seek_from, met_of};
 use crate::place::wide;
 use rows::row;
 
-// Whether a new entry joins at an old one, and the row where the search stands.
+// Whether a new entry joins at an old one, and the row where the search stands. No `Result`: that none joins is no failure.
 #[derive(Clone, Copy)]
 pub enum Met {
     At(usize),
     Next(usize),
 }
 
-// How many entries from the first on end before q: searched by halves, since no entry of a tape in order ends before a former one.
+// How many entries from the first on end before q: searched by halves, since no entry of a tape in order ends before a former one; by hand, since a flat tape
+// is no slice of rows, as `partition_point` asks.
 pub fn ends_before(tape: &[u32], count: usize, q: usize) -> usize
     requires { (count ≤ room_of (length tape.now)) × InOrder (entries_of count tape.now) }
     ensures { result ≡ leading (ends_before q) (entries_of count tape.now) }

@@ -22,7 +22,7 @@ returns-in_default c =
     let spare : List ℕ = c.args.spare.now in
     let out : List ℕ × ℕ = (c.args.o.now, c.args.at) in
     line4 out _ bad_text _ _ _ text tape spare (any_line words text tape spare)
-    (not_asked words text tape spare (sym c.front-asked.ensures ∙ c.in_default.is)) c.bad.ensures refl refl refl
+    (not_asked words text tape spare (sym c.front.ensures ∙ c.in_default.is)) c.bad.ensures refl refl refl
 
 pub returns-in_default-bytes : goal.returns-in_default-bytes
 returns-in_default-bytes c =
@@ -36,8 +36,8 @@ returns-in_default-bytes c =
     let hexed : List ℕ = first_word fourth in
     let is-hexed : ◌≡◌ {A = List ℕ} _ hexed = c.word.ensures ∙ ap first_word is-fourth in
     line4 out _ bad_text _ _ _ (over (pairs hexed) text) tape spare (any_line words text tape spare)
-    (no_text words text tape spare c.in-Asks.q (sym c.front-asked.ensures ∙ c.in-Asks.is)
-    (said (λ (w : List ℕ). hex_in w (length text)) _ hexed _ _ c.bytes-bytes.ensures.value is-hexed c.in_default-bytes.is)) c.bad-in_default-bytes.ensures (c.bytes-bytes.ensures.buf_after ∙ ap (λ (w : List ℕ). over (pairs w) text) is-hexed) refl refl
+    (no_text words text tape spare c.in-Some.q (sym c.front.ensures ∙ c.in-Some.is)
+    (said (λ (w : List ℕ). hex_in w (length text)) _ hexed _ _ c.bytes.ensures.value is-hexed c.in_default-bytes.is)) c.bad-in_default-bytes.ensures (c.bytes.ensures.buf_after ∙ ap (λ (w : List ℕ). over (pairs w) text) is-hexed) refl refl
 
 pub returns-in_default-numbers : goal.returns-in_default-numbers
 returns-in_default-numbers c =
@@ -53,9 +53,9 @@ returns-in_default-numbers c =
     let fifth : List ℕ = behind_word fourth in
     let is-fifth : ◌≡◌ {A = List ℕ} _ fifth = c.behind-3.ensures ∙ ap behind_word is-fourth in
     line4 out _ bad_text _ _ _ (over (pairs hexed) text) (over (numbers_of fifth) tape) spare (any_line words text tape spare)
-    (no_tape words text tape spare c.in-Asks.q (sym c.front-asked.ensures ∙ c.in-Asks.is) _
-    (said (λ (w : List ℕ). hex_in w (length text)) _ hexed _ _ c.bytes-bytes.ensures.value is-hexed c.in-Bytes.is)
-    (said (λ (w : List ℕ). numbers_in w (length tape)) _ fifth _ _ c.numbers-numbers.ensures.value is-fifth c.in_default-numbers.is)) c.bad-in_default-numbers.ensures (c.bytes-bytes.ensures.buf_after ∙ ap (λ (w : List ℕ). over (pairs w) text) is-hexed) (c.numbers-numbers.ensures.tape_after ∙ ap (λ (w : List ℕ). over (numbers_of w) tape) is-fifth) refl
+    (no_tape words text tape spare c.in-Some.q (sym c.front.ensures ∙ c.in-Some.is) _
+    (said (λ (w : List ℕ). hex_in w (length text)) _ hexed _ _ c.bytes.ensures.value is-hexed c.in-Some-bytes.is)
+    (said (λ (w : List ℕ). numbers_in w (length tape)) _ fifth _ _ c.numbers.ensures.value is-fifth c.in_default-numbers.is)) c.bad-in_default-numbers.ensures (c.bytes.ensures.buf_after ∙ ap (λ (w : List ℕ). over (pairs w) text) is-hexed) (c.numbers.ensures.tape_after ∙ ap (λ (w : List ℕ). over (numbers_of w) tape) is-fifth) refl
 
 pub returns : goal.returns
 returns c =
@@ -70,14 +70,14 @@ returns c =
     let is-hexed : ◌≡◌ {A = List ℕ} _ hexed = c.word.ensures ∙ ap first_word is-fourth in
     let fifth : List ℕ = behind_word fourth in
     let is-fifth : ◌≡◌ {A = List ℕ} _ fifth = c.behind-3.ensures ∙ ap behind_word is-fourth in
-    let h = said (λ (w : List ℕ). hex_in w (length text)) _ hexed _ _ c.bytes-bytes.ensures.value is-hexed c.in-Bytes.is in
-    let left = c.bytes-bytes.ensures.buf_after ∙ ap (λ (w : List ℕ). over (pairs w) text) is-hexed in
-    let k = said (λ (w : List ℕ). numbers_in w (length tape)) _ fifth _ _ c.numbers-numbers.ensures.value is-fifth c.in-Stored.is in
-    let stored = c.numbers-numbers.ensures.tape_after ∙ ap (λ (w : List ℕ). over (numbers_of w) tape) is-fifth in
+    let h = said (λ (w : List ℕ). hex_in w (length text)) _ hexed _ _ c.bytes.ensures.value is-hexed c.in-Some-bytes.is in
+    let left = c.bytes.ensures.buf_after ∙ ap (λ (w : List ℕ). over (pairs w) text) is-hexed in
+    let k = said (λ (w : List ℕ). numbers_in w (length tape)) _ fifth _ _ c.numbers.ensures.value is-fifth c.in-Some-numbers.is in
+    let stored = c.numbers.ensures.tape_after ∙ ap (λ (w : List ℕ). over (numbers_of w) tape) is-fifth in
     let part = part_said hexed text _ _ _ h left c.part.ensures in
     let numbers = tape_said fifth tape _ _ _ k stored c.first.ensures in
-    let both = said_same c.in-Asks.q spare _ (pairs hexed) _ (numbers_of fifth) _ out _ part numbers c.answer.ensures in
-    let own : List ℕ × List ℕ = contents_in (pairs hexed) (numbers_of fifth) c.in-Asks.q spare in
+    let both = said_same c.in-Some.q spare _ (pairs hexed) _ (numbers_of fifth) _ out _ part numbers c.answer.ensures in
+    let own : List ℕ × List ℕ = contents_in (pairs hexed) (numbers_of fifth) c.in-Some.q spare in
     line4 out _ own.0 _ _ _ (over (pairs hexed) text) (over (numbers_of fifth) tape) own.1 (any_line words text tape spare)
-    (tape_line words text tape spare c.in-Asks.q (sym c.front-asked.ensures ∙ c.in-Asks.is) _ h _ k)
+    (tape_line words text tape spare c.in-Some.q (sym c.front.ensures ∙ c.in-Some.is) _ h _ k)
     both.0 left stored both.1

@@ -20,19 +20,19 @@ returns-in_default c =
     let words : List ℕ = c.args.words.now in
     let text : List ℕ = c.args.text.now in
     let out : List ℕ × ℕ = (c.args.o.now, c.args.at) in
-    line2 out _ bad_text _ text (integer_line words text) (integer_bad words text (sym c.front-read.ensures ∙ c.in_default.is)) c.bad.ensures refl
+    line2 out _ bad_text _ text (integer_line words text) (integer_bad words text (sym c.front.ensures ∙ c.in_default.is)) c.bad.ensures refl
 
-pub returns-in_default-last : goal.returns-in_default-last
-returns-in_default-last c =
+pub returns-in_default-bytes : goal.returns-in_default-bytes
+returns-in_default-bytes c =
     let words : List ℕ = c.args.words.now in
     let text : List ℕ = c.args.text.now in
     let out : List ℕ × ℕ = (c.args.o.now, c.args.at) in
     let last : List ℕ = behind_word (behind_word words) in
     let is_last : ◌≡◌ {A = List ℕ} _ last = c.behind-2.ensures ∙ ap behind_word c.behind.ensures in
-    line_bad out _ (integer_line words text) _ typed_text (λ s. integer_of s c.in-At.place c.in-At.width) last text
-    (integer_at words text c.in-At.width c.in-At.place (sym c.front-read.ensures ∙ c.in-At.is))
-    (c.bytes-last.ensures.buf_after ∙ ap (λ (w : List ℕ). over (pairs w) text) is_last)
-    (said (λ (w : List ℕ). hex_in w (length text)) _ last _ _ c.bytes-last.ensures.value is_last c.in_default-last.is) c.bad-in_default-last.ensures
+    line_bad out _ (integer_line words text) _ typed_text (λ s. integer_of s c.in-Some.asked.place c.in-Some.asked.width) last text
+    (integer_at words text c.in-Some.asked (sym c.front.ensures ∙ c.in-Some.is))
+    (c.bytes.ensures.buf_after ∙ ap (λ (w : List ℕ). over (pairs w) text) is_last)
+    (said (λ (w : List ℕ). hex_in w (length text)) _ last _ _ c.bytes.ensures.value is_last c.in_default-bytes.is) c.bad-in_default-bytes.ensures
 
 pub returns : goal.returns
 returns c =
@@ -41,7 +41,7 @@ returns c =
     let out : List ℕ × ℕ = (c.args.o.now, c.args.at) in
     let last : List ℕ = behind_word (behind_word words) in
     let is_last : ◌≡◌ {A = List ℕ} _ last = c.behind-2.ensures ∙ ap behind_word c.behind.ensures in
-    line_good out _ (integer_line words text) _ typed_text (λ s. integer_of s c.in-At.place c.in-At.width) last text
-    (integer_at words text c.in-At.width c.in-At.place (sym c.front-read.ensures ∙ c.in-At.is))
-    (c.bytes-last.ensures.buf_after ∙ ap (λ (w : List ℕ). over (pairs w) text) is_last)
-    _ _ _ (said (λ (w : List ℕ). hex_in w (length text)) _ last _ _ c.bytes-last.ensures.value is_last c.in-Bytes.is) c.part.ensures c.integer-value.ensures c.read.ensures
+    line_good out _ (integer_line words text) _ typed_text (λ s. integer_of s c.in-Some.asked.place c.in-Some.asked.width) last text
+    (integer_at words text c.in-Some.asked (sym c.front.ensures ∙ c.in-Some.is))
+    (c.bytes.ensures.buf_after ∙ ap (λ (w : List ℕ). over (pairs w) text) is_last)
+    _ _ _ (said (λ (w : List ℕ). hex_in w (length text)) _ last _ _ c.bytes.ensures.value is_last c.in-Some-bytes.is) c.part.ensures c.integer-value.ensures c.read.ensures

@@ -7,25 +7,25 @@ use Rattle.words.proofs.DecidedLaws.{said}
 use Rattle.cases.proofs.IntegerLaws.{no_width, no_place, width_at}
 use Rattle.cases.proofs.i.front.Goals as goal
 
-pub returns-in_default : goal.returns-in_default
-returns-in_default c =
+pub returns-in_err-n : goal.returns-in_err-n
+returns-in_err-n c =
     let words : List ℕ = c.args.words.now in
-    no_width words (said decimal_of _ (first_word words) _ _ c.decimal_of-first.ensures c.word.ensures c.in_default.is)
+    c.from_residual.ensures ∙ no_width words (said decimal_of _ (first_word words) _ _ c.decimal_of.ensures c.word.ensures c.in_err-n.was)
 
-pub returns-in_default-second : goal.returns-in_default-second
-returns-in_default-second c =
+pub returns-in_err-place : goal.returns-in_err-place
+returns-in_err-place c =
     let words : List ℕ = c.args.words.now in
-    no_place words _ (said decimal_of _ (first_word words) _ _ c.decimal_of-first.ensures c.word.ensures c.in-Value.is)
-    (said decimal_of _ (first_word (behind_word words)) _ _ c.decimal_of-second.ensures (c.word-2.ensures ∙ ap first_word c.behind.ensures) c.in_default-second.is)
+    c.from_residual-in_err-place.ensures ∙ no_place words _ (said decimal_of _ (first_word words) _ _ c.decimal_of.ensures c.word.ensures c.in_ok-n.was)
+    (said decimal_of _ (first_word (behind_word words)) _ _ c.decimal_of-2.ensures (c.word-2.ensures ∙ ap first_word c.behind.ensures) c.in_err-place.was)
 
-pub returns-in_default-width : goal.returns-in_default-width
-returns-in_default-width c =
+pub returns-in_err-width : goal.returns-in_err-width
+returns-in_err-width c =
     let words : List ℕ = c.args.words.now in
-    width_at words _ (said decimal_of _ (first_word words) _ _ c.decimal_of-first.ensures c.word.ensures c.in-Value.is) _ _
-    (said decimal_of _ (first_word (behind_word words)) _ _ c.decimal_of-second.ensures (c.word-2.ensures ∙ ap first_word c.behind.ensures) c.in-Value-second.is) (sym c.width_of-width.ensures ∙ c.in_default-width.is)
+    c.from_residual-in_err-width.ensures ∙ width_at words _ (said decimal_of _ (first_word words) _ _ c.decimal_of.ensures c.word.ensures c.in_ok-n.was) _ _
+    (said decimal_of _ (first_word (behind_word words)) _ _ c.decimal_of-2.ensures (c.word-2.ensures ∙ ap first_word c.behind.ensures) c.in_ok-place.was) (sym c.width_of.ensures ∙ c.in_err-width.was)
 
 pub returns : goal.returns
 returns c =
     let words : List ℕ = c.args.words.now in
-    width_at words _ (said decimal_of _ (first_word words) _ _ c.decimal_of-first.ensures c.word.ensures c.in-Value.is) _ _
-    (said decimal_of _ (first_word (behind_word words)) _ _ c.decimal_of-second.ensures (c.word-2.ensures ∙ ap first_word c.behind.ensures) c.in-Value-second.is) (sym c.width_of-width.ensures ∙ c.in-Of.is)
+    width_at words _ (said decimal_of _ (first_word words) _ _ c.decimal_of.ensures c.word.ensures c.in_ok-n.was) _ _
+    (said decimal_of _ (first_word (behind_word words)) _ _ c.decimal_of-2.ensures (c.word-2.ensures ∙ ap first_word c.behind.ensures) c.in_ok-place.was) (sym c.width_of.ensures ∙ c.in_ok-width.was)

@@ -7,27 +7,27 @@ use Rattle.words.proofs.DecidedLaws.{said}
 use Rattle.cases.proofs.KindLaws.{no_newtype, no_tuple, no_place, modes_at}
 use Rattle.cases.proofs.k.front.Goals as goal
 
-pub returns-in_default : goal.returns-in_default
-returns-in_default c =
+pub returns-in_err-newtype : goal.returns-in_err-newtype
+returns-in_err-newtype c =
     let words : List ℕ = c.args.words.now in
-    no_newtype words (said decimal_of _ (first_word words) _ _ c.decimal_of-first.ensures c.word.ensures c.in_default.is)
+    c.from_residual.ensures ∙ no_newtype words (said decimal_of _ (first_word words) _ _ c.decimal_of.ensures c.word.ensures c.in_err-newtype.was)
 
-pub returns-in_default-second : goal.returns-in_default-second
-returns-in_default-second c =
+pub returns-in_err-tuple : goal.returns-in_err-tuple
+returns-in_err-tuple c =
     let words : List ℕ = c.args.words.now in
-    no_tuple words _ (said decimal_of _ (first_word words) _ _ c.decimal_of-first.ensures c.word.ensures c.in-Value.is)
-    (said decimal_of _ (first_word (behind_word words)) _ _ c.decimal_of-second.ensures (c.word-2.ensures ∙ ap first_word c.behind-words.ensures) c.in_default-second.is)
+    c.from_residual-in_err-tuple.ensures ∙ no_tuple words _ (said decimal_of _ (first_word words) _ _ c.decimal_of.ensures c.word.ensures c.in_ok-newtype.was)
+    (said decimal_of _ (first_word (behind_word words)) _ _ c.decimal_of-2.ensures (c.word-2.ensures ∙ ap first_word c.behind-words.ensures) c.in_err-tuple.was)
 
-pub returns-in_default-third : goal.returns-in_default-third
-returns-in_default-third c =
+pub returns-in_err-place : goal.returns-in_err-place
+returns-in_err-place c =
     let words : List ℕ = c.args.words.now in
-    no_place words _ _ (said decimal_of _ (first_word words) _ _ c.decimal_of-first.ensures c.word.ensures c.in-Value.is)
-    (said decimal_of _ (first_word (behind_word words)) _ _ c.decimal_of-second.ensures (c.word-2.ensures ∙ ap first_word c.behind-words.ensures) c.in-Value-second.is)
-    (said decimal_of _ (first_word (behind_word (behind_word words))) _ _ c.decimal_of-third.ensures (c.word-3.ensures ∙ ap first_word (c.behind.ensures ∙ ap behind_word c.behind-words.ensures)) c.in_default-third.is)
+    c.from_residual-in_err-place.ensures ∙ no_place words _ _ (said decimal_of _ (first_word words) _ _ c.decimal_of.ensures c.word.ensures c.in_ok-newtype.was)
+    (said decimal_of _ (first_word (behind_word words)) _ _ c.decimal_of-2.ensures (c.word-2.ensures ∙ ap first_word c.behind-words.ensures) c.in_ok-tuple.was)
+    (said decimal_of _ (first_word (behind_word (behind_word words))) _ _ c.decimal_of-3.ensures (c.word-3.ensures ∙ ap first_word (c.behind.ensures ∙ ap behind_word c.behind-words.ensures)) c.in_err-place.was)
 
 pub returns : goal.returns
 returns c =
     let words : List ℕ = c.args.words.now in
-    c.modes_of.ensures ∙ modes_at words _ _ _ (said decimal_of _ (first_word words) _ _ c.decimal_of-first.ensures c.word.ensures c.in-Value.is)
-    (said decimal_of _ (first_word (behind_word words)) _ _ c.decimal_of-second.ensures (c.word-2.ensures ∙ ap first_word c.behind-words.ensures) c.in-Value-second.is)
-    (said decimal_of _ (first_word (behind_word (behind_word words))) _ _ c.decimal_of-third.ensures (c.word-3.ensures ∙ ap first_word (c.behind.ensures ∙ ap behind_word c.behind-words.ensures)) c.in-Value-third.is)
+    c.modes_of.ensures ∙ modes_at words _ _ _ (said decimal_of _ (first_word words) _ _ c.decimal_of.ensures c.word.ensures c.in_ok-newtype.was)
+    (said decimal_of _ (first_word (behind_word words)) _ _ c.decimal_of-2.ensures (c.word-2.ensures ∙ ap first_word c.behind-words.ensures) c.in_ok-tuple.was)
+    (said decimal_of _ (first_word (behind_word (behind_word words))) _ _ c.decimal_of-3.ensures (c.word-3.ensures ∙ ap first_word (c.behind.ensures ∙ ap behind_word c.behind-words.ensures)) c.in_ok-place.was)

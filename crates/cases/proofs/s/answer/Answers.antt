@@ -23,43 +23,43 @@ returns-in_default c =
     let text : List ℕ = c.args.text.now in
     let out : List ℕ × ℕ = (c.args.o.now, c.args.at) in
     line2 out _ bad_text _ text (skip_line words text)
-    (no_cursor words text (said decimal_of _ (first_word words) _ _ c.decimal_of-first.ensures c.word.ensures c.in_default.is))
+    (no_cursor words text (said decimal_of _ (first_word words) _ _ c.decimal_of.ensures c.word.ensures c.in_default.is))
     c.bad.ensures refl
 
-pub returns-in_default-second : goal.returns-in_default-second
-returns-in_default-second c =
+pub returns-in_default-decimal_of : goal.returns-in_default-decimal_of
+returns-in_default-decimal_of c =
     let words : List ℕ = c.args.words.now in
     let text : List ℕ = c.args.text.now in
     let out : List ℕ × ℕ = (c.args.o.now, c.args.at) in
     line2 out _ bad_text _ text (skip_line words text)
-    (no_pre words text _ (said decimal_of _ (first_word words) _ _ c.decimal_of-first.ensures c.word.ensures c.in-Value.is)
-    (said decimal_of _ (first_word (behind_word words)) _ _ c.decimal_of-second.ensures (c.word-2.ensures ∙ ap first_word c.behind-words.ensures) c.in_default-second.is))
-    c.bad-in_default-second.ensures refl
+    (no_pre words text _ (said decimal_of _ (first_word words) _ _ c.decimal_of.ensures c.word.ensures c.in-Some.is)
+    (said decimal_of _ (first_word (behind_word words)) _ _ c.decimal_of-2.ensures (c.word-2.ensures ∙ ap first_word c.behind-words.ensures) c.in_default-decimal_of.is))
+    c.bad-in_default-decimal_of.ensures refl
 
-pub returns-in_default-third : goal.returns-in_default-third
-returns-in_default-third c =
+pub returns-in_default-length_of : goal.returns-in_default-length_of
+returns-in_default-length_of c =
     let words : List ℕ = c.args.words.now in
     let text : List ℕ = c.args.text.now in
     let out : List ℕ × ℕ = (c.args.o.now, c.args.at) in
     line2 out _ bad_text _ text (skip_line words text)
-    (no_length words text _ _ (said decimal_of _ (first_word words) _ _ c.decimal_of-first.ensures c.word.ensures c.in-Value.is)
-    (said decimal_of _ (first_word (behind_word words)) _ _ c.decimal_of-second.ensures (c.word-2.ensures ∙ ap first_word c.behind-words.ensures) c.in-Value-second.is)
-    (said length_of _ (first_word (behind_word (behind_word words))) _ _ c.length_of-third.ensures (c.word-3.ensures ∙ ap first_word (c.behind-words-2.ensures ∙ ap behind_word c.behind-words.ensures)) c.in_default-third.is))
-    c.bad-in_default-third.ensures refl
+    (no_length words text _ _ (said decimal_of _ (first_word words) _ _ c.decimal_of.ensures c.word.ensures c.in-Some.is)
+    (said decimal_of _ (first_word (behind_word words)) _ _ c.decimal_of-2.ensures (c.word-2.ensures ∙ ap first_word c.behind-words.ensures) c.in-Some-decimal_of.is)
+    (said length_of _ (first_word (behind_word (behind_word words))) _ _ c.length_of.ensures (c.word-3.ensures ∙ ap first_word (c.behind-words-2.ensures ∙ ap behind_word c.behind-words.ensures)) c.in_default-length_of.is))
+    c.bad-in_default-length_of.ensures refl
 
-pub returns-in_default-last : goal.returns-in_default-last
-returns-in_default-last c =
+pub returns-in_default-bytes : goal.returns-in_default-bytes
+returns-in_default-bytes c =
     let words : List ℕ = c.args.words.now in
     let text : List ℕ = c.args.text.now in
     let out : List ℕ × ℕ = (c.args.o.now, c.args.at) in
     let last : List ℕ = behind_word (behind_word (behind_word words)) in
     let is_last : ◌≡◌ {A = List ℕ} _ last = c.behind.ensures ∙ ap behind_word (c.behind-words-2.ensures ∙ ap behind_word c.behind-words.ensures) in
-    line_bad out _ (skip_line words text) _ moved_text (λ s. skip_of s (cursor c.in-Value.cursor c.in-Value-second.pre c.in-Value-third.len)) last text
-    (skip_at words text c.in-Value.cursor c.in-Value-second.pre c.in-Value-third.len (said decimal_of _ (first_word words) _ _ c.decimal_of-first.ensures c.word.ensures c.in-Value.is)
-    (said decimal_of _ (first_word (behind_word words)) _ _ c.decimal_of-second.ensures (c.word-2.ensures ∙ ap first_word c.behind-words.ensures) c.in-Value-second.is)
-    (said length_of _ (first_word (behind_word (behind_word words))) _ _ c.length_of-third.ensures (c.word-3.ensures ∙ ap first_word (c.behind-words-2.ensures ∙ ap behind_word c.behind-words.ensures)) c.in-Value-third.is))
-    (c.bytes-last.ensures.buf_after ∙ ap (λ (w : List ℕ). over (pairs w) text) is_last)
-    (said (λ (w : List ℕ). hex_in w (length text)) _ last _ _ c.bytes-last.ensures.value is_last c.in_default-last.is) c.bad-in_default-last.ensures
+    line_bad out _ (skip_line words text) _ moved_text (λ s. skip_of s (cursor c.in-Some.cursor c.in-Some-decimal_of.pre c.in-Some-length_of.len)) last text
+    (skip_at words text c.in-Some.cursor c.in-Some-decimal_of.pre c.in-Some-length_of.len (said decimal_of _ (first_word words) _ _ c.decimal_of.ensures c.word.ensures c.in-Some.is)
+    (said decimal_of _ (first_word (behind_word words)) _ _ c.decimal_of-2.ensures (c.word-2.ensures ∙ ap first_word c.behind-words.ensures) c.in-Some-decimal_of.is)
+    (said length_of _ (first_word (behind_word (behind_word words))) _ _ c.length_of.ensures (c.word-3.ensures ∙ ap first_word (c.behind-words-2.ensures ∙ ap behind_word c.behind-words.ensures)) c.in-Some-length_of.is))
+    (c.bytes.ensures.buf_after ∙ ap (λ (w : List ℕ). over (pairs w) text) is_last)
+    (said (λ (w : List ℕ). hex_in w (length text)) _ last _ _ c.bytes.ensures.value is_last c.in_default-bytes.is) c.bad-in_default-bytes.ensures
 
 pub returns : goal.returns
 returns c =
@@ -68,9 +68,9 @@ returns c =
     let out : List ℕ × ℕ = (c.args.o.now, c.args.at) in
     let last : List ℕ = behind_word (behind_word (behind_word words)) in
     let is_last : ◌≡◌ {A = List ℕ} _ last = c.behind.ensures ∙ ap behind_word (c.behind-words-2.ensures ∙ ap behind_word c.behind-words.ensures) in
-    line_good out _ (skip_line words text) _ moved_text (λ s. skip_of s (cursor c.in-Value.cursor c.in-Value-second.pre c.in-Value-third.len)) last text
-    (skip_at words text c.in-Value.cursor c.in-Value-second.pre c.in-Value-third.len (said decimal_of _ (first_word words) _ _ c.decimal_of-first.ensures c.word.ensures c.in-Value.is)
-    (said decimal_of _ (first_word (behind_word words)) _ _ c.decimal_of-second.ensures (c.word-2.ensures ∙ ap first_word c.behind-words.ensures) c.in-Value-second.is)
-    (said length_of _ (first_word (behind_word (behind_word words))) _ _ c.length_of-third.ensures (c.word-3.ensures ∙ ap first_word (c.behind-words-2.ensures ∙ ap behind_word c.behind-words.ensures)) c.in-Value-third.is))
-    (c.bytes-last.ensures.buf_after ∙ ap (λ (w : List ℕ). over (pairs w) text) is_last)
-    _ _ _ (said (λ (w : List ℕ). hex_in w (length text)) _ last _ _ c.bytes-last.ensures.value is_last c.in-Bytes.is) c.part.ensures c.skip-skipped.ensures c.skipped.ensures
+    line_good out _ (skip_line words text) _ moved_text (λ s. skip_of s (cursor c.in-Some.cursor c.in-Some-decimal_of.pre c.in-Some-length_of.len)) last text
+    (skip_at words text c.in-Some.cursor c.in-Some-decimal_of.pre c.in-Some-length_of.len (said decimal_of _ (first_word words) _ _ c.decimal_of.ensures c.word.ensures c.in-Some.is)
+    (said decimal_of _ (first_word (behind_word words)) _ _ c.decimal_of-2.ensures (c.word-2.ensures ∙ ap first_word c.behind-words.ensures) c.in-Some-decimal_of.is)
+    (said length_of _ (first_word (behind_word (behind_word words))) _ _ c.length_of.ensures (c.word-3.ensures ∙ ap first_word (c.behind-words-2.ensures ∙ ap behind_word c.behind-words.ensures)) c.in-Some-length_of.is))
+    (c.bytes.ensures.buf_after ∙ ap (λ (w : List ℕ). over (pairs w) text) is_last)
+    _ _ _ (said (λ (w : List ℕ). hex_in w (length text)) _ last _ _ c.bytes.ensures.value is_last c.in-Some-bytes.is) c.part.ensures c.skip-skipped.ensures c.skipped.ensures

@@ -4,7 +4,6 @@ use borrow.Author.Rules.{rules}
 use borrow.Author.Tests.{eq-eqb, ne_eqb}
 use Rattle.cursor.proofs.CharLaws.{begins_end, begins_here}
 use Rattle.cursor.specs.inner.Chars.{consumed_of}
-use Rattle.cursor.specs.Cursor.{cursor}
 use Rattle.cursor.specs.declared.ParserCursor.{ParserCursor}
 use Rattle.cursor.proofs.ParserCursor.consume_char.Goals as goal
 

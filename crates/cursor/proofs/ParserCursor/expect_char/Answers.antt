@@ -1,6 +1,5 @@
 use Rattle.std.proofs.Common.{Ok}
 use mathlib.Core.Path.{◌∙◌, ap, sym}
-use borrow.Author.Rules.{rules}
 use Rattle.cursor.proofs.CharLaws.{lost_kept, found_taken}
 use Rattle.cursor.specs.declared.chars.Consumed.{Consumed}
 use Rattle.cursor.proofs.ParserCursor.expect_char.Goals as goal

@@ -1,12 +1,9 @@
-use Prim.Native.Nat.{◌+◌, ◌≤◌, ℕ}
+use Prim.Native.Nat.{◌+◌, ◌≤◌}
 use native.Mathlib.Omega.{arith}
-use mathlib.Core.List.{List}
 use mathlib.Core.Path.{◌∙◌, ◌≡◌, ap, sym}
 use lib.ListN.{drop, length}
-use borrow.Author.Rules.{rules}
 use Rattle.cursor.proofs.EscapePlaces.{escape_end, escape_within, reach}
 use Rattle.cursor.specs.inner.Escape.{behind_escape, escaped_of}
-use Rattle.cursor.specs.declared.ParserCursor.{ParserCursor}
 use Rattle.cursor.specs.declared.escape.Escaped.TheVariants as escaped
 use Rattle.escapes.specs.Escapes.{escape_of}
 use Rattle.escapes.specs.declared.answers.EscapeAnswer.{EscapeAnswer}

@@ -1,6 +1,5 @@
 use native.Mathlib.Omega.{arith}
 use mathlib.Core.Path.{sym}
-use borrow.Author.Rules.{rules}
 use Rattle.cursor.proofs.SkipLaws.{pre_apart, pre_joined, pre_mark}
 use Rattle.cursor.proofs.ParserCursor.pre_ws.Goals as goal
 

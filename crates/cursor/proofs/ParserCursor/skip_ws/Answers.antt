@@ -1,10 +1,8 @@
 use Rattle.std.proofs.Common.{Ok, Err}
 use Prim.Native.Nat.{◌+◌, ◌-◌, ℕ}
 use native.Mathlib.Omega.{arith}
-use mathlib.Core.List.{List}
 use mathlib.Core.Path.{◌∙◌, ◌≡◌, ap, subst, sym}
 use lib.ListN.{drop, length, length-drop}
-use borrow.Author.Rules.{rules}
 use Rattle.comments.proofs.GapLaws.{EndsBy, gap_bounded}
 use Rattle.comments.specs.Gaps.{gap_of}
 use Rattle.comments.specs.declared.gap.Gap.{Gap}
@@ -12,7 +10,6 @@ use Rattle.comments.specs.declared.gap.Gap.TheVariants.{Clear, InLine, Refused a
 use Rattle.cursor.proofs.SkipLaws.{skip_at_end, skip_runs}
 use Rattle.cursor.specs.Cursor.{cursor}
 use Rattle.cursor.specs.Skip.{cursor_behind, pre_of, skip_ws_of}
-use Rattle.cursor.specs.declared.ParserCursor.{ParserCursor}
 use Rattle.text.proofs.Lists.{tail_part}
 use Rattle.cursor.proofs.ParserCursor.skip_ws.Goals as goal
 

@@ -17,15 +17,15 @@ returns-in_default c =
     let numbers : List ℕ = c.args.numbers.now in
     let spare : List ℕ = c.args.spare.now in
     let out : List ℕ × ℕ = (c.args.o.now, c.args.at) in
-    let z = over_no_text c.args.q items words text tape numbers spare out _ _ (c.bytes-bytes.ensures.buf_after ∙ ap (λ (w : List ℕ). over (pairs w) text) c.word.ensures)
-    (sym (c.bytes-bytes.ensures.value ∙ ap (λ (w : List ℕ). hex_in w (length text)) c.word.ensures) ∙ c.in_default.is) c.bad.ensures in
+    let z = over_no_text c.args.q items words text tape numbers spare out _ _ (c.bytes.ensures.buf_after ∙ ap (λ (w : List ℕ). over (pairs w) text) c.word.ensures)
+    (sym (c.bytes.ensures.value ∙ ap (λ (w : List ℕ). hex_in w (length text)) c.word.ensures) ∙ c.in_default.is) c.bad.ensures in
     record {
       result_after = z.0;
       spare_after = z.1;
     }
 
-pub returns-in_default-last : goal.returns-in_default-last
-returns-in_default-last c =
+pub returns-in_default-numbers : goal.returns-in_default-numbers
+returns-in_default-numbers c =
     let items : List ℕ = c.args.items.now in
     let words : List ℕ = c.args.words.now in
     let text : List ℕ = c.args.text.now in
@@ -33,10 +33,10 @@ returns-in_default-last c =
     let numbers : List ℕ = c.args.numbers.now in
     let spare : List ℕ = c.args.spare.now in
     let out : List ℕ × ℕ = (c.args.o.now, c.args.at) in
-    let z = over_no_tape c.args.q items words text tape numbers spare out _ _ (c.bytes-bytes.ensures.buf_after ∙ ap (λ (w : List ℕ). over (pairs w) text) c.word.ensures)
-    c.in-Bytes.n (sym (c.bytes-bytes.ensures.value ∙ ap (λ (w : List ℕ). hex_in w (length text)) c.word.ensures) ∙ c.in-Bytes.is)
-    _ (c.numbers-last.ensures.tape_after ∙ ap (λ (w : List ℕ). over (numbers_of w) tape) c.behind.ensures)
-    (sym (c.numbers-last.ensures.value ∙ ap (λ (w : List ℕ). numbers_in w (length tape)) c.behind.ensures) ∙ c.in_default-last.is) c.bad-in_default-last.ensures in
+    let z = over_no_tape c.args.q items words text tape numbers spare out _ _ (c.bytes.ensures.buf_after ∙ ap (λ (w : List ℕ). over (pairs w) text) c.word.ensures)
+    c.in-Some.n (sym (c.bytes.ensures.value ∙ ap (λ (w : List ℕ). hex_in w (length text)) c.word.ensures) ∙ c.in-Some.is)
+    _ (c.numbers.ensures.tape_after ∙ ap (λ (w : List ℕ). over (numbers_of w) tape) c.behind.ensures)
+    (sym (c.numbers.ensures.value ∙ ap (λ (w : List ℕ). numbers_in w (length tape)) c.behind.ensures) ∙ c.in_default-numbers.is) c.bad-in_default-numbers.ensures in
     record {
       result_after = z.0;
       spare_after = z.1;
@@ -51,10 +51,10 @@ returns c =
     let numbers : List ℕ = c.args.numbers.now in
     let spare : List ℕ = c.args.spare.now in
     let out : List ℕ × ℕ = (c.args.o.now, c.args.at) in
-    let z = over_goes c.args.q items words text tape numbers spare out _ _ (c.bytes-bytes.ensures.buf_after ∙ ap (λ (w : List ℕ). over (pairs w) text) c.word.ensures)
-    c.in-Bytes.n (sym (c.bytes-bytes.ensures.value ∙ ap (λ (w : List ℕ). hex_in w (length text)) c.word.ensures) ∙ c.in-Bytes.is)
-    _ (c.numbers-last.ensures.tape_after ∙ ap (λ (w : List ℕ). over (numbers_of w) tape) c.behind.ensures)
-    c.in-Stored.m (sym (c.numbers-last.ensures.value ∙ ap (λ (w : List ℕ). numbers_in w (length tape)) c.behind.ensures) ∙ c.in-Stored.is)
+    let z = over_goes c.args.q items words text tape numbers spare out _ _ (c.bytes.ensures.buf_after ∙ ap (λ (w : List ℕ). over (pairs w) text) c.word.ensures)
+    c.in-Some.n (sym (c.bytes.ensures.value ∙ ap (λ (w : List ℕ). hex_in w (length text)) c.word.ensures) ∙ c.in-Some.is)
+    _ (c.numbers.ensures.tape_after ∙ ap (λ (w : List ℕ). over (numbers_of w) tape) c.behind.ensures)
+    c.in-Some-numbers.m (sym (c.numbers.ensures.value ∙ ap (λ (w : List ℕ). numbers_in w (length tape)) c.behind.ensures) ∙ c.in-Some-numbers.is)
     _ _ c.part-s.ensures c.first-t.ensures _ _ c.answer.ensures.result_after c.answer.ensures.spare_after in
     record {
       result_after = z.0;

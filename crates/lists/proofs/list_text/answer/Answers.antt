@@ -13,7 +13,7 @@ returns-in_default c =
     let numbers : List ℕ = c.args.numbers.now in
     let spare : List ℕ = c.args.spare.now in
     let out : List ℕ × ℕ = (c.args.o.now, c.args.at) in
-    let z = list_bad words text tape links numbers spare _ c.bytes-bytes.ensures.buf_after out _ (sym c.bytes-bytes.ensures.value ∙ c.in_default.is) c.bad.ensures in
+    let z = list_bad words text tape links numbers spare _ c.bytes.ensures.buf_after out _ (sym c.bytes.ensures.value ∙ c.in_default.is) c.bad.ensures in
     record {
       result_after = z.0;
       spare_after = z.1;
@@ -28,7 +28,7 @@ returns c =
     let numbers : List ℕ = c.args.numbers.now in
     let spare : List ℕ = c.args.spare.now in
     let out : List ℕ × ℕ = (c.args.o.now, c.args.at) in
-    let z = list_goes words text tape links numbers spare _ c.bytes-bytes.ensures.buf_after out _ c.in-Bytes.n (sym c.bytes-bytes.ensures.value ∙ c.in-Bytes.is)
+    let z = list_goes words text tape links numbers spare _ c.bytes.ensures.buf_after out _ c.in-Some.n (sym c.bytes.ensures.value ∙ c.in-Some.is)
     _ c.part.ensures _ _ _ _ (c.read.ensures.result_after, (c.read.ensures.tape_after, c.read.ensures.spare_after)) in
     record {
       result_after = z.0;

@@ -1,5 +1,4 @@
 use native.Mathlib.Omega.{arith}
-use borrow.Author.Rules.{rules}
 use Rattle.repair.proofs.Checks.{cut_bad1, cut_bad2, cut_last}
 use Rattle.repair.proofs.check.cut_fits.Goals as goal
 

@@ -1,7 +1,5 @@
 use native.Mathlib.Omega.{arith}
 use mathlib.Core.Path.{◌∙◌, sym}
-use borrow.Author.Rules.{rules}
-use borrow.Author.Tests.{not-false, not-true}
 use Rattle.repair.proofs.Checks.{fits_bad1, fits_bad2, fits_last}
 use Rattle.repair.proofs.check.repair_fits.Goals as goal
 
@@ -10,9 +8,6 @@ returns-then-not-cut_fits c = fits_bad1 c.args.tape.now c.args.count c.args.old_
 
 pub returns-then-room-count : goal.returns-then-room-count
 returns-then-room-count c = fits_bad2 c.args.tape.now c.args.count c.args.old_len c.args.a c.args.b c.args.new_len (sym c.cut_fits.ensures ∙ c.if-not-cut_fits.false) (omega (arith, c.room.ensures, c.if-room-count.true))
-
-pub in_order-requires : goal.in_order-requires
-in_order-requires c = omega (arith, c.room.ensures, c.if-room-count.false)
 
 pub returns : goal.returns
 returns c = fits_last c.args.tape.now c.args.count c.args.old_len c.args.a c.args.b c.args.new_len (sym c.cut_fits.ensures ∙ c.if-not-cut_fits.false) (omega (arith, c.room.ensures, c.if-room-count.false)) _ c.in_order.ensures

@@ -1,14 +1,11 @@
 use Rattle.std.proofs.Common.{Ok, Err}
-use Prim.Native.Nat.{◌+◌, ◌-◌, ◌≤◌}
+use Prim.Native.Nat.{◌+◌}
 use native.Mathlib.Omega.{arith}
-use mathlib.Core.Path.{◌∙◌, ◌≡◌, ap, refl, sym}
-use lib.ListN.{length}
-use borrow.Author.Rules.{rules}
+use mathlib.Core.Path.{◌∙◌, ap, refl, sym}
 use Rattle.read.proofs.ReadSteps.{refuse_within, step_refuse, step_stop, step_token, step_within}
 use Rattle.reading.proofs.Steps.{from_end}
 use Rattle.reading.specs.Owed.{quiet_byte}
-use Rattle.reading.specs.Readings.{read_from}
-use Rattle.repair.proofs.Searching.{Standing, met_next, scan_at, scan_broken, scan_end, scan_on, stands}
+use Rattle.repair.proofs.Searching.{met_next, scan_at, scan_broken, scan_end, scan_on, stands}
 use Rattle.repair.specs.Repair.{scan_of}
 use Rattle.rows.proofs.RowLaws.{length_entries}
 use Rattle.rows.specs.Rows.{entries_of}
@@ -30,9 +27,6 @@ returns-in-At c = sym (ap (scan_of (entries_of c.args.count c.args.tape.now) c.a
 
 pub overflow_add-at : goal.overflow_add-at
 overflow_add-at c = let w = step_within c.args.text.now c.loop-at.at _ c.next_token-found.ensures _ _ c.in-Token.is in omega (arith, w.0, w.1, c.requires.0)
-
-pub overflow_add-n : goal.overflow_add-n
-overflow_add-n c = let w = step_within c.args.text.now c.loop-at.at _ c.next_token-found.ensures _ _ c.in-Token.is in omega (arith, w.0, w.1, c.requires.0, c.loop-at.invariant.1)
 
 pub loop-at-smaller : goal.loop-at-smaller
 loop-at-smaller c = let w = step_within c.args.text.now c.loop-at.at _ c.next_token-found.ensures _ _ c.in-Token.is in omega (arith, w.0, w.1)

@@ -1,17 +1,10 @@
-use Prim.Native.Nat.{◌+◌, ◌-◌, ◌≤◌}
-use native.Mathlib.Omega.{arith}
-use mathlib.Core.Path.{◌∙◌, ◌≡◌, ap, refl, sym}
+use Prim.Native.Nat.{◌-◌, ◌≤◌}
+use mathlib.Core.Path.{◌≡◌}
 use lib.ListN.{length}
-use borrow.Author.Rules.{rules}
-use Rattle.read.proofs.ReadSteps.{refuse_within, step_refuse, step_stop, step_token, step_within}
-use Rattle.reading.proofs.Steps.{from_end}
-use Rattle.reading.specs.Owed.{quiet_byte}
 use Rattle.reading.specs.Readings.{read_from}
-use Rattle.repair.proofs.Searching.{Standing, met_next, scan_at, scan_broken, scan_end, scan_on, stands}
+use Rattle.repair.proofs.Searching.{Standing}
 use Rattle.repair.specs.Repair.{scan_of}
-use Rattle.rows.proofs.RowLaws.{length_entries}
 use Rattle.rows.specs.Rows.{entries_of}
-use Rattle.tokens.proofs.RonLaws.{laws}
 use Rattle.tokens.specs.Ron.{ron_token}
 use Rattle.repair.proofs.join.find_join.Given as goal
 

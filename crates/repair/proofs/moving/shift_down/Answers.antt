@@ -1,9 +1,5 @@
-use Prim.Native.Nat.{◌≤◌}
 use native.Mathlib.Omega.{arith}
-use mathlib.Core.Path.{◌∙◌, ◌≡◌, refl}
-use lib.ListN.{length}
-use borrow.Author.Rules.{rules}
-use Rattle.repair.proofs.Laying.{Down, down_ends, down_goes, down_movable, down_starts}
+use Rattle.repair.proofs.Laying.{down_goes, down_movable, down_starts}
 use Rattle.repair.proofs.moving.shift_down.Goals as goal
 
 pub loop-k-init : goal.loop-k-init
@@ -14,6 +10,3 @@ shift_row-requires c = (omega (arith, c.requires.0, c.requires.1), omega (arith,
 
 pub loop-k-preserved : goal.loop-k-preserved
 loop-k-preserved c = down_goes c.args.b c.args.e c.args.m c.args.f c.args.g c.args.tape.now c.loop-k.k _ _ _ (omega arith) c.loop-k.auto.k c.requires.0 (omega (arith, c.requires.1)) c.loop-k.invariant c.shift_row.ensures
-
-pub returns : goal.returns
-returns c = down_ends c.args.b c.args.e c.args.m c.args.f c.args.g c.args.tape.now c.loop-k.k _ c.loop-k-test.false c.loop-k.invariant

@@ -1,9 +1,5 @@
-use Prim.Native.Nat.{◌-◌, ◌≤◌}
 use native.Mathlib.Omega.{arith}
-use mathlib.Core.Path.{◌∙◌, ◌≡◌, refl}
-use lib.ListN.{length}
-use borrow.Author.Rules.{rules}
-use Rattle.repair.proofs.Laying.{Up, up_ends, up_goes, up_movable, up_starts}
+use Rattle.repair.proofs.Laying.{up_goes, up_movable, up_starts}
 use Rattle.repair.proofs.moving.shift_up.Goals as goal
 
 pub loop-k-init : goal.loop-k-init
@@ -14,6 +10,3 @@ shift_row-requires c = (omega (arith, c.requires.1), omega (arith, c.requires.0,
 
 pub loop-k-preserved : goal.loop-k-preserved
 loop-k-preserved c = up_goes c.args.b c.args.e c.args.m c.args.f c.args.g c.args.tape.now c.loop-k.k _ _ c.requires.0 (omega (arith, c.requires.1)) c.loop-k.invariant c.shift_row.ensures
-
-pub returns : goal.returns
-returns c = up_ends c.args.b c.args.e c.args.m c.args.f c.args.g c.args.tape.now c.loop-k.k _ (omega arith) c.loop-k.invariant

@@ -1,5 +1,4 @@
 use native.Mathlib.Omega.{arith}
-use borrow.Author.Rules.{rules}
 use Rattle.repair.proofs.Staying.{stays}
 use Rattle.repair.proofs.moving.stay.Goals as goal
 

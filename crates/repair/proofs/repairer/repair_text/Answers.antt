@@ -2,8 +2,6 @@ use Rattle.std.proofs.Common.{Err}
 use native.Mathlib.Omega.{arith}
 use mathlib.Core.Path.{◌∙◌, ap, sym}
 use lib.ListN.{length}
-use borrow.Author.Rules.{rules}
-use borrow.Author.Tests.{not-false, not-true}
 use Rattle.repair.proofs.Checks.{fits_true}
 use Rattle.repair.proofs.Finding.{behind_movable, cut_inside, few_new, found_is, from_is, join_behind, join_le, kept_early, kept_is, kept_le, resume_inside}
 use Rattle.repair.proofs.Finishing.{out_done, out_refused, out_unfit}

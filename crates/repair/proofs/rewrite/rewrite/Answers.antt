@@ -12,23 +12,5 @@ use Rattle.rows.specs.Rows.{entries_of, laid, width}
 use Rattle.tokens.specs.Ron.{ron_token}
 use Rattle.repair.proofs.rewrite.rewrite.Goals as goal
 
-pub shift-requires : goal.shift-requires
-shift-requires c = (c.requires.4, c.requires.3, c.requires.5)
-
-pub fill-requires : goal.fill-requires
-fill-requires c = (c.requires.0, c.requires.1, omega (arith, c.shift.auto.tape, c.requires.3))
-
-pub overflow_add-rest : goal.overflow_add-rest
-overflow_add-rest c = omega (arith, c.requires.3)
-
-pub overflow_add-rest-2 : goal.overflow_add-rest-2
-overflow_add-rest-2 c = omega (arith, c.requires.4)
-
-pub clear-requires : goal.clear-requires
-clear-requires c = omega (arith, c.shift.auto.tape, c.fill.auto.tape, c.requires.4)
-
-pub shape_of-part : goal.shape_of-part
-shape_of-part c = omega (arith, c.clear.auto.tape, c.fill.auto.tape, c.shift.auto.tape)
-
 pub returns : goal.returns
 returns c = c.clear.ensures ∙ ap (emptied (c.args.rest.n + c.args.rest.m) (c.args.rest.f + c.args.rest.m)) (c.fill.ensures ∙ ap (laid (take c.args.rest.n (entries (read_from ron_token c.args.text.now c.args.rest.from)))) c.shift.ensures) ∙ part_is c.args.part.now (take c.args.rest.n (entries (read_from ron_token c.args.text.now c.args.rest.from))) (map (clipped_from c.args.rest.b c.args.rest.e) (entries_of c.args.rest.m (drop (width * c.args.rest.f) c.args.part.now))) c.args.rest.n c.args.rest.m (c.args.rest.f + c.args.rest.m) (length-take-le c.args.rest.n (entries (read_from ron_token c.args.text.now c.args.rest.from)) c.requires.2) (length-map (entries_of c.args.rest.m (drop (width * c.args.rest.f) c.args.part.now)) (clipped_from c.args.rest.b c.args.rest.e) ∙ length_entries c.args.rest.m (drop (width * c.args.rest.f) c.args.part.now)) (omega (arith, c.requires.3)) (omega (arith, c.requires.4))

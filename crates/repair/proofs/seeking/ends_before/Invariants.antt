@@ -1,10 +1,5 @@
 use Prim.Native.Nat.{◌-◌, ◌≤◌}
-use native.Mathlib.Omega.{arith}
-use borrow.Author.Rules.{rules}
-use Rattle.repair.proofs.Halving.{half_above, half_below}
-use Rattle.repair.proofs.Leading.{lead_le}
 use Rattle.repair.specs.Repair.{ends_before, leading}
-use Rattle.rows.proofs.RowLaws.{length_entries}
 use Rattle.rows.specs.Rows.{entries_of}
 use Rattle.repair.proofs.seeking.ends_before.Given as goal
 

@@ -1,27 +1,17 @@
 use native.Mathlib.Omega.{arith}
 use mathlib.Core.Path.{◌∙◌, ap, sym}
-use borrow.Author.Rules.{rules}
-use Rattle.repair.proofs.Searching.{meet_at, meet_early, meet_gapped, meet_none, meet_past, seek_is, seek_le}
+use Rattle.repair.proofs.Searching.{meet_at, meet_gapped, meet_none, meet_past, seek_is, seek_le}
 use Rattle.repair.specs.Repair.{no_entry}
 use Rattle.rows.proofs.RowLaws.{entries_at, length_entries}
 use Rattle.rows.specs.Rows.{entries_of}
 use Rattle.rows.specs.declared.Entry.{Entry}
 use Rattle.repair.proofs.seeking.meet.Goals as goal
 
-pub returns-then-start-e : goal.returns-then-start-e
-returns-then-start-e c = meet_early (entries_of c.args.count c.args.tape.now) c.args.b c.args.e c.args.i c.args.gap c.args.start c.if-start-e.true
-
-pub overflow_add-q : goal.overflow_add-q
-overflow_add-q c = omega (arith, c.requires.2)
-
 pub seek-k-requires : goal.seek-k-requires
 seek-k-requires c = (c.requires.0, omega (arith, c.requires.1 (omega (arith, c.if-start-e.false)), seek_le (entries_of c.args.count c.args.tape.now) c.args.b c.args.e c.args.start, length_entries c.args.count c.args.tape.now))
 
 pub returns-then-count-k : goal.returns-then-count-k
 returns-then-count-k c = meet_none (entries_of c.args.count c.args.tape.now) c.args.b c.args.e c.args.i c.args.gap c.args.start _ (omega (arith, c.if-start-e.false)) (c.seek-k.ensures ∙ seek_is (entries_of c.args.count c.args.tape.now) c.args.b c.args.e c.args.i c.args.start (omega (arith, c.if-start-e.false)) (c.requires.1 (omega (arith, c.if-start-e.false)))) (omega (arith, c.if-count-k.true, length_entries c.args.count c.args.tape.now))
-
-pub entry-old-requires : goal.entry-old-requires
-entry-old-requires c = omega (arith, c.requires.0, c.if-count-k.false)
 
 pub returns-then-wide-q : goal.returns-then-wide-q
 returns-then-wide-q c = meet_past (entries_of c.args.count c.args.tape.now) c.args.b c.args.e c.args.i c.args.gap c.args.start _ (omega (arith, c.if-start-e.false)) (c.seek-k.ensures ∙ seek_is (entries_of c.args.count c.args.tape.now) c.args.b c.args.e c.args.i c.args.start (omega (arith, c.if-start-e.false)) (c.requires.1 (omega (arith, c.if-start-e.false)))) (omega (arith, c.if-count-k.false, length_entries c.args.count c.args.tape.now)) (λ w. c.if-wide-q.true (c.wide.ensures ∙ sym (ap (λ (x : Entry). x.start) (entries_at c.args.count c.seek-k.result c.args.tape.now no_entry (omega (arith, c.if-count-k.false)) ∙ sym c.entry-old.ensures)) ∙ w))

@@ -1,6 +1,5 @@
 use native.Mathlib.Omega.{arith}
 use mathlib.Core.Path.{◌∙◌, ap}
-use borrow.Author.Rules.{rules}
 use Rattle.repair.proofs.Rows.{end_none, end_row}
 use Rattle.rows.specs.declared.Entry.{Entry}
 use Rattle.repair.proofs.seeking.resume_at.Goals as goal

@@ -1,13 +1,8 @@
-use Prim.Native.Nat.{◌+◌, ◌-◌, ◌≤◌}
 use native.Mathlib.Omega.{arith}
-use mathlib.Core.Path.{◌∙◌, ◌≡◌, refl}
-use lib.ListN.{drop}
-use borrow.Author.Rules.{rules}
+use mathlib.Core.Path.{◌∙◌, ◌≡◌}
 use borrow.Author.Tests.{le-ltb, lt-ltb}
 use Rattle.repair.proofs.Leading.{lead_end, lead_on, lead_out}
-use Rattle.repair.specs.Repair.{leading}
-use Rattle.repair.specs.inner.Steps.{seek_from, starts_before}
-use Rattle.rows.specs.Rows.{entries_of}
+use Rattle.repair.specs.inner.Steps.{starts_before}
 use Rattle.repair.proofs.seeking.seek.Goals as goal
 
 pub returns-then-q-wide : goal.returns-then-q-wide

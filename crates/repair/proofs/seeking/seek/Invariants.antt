@@ -1,10 +1,6 @@
-use Prim.Native.Nat.{◌+◌, ◌-◌, ◌≤◌}
-use native.Mathlib.Omega.{arith}
-use mathlib.Core.Path.{◌∙◌, ◌≡◌, refl}
+use Prim.Native.Nat.{◌+◌}
+use mathlib.Core.Path.{◌≡◌}
 use lib.ListN.{drop}
-use borrow.Author.Rules.{rules}
-use borrow.Author.Tests.{le-ltb, lt-ltb}
-use Rattle.repair.proofs.Leading.{lead_end, lead_on, lead_out}
 use Rattle.repair.specs.Repair.{leading}
 use Rattle.repair.specs.inner.Steps.{seek_from, starts_before}
 use Rattle.rows.specs.Rows.{entries_of}
