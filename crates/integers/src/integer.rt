@@ -69,7 +69,7 @@ fn behind_run(run: Run, found: u8, end: usize) -> Result<(u64, u8, usize), Refus
     }
 }
 
-// What stands behind sign and prefix.
+// What stands behind sign and prefix: the magnitude, the suffix's code or 0, and the place behind both; or a refusal.
 fn digits_and_suffix(
     t: &[u8],
     asked: u8,
@@ -143,7 +143,7 @@ fn width_for(found: u8, minus: bool, magnitude: u64) -> Width
     width_at(found)
 }
 
-// A read of any width.
+// A read of any width: the width and the place behind the number, or a refusal.
 pub fn any_integer(s: &[u8]) -> Result<(Width, usize), Refusal>
     ensures { result ≡ any_of s.now }
 {
