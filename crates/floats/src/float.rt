@@ -82,7 +82,7 @@ fn run_at(s: &[u8]) -> Result<FloatSpan, Refusal>
     behind_judged(judged, found.code, end)
 }
 
-// The float that the part begins with; inf and NaN are floats behind a sign only.
+// The span of the float that the part begins with, or a refusal; inf and NaN are floats behind a sign only.
 pub fn float(s: &[u8]) -> Result<FloatSpan, Refusal>
     ensures { result ≡ float_of s.now }
 {
