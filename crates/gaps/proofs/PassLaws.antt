@@ -1,5 +1,5 @@
 -- The whitespace and comments that a piece goes on with, at an index of the piece, as the code asks for them. Assumes nothing.
-use Rattle.std.proofs.Common.{Some, None, Option}
+use Rattle.std.proofs.Common.{Some, None, Option, Result, Ok, Err}
 use Prim.Native.Nat.{◌*◌, ◌+◌, ◌-◌, ◌<◌, ◌≤◌, pred, suc, zero, ℕ}
 use native.Mathlib.Nat.{add-zero, zero-add}
 use native.Mathlib.Numerals.{add-one}
@@ -35,7 +35,6 @@ use Rattle.gaps.proofs.Standing.{Comment, Halts, closed_item, gap_closed, gap_la
 use Rattle.gaps.specs.Opens.{block_open, by_open, front, last_byte, later_by, marks, open_from, open_of, unpaired}
 use Rattle.gaps.specs.Passes.{passed_by, passed_of}
 use Rattle.gaps.specs.inner.Steps.{behind_end, block_at, clear_at, line_at, rest_by, rest_of, step_by}
-use Rattle.std.proofs.Common.{Result, Ok, Err}
 use Rattle.gaps.specs.declared.pass.Passed.{Passed}
 use Rattle.gaps.specs.declared.pass.Passed.TheVariants as passed
 use Rattle.gaps.specs.declared.state.Open.{Open}

@@ -1,5 +1,5 @@
 -- One blank or comment of a piece. Assumes nothing.
-use Rattle.std.proofs.Common.{Some, None, Option}
+use Rattle.std.proofs.Common.{Some, None, Option, Result, Ok, Err}
 use Prim.Native.Nat.{◌<◌, ℕ}
 use native.Mathlib.Omega.{arith}
 use mathlib.Core.List.{List}
@@ -11,7 +11,6 @@ use Rattle.comments.specs.Gaps.{block_item, comment_of}
 use Rattle.gaps.proofs.BlockOpens.{block_moved, later_end}
 use Rattle.gaps.specs.Opens.{block_open}
 use Rattle.gaps.specs.inner.Steps.{rest_by, rest_of, step_by}
-use Rattle.std.proofs.Common.{Result, Ok, Err}
 use Rattle.gaps.specs.declared.state.Open.{Open}
 use Rattle.gaps.specs.declared.step.Step.{Step}
 use Rattle.gaps.specs.declared.step.Step.TheVariants as step

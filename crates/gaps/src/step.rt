@@ -39,14 +39,11 @@ fn comment_step(s: &[u8]) -> Step
     }
     let b = s[1];
     if b == b'/' {
-        let end = line_comment(&s[2..]);
-        return match end {
-            Some(n) => {
-                let taken = n + 2;
-                Step::On(taken)
-            }
-            None => Step::Still(Open::Line),
+        let Some(n) = line_comment(&s[2..]) else {
+            return Step::Still(Open::Line);
         };
+        let taken = n + 2;
+        return Step::On(taken);
     }
     if b == b'*' {
         let rest = block_rest(s, 2, 0);

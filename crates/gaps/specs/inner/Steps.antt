@@ -1,6 +1,5 @@
 -- The steps of `pass_gap`, at places of the piece.
-use Rattle.std.specs.Prelude.{Some, None, Option}
-use Rattle.std.specs.Prelude.{ℕ, suc, List, drop, length}
+use Rattle.std.specs.Prelude.{ℕ, suc, List, drop, length, Some, None, Option, Result, Ok, Err}
 use Rattle.comments.specs.Blocks.{block_from}
 use Rattle.comments.specs.Gaps.{gap_from}
 use Rattle.comments.specs.Lines.{line_from}
@@ -8,7 +7,6 @@ use Rattle.comments.specs.declared.gap.Item.{Item}
 use Rattle.comments.specs.declared.gap.Item.TheVariants.{Blank, LineOpen, BlockOpen, Unexpected, Ended, Other}
 use Rattle.gaps.specs.Opens.{block_open, open_from}
 use Rattle.gaps.specs.Passes.{passed_by}
-use Rattle.std.specs.Prelude.{Result, Ok, Err}
 use Rattle.gaps.specs.declared.pass.Passed.{Passed}
 use Rattle.gaps.specs.declared.pass.Passed.TheVariants as passed
 use Rattle.gaps.specs.declared.state.Open.{Open}

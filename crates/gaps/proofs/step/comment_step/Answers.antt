@@ -1,8 +1,9 @@
 use Rattle.std.proofs.Common.{Option}
 use Prim.Native.Nat.{◌+◌, ◌-◌, ◌<◌, ℕ}
 use native.Mathlib.Omega.{arith}
+use mathlib.Core.List.{List}
 use mathlib.Core.Path.{◌∙◌, ◌≡◌, ap, subst, sym}
-use lib.ListN.{drop, length, length-drop, length-take, take}
+use lib.ListN.{drop, get_or, length, length-drop, length-take, take}
 use borrow.Author.Rules.{rules}
 use Rattle.comments.proofs.BlockLaws.{Bounded}
 use Rattle.comments.proofs.GapLaws.{comment_ended, comment_line, comment_none, comment_other, comment_unexpected}
@@ -26,26 +27,20 @@ returns-then-s-ne47 c = ap (step_by c.args.s.now) (sym (comment_other _ (search 
 pub returns-then-s-eq1 : goal.returns-then-s-eq1
 returns-then-s-eq1 c = ap (step_by c.args.s.now) (sym (comment_ended _ c.if-s-eq1.true c.if-s-ne47.false))
 
+-- a line comment's step, by the end that was found
+line_step : (s : List ℕ) (e : Option ℕ) → 1 < length s → get_or s 0 0 ≡ 0x2f → get_or s 1 0 ≡ 0x2f → e ≡ line_end (take (length s - 2) (drop 2 s)) → step_by s (line_item e) ≡ step_by s (comment_of s)
+line_step s e p f g h = ap (λ (x : Option ℕ). step_by s (line_item x)) (h ∙ ap line_end (tail_part s 2)) ∙ ap (step_by s) (sym (comment_line s p f g))
+
 pub overflow_add-taken : goal.overflow_add-taken
 overflow_add-taken c =
-    let line_end : c.line_comment-end.result ≡ line_end (drop 2 (c.args.s.now)) = c.line_comment-end.ensures ∙ ap line_end (tail_part (c.args.s.now) 2) in
-    omega (arith, subst (Bounded 0 _) (sym (line_end) ∙ c.in-Some.is) (line_end_le _), length-drop 2 c.args.s.now)
+    let end = sym (c.in-Some.ensures ∙ ap line_end (tail_part c.args.s.now 2)) in
+    omega (arith, subst (Bounded 0 _) end (line_end_le _), length-drop 2 c.args.s.now)
 
-pub returns-in-Some : goal.returns-in-Some
-returns-in-Some c =
-    let two : 1 < length (c.args.s.now) = omega arith in
-    let line_end : c.line_comment-end.result ≡ line_end (drop 2 (c.args.s.now)) = c.line_comment-end.ensures ∙ ap line_end (tail_part (c.args.s.now) 2) in
-    let line_step : (e : Option ℕ) → c.line_comment-end.result ≡ e → step_by (c.args.s.now) (line_item e) ≡ step_by (c.args.s.now) (comment_of (c.args.s.now)) = λ e g. ap (λ (x : Option ℕ). step_by (c.args.s.now) (line_item x)) (sym g ∙ line_end)
-    ∙ ap (step_by (c.args.s.now)) (sym (comment_line (c.args.s.now) (two) c.if-s-ne47.false c.if-b-eq47.true)) in
-    line_step _ c.in-Some.is
+pub returns-then-b-eq47 : goal.returns-then-b-eq47
+returns-then-b-eq47 c = line_step c.args.s.now _ (omega arith) c.if-s-ne47.false c.if-b-eq47.true c.in-Some.ensures
 
-pub returns-in-None : goal.returns-in-None
-returns-in-None c =
-    let two : 1 < length (c.args.s.now) = omega arith in
-    let line_end : c.line_comment-end.result ≡ line_end (drop 2 (c.args.s.now)) = c.line_comment-end.ensures ∙ ap line_end (tail_part (c.args.s.now) 2) in
-    let line_step : (e : Option ℕ) → c.line_comment-end.result ≡ e → step_by (c.args.s.now) (line_item e) ≡ step_by (c.args.s.now) (comment_of (c.args.s.now)) = λ e g. ap (λ (x : Option ℕ). step_by (c.args.s.now) (line_item x)) (sym g ∙ line_end)
-    ∙ ap (step_by (c.args.s.now)) (sym (comment_line (c.args.s.now) (two) c.if-s-ne47.false c.if-b-eq47.true)) in
-    line_step _ c.in-None.is
+pub returns-in_default : goal.returns-in_default
+returns-in_default c = line_step c.args.s.now _ (omega arith) c.if-s-ne47.false c.if-b-eq47.true c.in_default.ensures
 
 pub returns-in-Ok : goal.returns-in-Ok
 returns-in-Ok c =
