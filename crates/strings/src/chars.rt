@@ -1,8 +1,7 @@
 // Chars and byte literals, read as the crate reads them: by a cursor that goes over the part from its front.
 //
 // A backslash and what is above U+007F are told by the byte and not by the code point: over bytes that are no UTF-8 the two differ.
-ghost use Rattle.std.specs.Prelude.{Err};
-ghost use Rattle.std.specs.Prelude.{◌≡◌, drop};
+ghost use Rattle.std.specs.Prelude.{◌≡◌, drop, Err};
 ghost use Rattle.text.specs.Refusals.{expected_byte_literal};
 ghost use Rattle.escapes.specs.Escapes.{escape_of};
 ghost use Rattle.escapes.specs.declared.answers.Mode.TheVariants.{Char, Bytes};
@@ -19,11 +18,8 @@ fn char_ends(s: &[u8], cursor: ParserCursor, code: u32) -> Result<(usize, u32), 
     ensures { result ≡ char_ends s.now cursor.cursor code }
 {
     let at = cursor.cursor;
-    let closed = cursor.expect_char(s, b'\'', Refusal::expected_char(at));
-    match closed {
-        Ok(behind) => Ok((behind.cursor, code)),
-        Err(refusal) => Err(refusal),
-    }
+    let behind = cursor.expect_char(s, b'\'', Refusal::expected_char(at))?;
+    Ok((behind.cursor, code))
 }
 
 // The escape behind `'\`.
@@ -39,25 +35,18 @@ fn escaped_char(s: &[u8], cursor: ParserCursor) -> Result<(usize, u32), Refusal>
     }
 }
 
-// The char at the front of a part: 14 without its quotes, 6 where the text ends behind the first.
+// The char at the front of a part: how many bytes it takes, and its code point; 14 without its quotes, 6 where the text ends behind the first.
 pub fn char_literal(s: &[u8]) -> Result<(usize, u32), Refusal>
     ensures { result ≡ char_of s.now }
 {
-    let none = Refusal::expected_char(0);
-    let opened = ParserCursor::at(0).expect_char(s, b'\'', none);
-    let Ok(inside) = opened else {
-        return Err(none);
-    };
+    let inside = ParserCursor::at(0).expect_char(s, b'\'', Refusal::expected_char(0))?;
     let mark = inside.consume_char(s, b'\\');
     if mark.found {
         let behind = mark.cursor;
         return escaped_char(s, behind);
     }
-    let read = inside.next_char(s);
-    match read {
-        Ok((code, behind)) => char_ends(s, behind, code),
-        Err(refusal) => Err(refusal),
-    }
+    let (code, behind) = inside.next_char(s)?;
+    char_ends(s, behind, code)
 }
 
 // 15 at a place.
@@ -72,11 +61,8 @@ fn byte_ends(s: &[u8], cursor: ParserCursor, byte: u8) -> Result<(usize, u8), Re
     ensures { result ≡ byte_ends s.now cursor.cursor byte }
 {
     let at = cursor.cursor;
-    let closed = cursor.expect_char(s, b'\'', Refusal::expected_byte_literal(at));
-    match closed {
-        Ok(behind) => Ok((behind.cursor, byte)),
-        Err(refusal) => Err(refusal),
-    }
+    let behind = cursor.expect_char(s, b'\'', Refusal::expected_byte_literal(at))?;
+    Ok((behind.cursor, byte))
 }
 
 // The escape behind `b'\`; `\u` is refused behind its `}`.
@@ -92,7 +78,8 @@ fn escaped_byte(s: &[u8], cursor: ParserCursor) -> Result<(usize, u8), Refusal>
     }
 }
 
-// The byte literal at the front of a part: 15 without `b'` and its quote, or for a character above U+007F; 6 where the text ends behind the first quote.
+// The byte literal at the front of a part: how many bytes it takes, and the byte; 15 without `b'` and its quote, or for a character above U+007F; 6 where
+// the text ends behind the first quote.
 pub fn byte_literal(s: &[u8]) -> Result<(usize, u8), Refusal>
     ensures { result ≡ byte_of s.now }
 {
@@ -115,9 +102,6 @@ pub fn byte_literal(s: &[u8]) -> Result<(usize, u8), Refusal>
     if 0x80 <= peek(s, at) {
         return no_byte(at + char_len(&s[at..]));
     }
-    let read = inside.next_char(s);
-    match read {
-        Ok((code, behind)) => byte_ends(s, behind, code as u8),
-        Err(refusal) => Err(refusal),
-    }
+    let (code, behind) = inside.next_char(s)?;
+    byte_ends(s, behind, code as u8)
 }

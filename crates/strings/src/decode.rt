@@ -1,6 +1,5 @@
 // Decoding a string that was read: exactly the decoded bytes are written, at the front of `out`.
-ghost use Rattle.std.specs.Prelude.{Ok};
-ghost use Rattle.std.specs.Prelude.{◌≡◌, true, ◌++◌, ◌≤◌, length, drop};
+ghost use Rattle.std.specs.Prelude.{◌≡◌, true, ◌++◌, ◌≤◌, length, drop, Ok};
 ghost use Rattle.strings.specs.Pieces.{writable, bytes_of, body_of, decoded_of};
 ghost use Rattle.strings.specs.Strings.{string_of, byte_string_of, string_decoded, byte_string_decoded, part_decoded, into_out};
 

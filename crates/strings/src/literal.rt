@@ -1,6 +1,5 @@
 // What a string is found to be.
-ghost use Rattle.std.specs.Prelude.{Err};
-ghost use Rattle.std.specs.Prelude.{◌≡◌};
+ghost use Rattle.std.specs.Prelude.{◌≡◌, Err};
 ghost use Rattle.text.specs.Refusals.{expected_string_end};
 
 use text::Refusal;

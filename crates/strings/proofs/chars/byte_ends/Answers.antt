@@ -1,3 +1,4 @@
+use Rattle.std.proofs.lemmas.Result.{err_from_is_err_and}
 use Rattle.std.proofs.Common.{Ok, Err}
 use Rattle.text.specs.Refusals.{Told}
 use Rattle.cursor.specs.declared.ParserCursor.{ParserCursor}
@@ -7,14 +8,15 @@ use Rattle.strings.proofs.CursorLaws.{byte_closing, byte_closed}
 use Rattle.strings.specs.Chars.{byte_ends}
 use Rattle.strings.proofs.chars.byte_ends.Goals as goal
 
-pub returns-in-Ok : goal.returns-in-Ok
-returns-in-Ok c =
-    let ends : (x : Told ParserCursor) → c.expect_char-closed.result ≡ x → byte_closing c.args.byte x ≡ byte_ends c.args.s.now c.args.cursor.cursor c.args.byte = λ x e. ap (byte_closing c.args.byte) (sym e ∙ c.expect_char-closed.ensures ∙ ap (expected_of c.args.s.now c.args.cursor 0x27) c.expected_byte_literal.ensures)
+pub returns : goal.returns
+returns c =
+    let ends : (x : Told ParserCursor) → c.expect_char.result ≡ x → byte_closing c.args.byte x ≡ byte_ends c.args.s.now c.args.cursor.cursor c.args.byte = λ x e. ap (byte_closing c.args.byte) (sym e ∙ c.expect_char.ensures ∙ ap (expected_of c.args.s.now c.args.cursor 0x27) c.expected_byte_literal.ensures)
     ∙ byte_closed c.args.s.now c.args.cursor c.args.byte in
-    ends (Ok _) c.in-Ok.is
+    ends (Ok _) c.in_ok-behind.was
 
-pub returns-in-Err : goal.returns-in-Err
-returns-in-Err c =
-    let ends : (x : Told ParserCursor) → c.expect_char-closed.result ≡ x → byte_closing c.args.byte x ≡ byte_ends c.args.s.now c.args.cursor.cursor c.args.byte = λ x e. ap (byte_closing c.args.byte) (sym e ∙ c.expect_char-closed.ensures ∙ ap (expected_of c.args.s.now c.args.cursor 0x27) c.expected_byte_literal.ensures)
+pub returns-in_err-behind : goal.returns-in_err-behind
+returns-in_err-behind c =
+    let ends : (x : Told ParserCursor) → c.expect_char.result ≡ x → byte_closing c.args.byte x ≡ byte_ends c.args.s.now c.args.cursor.cursor c.args.byte = λ x e. ap (byte_closing c.args.byte) (sym e ∙ c.expect_char.ensures ∙ ap (expected_of c.args.s.now c.args.cursor 0x27) c.expected_byte_literal.ensures)
     ∙ byte_closed c.args.s.now c.args.cursor c.args.byte in
-    ends (Err _) c.in-Err.is
+    let p = err_from_is_err_and c.from_residual.result c.from_residual.ensures.1 in
+    p.1 ∙ ap Err p.2 ∙ ends (Err _) c.in_err-behind.was

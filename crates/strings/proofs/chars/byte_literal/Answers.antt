@@ -1,3 +1,4 @@
+use Rattle.std.proofs.lemmas.Result.{err_from_is_err_and}
 use Rattle.std.proofs.Common.{Ok, Err}
 use Rattle.text.specs.Refusals.{Told}
 use Prim.Native.Nat.{◌+◌, ◌<◌, ◌≤◌, ℕ}
@@ -85,12 +86,12 @@ overflow_cast-code c =
     let place : c.consume_char-opened.result.cursor.cursor ≡ 2 = ap (λ (k : ParserCursor). k.cursor) (opened).0 in
     let peeked : c.peek.result ≡ get_or c.args.s.now 2 0 = c.peek.ensures ∙ ap (λ (n : ℕ). get_or c.args.s.now n 0) (place) in
     let low : get_or c.args.s.now 2 0 < 0x80 = omega (arith, c.if-peek-ge128.false, peeked) in
-    let read : c.next_char-read.result ≡ next_of c.args.s.now (moved_by 1 (moved_by 1 (cursor_at 0))) = c.next_char-read.ensures ∙ ap (next_of c.args.s.now) (opened).0 in
-    let ascii : (x : Told (ℕ × ParserCursor)) → c.next_char-read.result ≡ x → Narrow x = λ x e. subst Narrow (sym (read) ∙ e) (narrow c.args.s.now (low)) in
-    omega (arith, ascii (Ok (_, _)) c.in-Ok.is)
+    let read : c.next_char.result ≡ next_of c.args.s.now (moved_by 1 (moved_by 1 (cursor_at 0))) = c.next_char.ensures ∙ ap (next_of c.args.s.now) (opened).0 in
+    let ascii : (x : Told (ℕ × ParserCursor)) → c.next_char.result ≡ x → Narrow x = λ x e. subst Narrow (sym (read) ∙ e) (narrow c.args.s.now (low)) in
+    omega (arith, ascii (Ok (_, _)) c.in_ok-code.was)
 
-pub returns-in-Ok : goal.returns-in-Ok
-returns-in-Ok c =
+pub returns : goal.returns
+returns c =
     let begun : (c.consume_char-begun.result.cursor ≡ moved_by 1 (cursor_at 0)) × (eqb (get_or c.args.s.now 0 0) 0x62 ≡ true) = let s = c.args.s.now in
     found_here s (cursor_at 0) 0x62 (omega arith) c.consume_char-begun.result (c.consume_char-begun.ensures ∙ ap (λ (k : ParserCursor). consumed_of s k 0x62) c.at.ensures) (not-false _ c.if-not-begun.false) in
     let opened : (c.consume_char-opened.result.cursor ≡ moved_by 1 (moved_by 1 (cursor_at 0))) × (eqb (get_or c.args.s.now 1 0) 0x27 ≡ true) = let s = c.args.s.now in
@@ -100,13 +101,13 @@ returns-in-Ok c =
     let place : c.consume_char-opened.result.cursor.cursor ≡ 2 = ap (λ (k : ParserCursor). k.cursor) (opened).0 in
     let peeked : c.peek.result ≡ get_or c.args.s.now 2 0 = c.peek.ensures ∙ ap (λ (n : ℕ). get_or c.args.s.now n 0) (place) in
     let low : get_or c.args.s.now 2 0 < 0x80 = omega (arith, c.if-peek-ge128.false, peeked) in
-    let read : c.next_char-read.result ≡ next_of c.args.s.now (moved_by 1 (moved_by 1 (cursor_at 0))) = c.next_char-read.ensures ∙ ap (next_of c.args.s.now) (opened).0 in
-    let after : (x : Told (ℕ × ParserCursor)) → c.next_char-read.result ≡ x → byte_next c.args.s.now x ≡ byte_of c.args.s.now = λ x e. let s = c.args.s.now in
+    let read : c.next_char.result ≡ next_of c.args.s.now (moved_by 1 (moved_by 1 (cursor_at 0))) = c.next_char.ensures ∙ ap (next_of c.args.s.now) (opened).0 in
+    let after : (x : Told (ℕ × ParserCursor)) → c.next_char.result ≡ x → byte_next c.args.s.now x ≡ byte_of c.args.s.now = λ x e. let s = c.args.s.now in
     ap (byte_next s) (sym e ∙ read) ∙ byte-next s (begun).1 (opened).1 (unmarked) (low) in
-    c.byte_ends.ensures ∙ after (Ok (_, _)) c.in-Ok.is
+    c.byte_ends.ensures ∙ after (Ok (_, _)) c.in_ok-code.was
 
-pub returns-in-Err : goal.returns-in-Err
-returns-in-Err c =
+pub returns-in_err-code : goal.returns-in_err-code
+returns-in_err-code c =
     let begun : (c.consume_char-begun.result.cursor ≡ moved_by 1 (cursor_at 0)) × (eqb (get_or c.args.s.now 0 0) 0x62 ≡ true) = let s = c.args.s.now in
     found_here s (cursor_at 0) 0x62 (omega arith) c.consume_char-begun.result (c.consume_char-begun.ensures ∙ ap (λ (k : ParserCursor). consumed_of s k 0x62) c.at.ensures) (not-false _ c.if-not-begun.false) in
     let opened : (c.consume_char-opened.result.cursor ≡ moved_by 1 (moved_by 1 (cursor_at 0))) × (eqb (get_or c.args.s.now 1 0) 0x27 ≡ true) = let s = c.args.s.now in
@@ -116,7 +117,8 @@ returns-in-Err c =
     let place : c.consume_char-opened.result.cursor.cursor ≡ 2 = ap (λ (k : ParserCursor). k.cursor) (opened).0 in
     let peeked : c.peek.result ≡ get_or c.args.s.now 2 0 = c.peek.ensures ∙ ap (λ (n : ℕ). get_or c.args.s.now n 0) (place) in
     let low : get_or c.args.s.now 2 0 < 0x80 = omega (arith, c.if-peek-ge128.false, peeked) in
-    let read : c.next_char-read.result ≡ next_of c.args.s.now (moved_by 1 (moved_by 1 (cursor_at 0))) = c.next_char-read.ensures ∙ ap (next_of c.args.s.now) (opened).0 in
-    let after : (x : Told (ℕ × ParserCursor)) → c.next_char-read.result ≡ x → byte_next c.args.s.now x ≡ byte_of c.args.s.now = λ x e. let s = c.args.s.now in
+    let read : c.next_char.result ≡ next_of c.args.s.now (moved_by 1 (moved_by 1 (cursor_at 0))) = c.next_char.ensures ∙ ap (next_of c.args.s.now) (opened).0 in
+    let after : (x : Told (ℕ × ParserCursor)) → c.next_char.result ≡ x → byte_next c.args.s.now x ≡ byte_of c.args.s.now = λ x e. let s = c.args.s.now in
     ap (byte_next s) (sym e ∙ read) ∙ byte-next s (begun).1 (opened).1 (unmarked) (low) in
-    after (Err _) c.in-Err.is
+    let p = err_from_is_err_and c.from_residual.result c.from_residual.ensures.1 in
+    p.1 ∙ ap Err p.2 ∙ after (Err _) c.in_err-code.was
