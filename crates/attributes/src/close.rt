@@ -11,11 +11,8 @@ use text::refusal::placed_behind;
 fn no_end(s: &[u8], at: usize) -> Result<(usize, u32), Refusal>
     ensures { result ≡ no_end s.now at }
 {
-    let behind = steps::skip_ws(s, at);
-    match behind {
-        Ok(_) => Err(Refusal::expected_attribute_end(0)),
-        Err(r) => Err(r),
-    }
+    steps::skip_ws(s, at)?;
+    Err(Refusal::expected_attribute_end(0))
 }
 
 // Behind the `)`, if there was one.
@@ -36,22 +33,16 @@ fn list_end(s: &[u8], all: bool, at: usize, extensions: u32) -> Result<(usize, u
 pub fn close_list(s: &[u8], at: usize, extensions: u32) -> Result<(usize, u32), Refusal>
     ensures { result ≡ close_list s.now at extensions }
 {
-    let bracket = steps::consume(s, b')', Ok((true, at)));
-    match bracket {
-        Ok((all, place)) => list_end(s, all, place, extensions),
-        Err(r) => Err(r),
-    }
+    let (all, place) = steps::consume(s, b')', Ok((true, at)))?;
+    list_end(s, all, place, extensions)
 }
 
 // Behind a string.
 fn string_end(s: &[u8], at: usize) -> Result<(usize, u32), Refusal>
     ensures { result ≡ string_end s.now at }
 {
-    let behind = steps::skip_ws(s, at);
-    match behind {
-        Ok(place) => list_end(s, true, place, 0),
-        Err(r) => Err(r),
-    }
+    let place = steps::skip_ws(s, at)?;
+    list_end(s, true, place, 0)
 }
 
 // A string, and `]`.

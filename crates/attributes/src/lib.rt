@@ -15,31 +15,22 @@ use text::Refusal;
 use words::Keyword;
 
 // Behind `enable`: the list in its brackets.
+#[tactic(auto, unfolding(crate::specs::Attributes::enable_from))]
 fn enable(s: &[u8], at: usize) -> Result<(usize, u32), Refusal>
     ensures { result ≡ enable_from s.now at }
 {
-    let opened = steps::sign(s, b'(', at);
-    match opened {
-        Ok(start) => {
-            let listed = list::extension_list(s, start);
-            match listed {
-                Ok((end, extensions)) => close::close_list(s, end, extensions),
-                Err(r) => Err(r),
-            }
-        }
-        Err(r) => Err(r),
-    }
+    let start = steps::sign(s, b'(', at)?;
+    let (end, extensions) = list::extension_list(s, start)?;
+    close::close_list(s, end, extensions)
 }
 
 // Behind `type` or `schema`: a string.
+#[tactic(auto, unfolding(crate::specs::Attributes::string_value_from))]
 fn value(s: &[u8], at: usize) -> Result<(usize, u32), Refusal>
     ensures { result ≡ string_value_from s.now at }
 {
-    let given = steps::sign(s, b'=', at);
-    match given {
-        Ok(start) => close::string_value(s, start),
-        Err(r) => Err(r),
-    }
+    let start = steps::sign(s, b'=', at)?;
+    close::string_value(s, start)
 }
 
 // Behind `#`, `!` and `[`.
@@ -54,20 +45,16 @@ fn keyword(s: &[u8], at: usize) -> Result<(usize, u32), Refusal>
     }
 }
 
-// The attribute that s begins with.
+// The attribute that s begins with: its length, its `]` included, and the sum of its extensions; or a refusal, of which 19, 20 and 21 stand at the `#`.
+#[tactic(auto, unfolding(crate::specs::Attributes::attribute_of, crate::specs::Attributes::opened_of))]
 pub fn attribute(s: &[u8]) -> Result<(usize, u32), Refusal>
     ensures { result ≡ attribute_of s.now }
 {
     let hash = steps::consume(s, b'#', Ok((true, 0)));
     let bang = steps::consume(s, b'!', hash);
-    let bracket = steps::consume(s, b'[', bang);
-    match bracket {
-        Ok((all, at)) => {
-            if all {
-                return keyword(s, at);
-            }
-            Err(Refusal::expected_attribute(0))
-        }
-        Err(r) => Err(r),
+    let (all, at) = steps::consume(s, b'[', bang)?;
+    if all {
+        return keyword(s, at);
     }
+    Err(Refusal::expected_attribute(0))
 }

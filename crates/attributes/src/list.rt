@@ -96,7 +96,7 @@ pub fn next_item(t: &[u8]) -> Item
     }
 }
 
-// The list that begins at a place.
+// The list that begins at a place: the place behind it and the sum of its extensions, or a refusal.
 pub fn extension_list(s: &[u8], start: usize) -> Result<(usize, u32), Refusal>
     ensures { result ≡ list_of s.now start }
 {

@@ -7,7 +7,7 @@ use text::Refusal;
 use text::bytes::peek;
 use text::refusal::placed_behind;
 
-// Behind whitespace and comments.
+// Behind whitespace and comments: the place where the next thing begins, or a refusal.
 pub fn skip_ws(s: &[u8], at: usize) -> Result<usize, Refusal>
     ensures { result ≡ skip_from s.now at }
 {
@@ -28,14 +28,12 @@ pub fn skip_ws(s: &[u8], at: usize) -> Result<usize, Refusal>
     }
 }
 
-// The start of `consume_all` behind a step.
+// The start of `consume_all` behind a step: whether it has found all so far, as it goes on where a sign is missing, and how far it has come.
 pub fn all_at(step: Result<usize, Refusal>) -> Result<(bool, usize), Refusal>
     ensures { result ≡ all_at true step }
 {
-    match step {
-        Ok(place) => Ok((true, place)),
-        Err(r) => Err(r),
-    }
+    let place = step?;
+    Ok((true, place))
 }
 
 // One sign of `consume_all` at a place, and the whitespace behind it.
@@ -47,11 +45,8 @@ fn consume_at(s: &[u8], b: u8, all: bool, at: usize) -> Result<(bool, usize), Re
         return Ok((false, at));
     }
     let next = at + 1;
-    let behind = skip_ws(s, next);
-    match behind {
-        Ok(place) => Ok((all, place)),
-        Err(r) => Err(r),
-    }
+    let place = skip_ws(s, next)?;
+    Ok((all, place))
 }
 
 // One sign more of `consume_all`.
@@ -63,10 +58,8 @@ pub fn consume(
     requires { 0 < b }
     ensures { result ≡ consume_of b s.now done }
 {
-    match done {
-        Ok((all, at)) => consume_at(s, b, all, at),
-        Err(r) => Err(r),
-    }
+    let (all, at) = done?;
+    consume_at(s, b, all, at)
 }
 
 // A sign that has to stand at a place, and the whitespace behind it.
@@ -86,9 +79,6 @@ pub fn sign(s: &[u8], b: u8, at: usize) -> Result<usize, Refusal>
     requires { 0 < b }
     ensures { result ≡ sign_from b s.now at }
 {
-    let behind = skip_ws(s, at);
-    match behind {
-        Ok(place) => sign_at(s, b, place),
-        Err(r) => Err(r),
-    }
+    let place = skip_ws(s, at)?;
+    sign_at(s, b, place)
 }

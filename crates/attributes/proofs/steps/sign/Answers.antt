@@ -1,11 +1,11 @@
 use Rattle.std.proofs.Common.{Ok, Err}
-use mathlib.Core.Path.{◌∙◌, sym}
+use mathlib.Core.Path.{◌∙◌}
 use borrow.Author.Rules.{rules}
 use Rattle.attributes.proofs.StepLaws.{sign-by}
 use Rattle.attributes.proofs.steps.sign.Goals as goal
 
-pub returns-in-Ok : goal.returns-in-Ok
-returns-in-Ok c = c.sign_at.ensures ∙ sign-by c.args.b c.args.s.now c.args.at (Ok _) (sym c.in-Ok.is ∙ c.skip_ws-behind.ensures)
+pub returns-in_err-place : goal.returns-in_err-place
+returns-in_err-place c = rw (← sign-by c.args.b c.args.s.now c.args.at (Err _) c.in_err-place.ensures) (search rules)
 
-pub returns-in-Err : goal.returns-in-Err
-returns-in-Err c = sign-by c.args.b c.args.s.now c.args.at (Err _) (sym c.in-Err.is ∙ c.skip_ws-behind.ensures)
+pub returns : goal.returns
+returns c = c.sign_at.ensures ∙ sign-by c.args.b c.args.s.now c.args.at (Ok _) c.in_ok-place.ensures
