@@ -16,11 +16,6 @@ abbrev pub told_contents : Told (ℕ × ℕ) → Told Span
 told_contents (Ok (a, b)) = Ok (record { start = a; end = b })
 told_contents (Err r) = Err r
 
--- The same of a decoding: how many bytes it wrote.
-abbrev pub told_decoded : Told ℕ → Told ℕ
-told_decoded (Ok n) = Ok n
-told_decoded (Err r) = Err r
-
 -- What is said of the string that an entry names; 28, 23 and 27 come before.
 abbrev pub by_named : {A : Type 0} → Told (Bool × ℕ) → (Bool → ℕ → Told A) → Told A
 by_named (Ok (bytes, place)) own = own bytes place

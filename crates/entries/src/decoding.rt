@@ -1,6 +1,5 @@
 // The contents of a string decoded into a lent buffer: measured first, so that a refusal writes nothing.
-ghost use Rattle.std.specs.Prelude.{Ok};
-ghost use Rattle.std.specs.Prelude.{◌≡◌, ◌++◌, ◌≤◌, length, drop};
+ghost use Rattle.std.specs.Prelude.{◌≡◌, ◌++◌, ◌≤◌, length, drop, Ok};
 ghost use Rattle.entries.specs.Named.{literal_of, literal_decoded};
 ghost use Rattle.entries.specs.Contents.{decoded_in, written_by};
 
@@ -22,11 +21,11 @@ fn decode(bytes: bool, s: &[u8], l: Literal, out: &mut [u8])
     decode_string(s, l, out);
 }
 
-// The string at a place.
+// The string at a place: how many bytes were written, or the refusal.
 pub fn decoded_at(text: &[u8], bytes: bool, place: usize, out: &mut [u8]) -> Result<usize, Refusal>
     requires { place ≤ length text.now }
     ensures result_value { result ≡ decoded_in place (length out.old) (literal_of bytes (drop place text.now)) }
-    ensures out_after { out.new ≡ written_by (result) (literal_decoded bytes (drop place text.now)) out.old }
+    ensures out_after { out.new ≡ written_by result (literal_decoded bytes (drop place text.now)) out.old }
 {
     let s = &text[place..];
     let read = read_named(bytes, s);

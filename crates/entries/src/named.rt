@@ -4,10 +4,11 @@ ghost use Rattle.rows.specs.Rows.{room_of, entry_at};
 ghost use Rattle.entries.specs.Named.{by_kind, inside_of, named_of, literal_of};
 
 use rows::{kinds, row};
+use strings::Literal;
 use text::Refusal;
 use text::judge::place_fits;
 
-// Kind 14 is a string, 15 a byte string.
+// Kind 14 is a string, 15 a byte string: whether it is the latter, and its place.
 fn by_kind(kind: u32, place: usize) -> Result<(bool, usize), Refusal>
     ensures { result ≡ by_kind kind place }
 {
@@ -47,7 +48,7 @@ fn named_inside(
     by_kind(e.kind, place)
 }
 
-// The string that the entry names; one outside the slice has no start to judge.
+// The string that the entry names: whether it is a byte string, and its place, or the refusal. One outside the slice has no start to judge.
 pub fn find_named(
     text: &[u8],
     tape: &[u32],

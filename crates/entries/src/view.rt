@@ -7,7 +7,7 @@ use crate::named::read_named;
 use text::Refusal;
 use text::refusal::placed_behind;
 
-// Of the string at a place.
+// Of the string at a place: where the bytes inside begin and end, or the refusal.
 pub fn contents_at(text: &[u8], bytes: bool, place: usize) -> Result<(usize, usize), Refusal>
     requires { place ≤ length text.now }
     ensures { told_contents result ≡ contents_in place (literal_of bytes (drop place text.now)) }

@@ -1,4 +1,3 @@
-use borrow.Author.Rules.{rules}
 use Rattle.entries.proofs.decoding.decode.Goals as goal
 
 pub decode_byte_string-requires : goal.decode_byte_string-requires

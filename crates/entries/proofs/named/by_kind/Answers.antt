@@ -1,4 +1,3 @@
-use borrow.Author.Rules.{rules}
 use borrow.Author.Tests.{eq-eqb, ne_eqb}
 use Rattle.entries.specs.Named.{by_kind}
 use Rattle.entries.proofs.named.by_kind.Goals as goal

@@ -1,6 +1,5 @@
 use Rattle.std.proofs.Common.{Err}
 use mathlib.Core.Path.{ap, sym}
-use borrow.Author.Rules.{rules}
 use borrow.Author.Tests.{le-leb, le-ltb, lt-leb, lt-ltb}
 use Rattle.entries.specs.Named.{named_of}
 use Rattle.entries.proofs.named.find_named.Goals as goal

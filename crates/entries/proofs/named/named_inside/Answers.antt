@@ -1,7 +1,6 @@
 use Rattle.std.proofs.Common.{Err}
 use mathlib.Core.Path.{◌∙◌, ap, sym}
-use borrow.Author.Rules.{rules}
-use borrow.Author.Tests.{le-ltb, lt-ltb, not-false, not-true}
+use borrow.Author.Tests.{le-ltb, lt-ltb}
 use Rattle.entries.specs.Named.{inside_of}
 use Rattle.entries.proofs.named.named_inside.Goals as goal
 

@@ -1,4 +1,3 @@
-use borrow.Author.Rules.{rules}
 use Rattle.entries.proofs.named.read_named.Goals as goal
 
 pub returns-then-bytes : goal.returns-then-bytes

@@ -1,7 +1,6 @@
 use Rattle.std.proofs.Common.{Err}
 use native.Mathlib.Omega.{arith}
 use mathlib.Core.Path.{ap}
-use borrow.Author.Rules.{rules}
 use Rattle.entries.proofs.LiteralLaws.{read_found, read_inside, refused_inside}
 use Rattle.entries.proofs.view.contents_at.Goals as goal
 
