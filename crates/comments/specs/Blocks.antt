@@ -1,8 +1,7 @@
 -- Block comments (document 01, module 2): "Block comments nest."
 -- A part of the text is the list of its bytes; a reader has to believe `mark_of` and `Body`: that the rule, and so `block_end`, finds exactly a body's end
 -- is proved in proofs/Nesting.antt.
-use Rattle.std.specs.Prelude.{Some, None, Option}
-use Rattle.std.specs.Prelude.{ℕ, ◌+◌, ◌-◌, ◌≡◌, List, [], ◌∷◌, cond, ◌&&◌, eqb}
+use Rattle.std.specs.Prelude.{Some, None, Option, ℕ, ◌+◌, ◌-◌, ◌≡◌, List, [], ◌∷◌, cond, ◌&&◌, eqb}
 use Rattle.comments.specs.declared.block.Decision.{Decision}
 use Rattle.comments.specs.declared.block.Decision.TheVariants.{Open, CloseLast, CloseInner, PassOn}
 

@@ -1,6 +1,6 @@
 -- Laws of the characters at a cursor. Assumes nothing.
 use Rattle.std.proofs.Common.{Ok, Err}
-use Rattle.text.specs.Refusals.{Told}
+use Rattle.text.specs.Refusals.{Told, eof}
 use Prim.Native.Nat.{◌<◌, ◌≤◌, ℕ}
 use mathlib.Core.Bool.{false, true, true≢false}
 use mathlib.Core.List.{List}
@@ -17,7 +17,6 @@ use Rattle.text.proofs.CharFronts.{code_ascii}
 use Rattle.text.proofs.Choices.{cond_cases, either, lt_or_le}
 use Rattle.text.proofs.Lists.{front, head_at}
 use Rattle.text.proofs.Utf8Laws.{char_len_ascii}
-use Rattle.text.specs.Refusals.{eof}
 use Rattle.text.specs.Utf8.{char_len, code_of}
 use Rattle.text.specs.declared.refusal.Refusal.{Refusal}
 

@@ -1,10 +1,8 @@
 -- Whitespace at the cursor (document 01): "Skip from a `ParserCursor` of three numbers (`skip_ws`)."
 -- 28: "a place past the end or inside a character; for skip, also a pre-whitespace place above the place, or the whitespace length above the place unless
 -- it is the mark for an unclosed line."
-use Rattle.std.specs.Prelude.{Ok, Err}
-use Rattle.text.specs.Refusals.{Told}
-use Rattle.std.specs.Prelude.{ℕ, ◌+◌, ◌-◌, List, [], ◌∷◌, Bool, cond, not, ◌&&◌, ◌||◌, drop, ltb, leb, eqb}
-use Rattle.text.specs.Refusals.{placed_behind}
+use Rattle.std.specs.Prelude.{Ok, Err, ℕ, ◌+◌, ◌-◌, List, [], ◌∷◌, Bool, cond, not, ◌&&◌, ◌||◌, drop, ltb, leb, eqb}
+use Rattle.text.specs.Refusals.{Told, placed_behind}
 use Rattle.text.specs.Judged.{place_fits}
 use Rattle.comments.specs.declared.gap.Gap.{Gap}
 use Rattle.comments.specs.declared.gap.Gap.TheVariants.{Clear, InLine, Refused as GapRefused}

@@ -1,12 +1,11 @@
 -- A higher limit gives the same answer over entries and their names, unless it was 24. Assumes nothing.
 use Rattle.std.proofs.Common.{Err, Some, None, Option}
-use Rattle.text.specs.Refusals.{Told}
+use Rattle.text.specs.Refusals.{Told, depth_limit_passed, repeated_field}
 use Prim.Native.Nat.{ℕ, ◌≤◌}
 use native.Mathlib.Omega.{arith}
 use mathlib.Core.Path.{◌≡◌, refl, sym, ap, ◌∙◌}
 use mathlib.Core.List.{List, [], ◌++◌}
 use Rattle.text.proofs.Choices.{either, lt_or_le}
-use Rattle.text.specs.Refusals.{depth_limit_passed, repeated_field}
 use Rattle.grammar.specs.Refused.{up_to}
 use Rattle.grammar.specs.Walk.{walk_of}
 use Rattle.grammar.specs.declared.kinds.Kind.{Kind}

@@ -1,12 +1,11 @@
 -- The grammar's walk passes an entry exactly where a document within the limit begins with the entries up to it. Assumes nothing.
 use Rattle.std.proofs.Common.{Err}
-use Rattle.text.specs.Refusals.{Told}
+use Rattle.text.specs.Refusals.{Told, refusal}
 use Prim.Native.Nat.{ℕ, suc, ◌+◌, ◌<◌}
 use native.Mathlib.Omega.{arith}
 use mathlib.Core.Path.{◌≡◌, sym, ap, ◌∙◌, subst}
 use mathlib.Core.List.{List, [], ◌∷◌, ◌++◌, append_assoc}
 use lib.ListN.{length, length-append}
-use Rattle.text.specs.Refusals.{refusal}
 use Rattle.grammar.specs.Grammar.{Document}
 use Rattle.grammar.specs.Refused.{Begins, Split, up_to}
 use Rattle.grammar.specs.Walk.{check, walk_of}

@@ -1,6 +1,6 @@
 -- What the answer over names and that of the grammar make together. Assumes nothing.
 use Rattle.std.proofs.Common.{Ok, Err, Some, None, Option}
-use Rattle.text.specs.Refusals.{Told}
+use Rattle.text.specs.Refusals.{Told, refusal, repeated_field}
 use Prim.Native.Nat.{ℕ, ◌<◌, ◌≤◌}
 use native.Mathlib.Omega.{arith}
 use mathlib.Core.Path.{◌≡◌, refl, sym, ap}
@@ -9,7 +9,6 @@ use mathlib.Core.List.{List, []}
 use lib.Dec.{ltb}
 use borrow.Author.Tests.{lt-ltb, le-ltb, ltb-true, ltb-false}
 use Rattle.text.specs.declared.refusal.Refusal.{Refusal}
-use Rattle.text.specs.Refusals.{refusal, repeated_field}
 use Rattle.grammar.specs.declared.kinds.Kind.{Kind}
 use Rattle.grammar.specs.declared.states.Frame.TheVariants.{Top}
 use Rattle.grammar.specs.declared.states.Want.TheVariants.{Start}

@@ -1,9 +1,7 @@
 -- The walk over entries and their names (document 02, CR 2): the steps of the grammar, with the entries that name the fields of each open bracket.
 -- proofs/ show that it stops at the first entry that repeats a field of its own ( ), as specs/Apart has it.
-use Rattle.std.specs.Prelude.{Ok, Err, Some, None, Option}
-use Rattle.text.specs.Refusals.{Told}
-use Rattle.std.specs.Prelude.{ℕ, ◌+◌, Bool, true, false, cond, ◌&&◌, ◌||◌, List, [], ◌∷◌, ltb, eqb}
-use Rattle.text.specs.Refusals.{repeated_field}
+use Rattle.std.specs.Prelude.{Ok, Err, Some, None, Option, ℕ, ◌+◌, Bool, true, false, cond, ◌&&◌, ◌||◌, List, [], ◌∷◌, ltb, eqb}
+use Rattle.text.specs.Refusals.{Told, repeated_field}
 use Rattle.grammar.specs.declared.kinds.Kind.{Kind}
 use Rattle.grammar.specs.declared.states.Frame.{Frame}
 use Rattle.grammar.specs.declared.states.Frame.TheVariants.{Top}

@@ -1,6 +1,5 @@
 // The first of some fields whose name one before it has: of up to 16 each is compared with each, more are sorted, and then neighbours are compared.
-ghost use Rattle.std.specs.Prelude.{None};
-ghost use Rattle.std.specs.Prelude.{◌≡◌, true, ◌+◌, ◌*◌, ◌≤◌, ◌<◌, length, take};
+ghost use Rattle.std.specs.Prelude.{None, ◌≡◌, true, ◌+◌, ◌*◌, ◌≤◌, ◌<◌, length, take};
 ghost use Rattle.fields.specs.Names.{name_at, HasName};
 ghost use Rattle.fields.specs.inner.Again.{FirstIn};
 ghost use Rattle.fields.specs.inner.Again.{earlier as earlierOf};

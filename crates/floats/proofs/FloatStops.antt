@@ -1,6 +1,6 @@
 -- Nothing behind a byte outside of the raw name's class changes what a float reads as, refusals included. Assumes nothing.
 use Rattle.std.proofs.Common.{Err}
-use Rattle.text.specs.Refusals.{Told}
+use Rattle.text.specs.Refusals.{Told, expected_float}
 use Rattle.floats.specs.declared.float.FloatSpan.{FloatSpan}
 use Prim.Native.Nat.{◌+◌, ◌≤◌, ℕ}
 use native.Mathlib.Omega.{arith}
@@ -22,7 +22,6 @@ use Rattle.text.proofs.Choices.{or_left, or_right}
 use Rattle.text.proofs.ClassLaws.{inside}
 use Rattle.text.proofs.Stops.{Stopped, Reach, on₂, part, behind, run2_reach}
 use Rattle.text.specs.Classes.{digit, float_char, ascii_next, ascii_raw, letter, within}
-use Rattle.text.specs.Refusals.{expected_float}
 
 module _ (c : ℕ) (o : Outside c) where
   -- it is no e and no E

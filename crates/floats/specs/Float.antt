@@ -1,9 +1,7 @@
 -- Floats (document 01, module 6): a float run with the suffix f32 or f64, or inf or NaN behind a sign.
-use Rattle.std.specs.Prelude.{Ok, Err}
-use Rattle.text.specs.Refusals.{Told}
+use Rattle.std.specs.Prelude.{Ok, Err, ℕ, ◌+◌, List, [], ◌∷◌, cond, length, take, drop, get_or, eqb}
+use Rattle.text.specs.Refusals.{Told, expected_float, float_underscore, underscore_at_beginning}
 use Rattle.floats.specs.declared.float.FloatSpan.{FloatSpan}
-use Rattle.std.specs.Prelude.{ℕ, ◌+◌, List, [], ◌∷◌, cond, length, take, drop, get_or, eqb}
-use Rattle.text.specs.Refusals.{expected_float, float_underscore, underscore_at_beginning}
 use Rattle.integers.specs.Words.{Word, first_of}
 use Rattle.integers.specs.Front.{sign_of}
 use Rattle.integers.specs.declared.ident.Found.{Found}

@@ -1,12 +1,11 @@
 -- The walk accepts exactly the entries that are a document within the limit. Assumes nothing.
 use Rattle.std.proofs.Common.{Ok, Err}
-use Rattle.text.specs.Refusals.{Told}
+use Rattle.text.specs.Refusals.{Told, refusal}
 use Prim.Native.Nat.{ℕ, suc, ◌≤◌}
 use native.Mathlib.Omega.{arith}
 use mathlib.Core.Path.{◌≡◌, ap}
 use mathlib.Core.List.{List, []}
 use Rattle.text.specs.declared.refusal.Refusal.{Refusal}
-use Rattle.text.specs.Refusals.{refusal}
 use Rattle.grammar.specs.Grammar.{Value, scalar, name, list, map, round, called, Round, tuple, struct, Items, none, one, more, Pairs, no_pair, one_pair, more_pairs, Fields, no_field, one_field, more_fields, Fits, FitRound, FitItems, FitPairs, FitFields, Document}
 use Rattle.grammar.specs.Walk.{walk_of}
 use Rattle.grammar.proofs.Outcomes.{Outcome, whole, wrong, deep, early, answer}

@@ -1,6 +1,6 @@
 -- Every document within the limit is accepted. Assumes nothing.
 use Rattle.std.proofs.Common.{Ok, Err}
-use Rattle.text.specs.Refusals.{Told}
+use Rattle.text.specs.Refusals.{Told, depth_limit_passed}
 use Prim.Native.Nat.{ℕ, zero, suc, ◌+◌, ◌<◌}
 use mathlib.Core.Path.{◌≡◌, refl, ap, ◌∙◌}
 use mathlib.Core.Bool.{cond}
@@ -8,7 +8,6 @@ use mathlib.Core.List.{List, [], ◌∷◌}
 use lib.Dec.{ltb}
 use lib.ListN.{length}
 use borrow.Author.Tests.{lt-ltb}
-use Rattle.text.specs.Refusals.{depth_limit_passed}
 use Rattle.grammar.specs.Grammar.{Value, scalar, name, list, map, round, called, Round, tuple, struct, Items, none, one, more, Pairs, no_pair, one_pair, more_pairs, Fields, no_field, one_field, more_fields, value, inner, items, pairs, fields, attributes, Fits, FitRound, FitItems, FitPairs, FitFields, Document}
 use Rattle.grammar.specs.Links.{behind, behind_round, behind_items, behind_pairs, behind_fields}
 use Rattle.grammar.specs.Walk.{check}

@@ -1,6 +1,6 @@
 -- 24 stands at the opening bracket that makes the open ones more than the limit, and no accepted walk has more open than that. Assumes nothing.
 use Rattle.std.proofs.Common.{Ok, Err}
-use Rattle.text.specs.Refusals.{Told}
+use Rattle.text.specs.Refusals.{Told, refusal, depth_limit_passed}
 use Prim.Native.Nat.{ℕ, ◌+◌, ◌-◌, ◌≤◌}
 use native.Mathlib.Omega.{arith}
 use mathlib.Core.Path.{◌≡◌, refl, sym, ap, ◌∙◌}
@@ -9,7 +9,6 @@ use mathlib.Core.List.{List, [], ◌∷◌, ◌++◌}
 use lib.Dec.{ltb}
 use lib.ListN.{length}
 use borrow.Author.Tests.{ltb-true, ltb-false}
-use Rattle.text.specs.Refusals.{refusal, depth_limit_passed}
 use Rattle.grammar.specs.Kinds.{side_of}
 use Rattle.grammar.specs.Steps.{step_of}
 use Rattle.grammar.specs.Walk.{ended, finish, popped, by_move, check, walk_of}

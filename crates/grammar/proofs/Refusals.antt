@@ -1,13 +1,12 @@
 -- Each refusal of the walk is given exactly in its case: 25 at the first entry such that no document begins with the entries up to it, 24 where one
 -- does but none within the limit, 26 where all the entries begin a document and are none; a higher limit, the same answer unless it was 24. Assumes nothing.
 use Rattle.std.proofs.Common.{Ok, Err}
-use Rattle.text.specs.Refusals.{Told}
+use Rattle.text.specs.Refusals.{Told, refusal, depth_limit_passed, not_allowed_here, tape_ends_early}
 use Prim.Native.Nat.{ℕ, ◌+◌, ◌≤◌}
 use native.Mathlib.Omega.{arith}
 use mathlib.Core.Path.{◌≡◌, refl, sym, ap, ◌∙◌, subst}
 use mathlib.Core.List.{List, [], ◌∷◌, ◌++◌, append_assoc, append-nil}
 use lib.ListN.{length}
-use Rattle.text.specs.Refusals.{refusal, depth_limit_passed, not_allowed_here, tape_ends_early}
 use Rattle.grammar.specs.Grammar.{Document}
 use Rattle.grammar.specs.Walk.{check, walk_of}
 use Rattle.grammar.proofs.Outcomes.{Outcome, whole, wrong, deep, early, answer}

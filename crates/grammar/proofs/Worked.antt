@@ -1,10 +1,9 @@
 -- The corners of module 10, computed from the definition. Assumes nothing.
 use Rattle.std.proofs.Common.{Ok, Err}
-use Rattle.text.specs.Refusals.{Told}
+use Rattle.text.specs.Refusals.{Told, depth_limit_passed, not_allowed_here, tape_ends_early}
 use Prim.Native.Nat.{ℕ, zero, suc}
 use mathlib.Core.Path.{◌≡◌, refl}
 use mathlib.Core.List.{List, [], ◌∷◌}
-use Rattle.text.specs.Refusals.{depth_limit_passed, not_allowed_here, tape_ends_early}
 use Rattle.grammar.specs.Walk.{check, link, walk_of, linked_of}
 use Rattle.grammar.specs.declared.kinds.Kind.{Kind}
 use Rattle.grammar.specs.declared.kinds.Kind.TheVariants.{OpenRound, CloseRound, OpenSquare, CloseSquare, OpenCurly, CloseCurly, Comma, Colon, Name, Scalar, Attribute}

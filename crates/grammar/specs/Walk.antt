@@ -1,9 +1,7 @@
 -- The walk as a function of the entries' kinds (document 01, module 10): "24, 25: depth limit passed; entry not allowed here; place: entry number.
 -- 26: tape ends early; place: entry count. .. at one entry 25 before 24."
-use Rattle.std.specs.Prelude.{Ok, Err}
-use Rattle.text.specs.Refusals.{Told}
-use Rattle.std.specs.Prelude.{cond, List, [], ◌∷◌, ℕ, ◌+◌, ltb, length, set}
-use Rattle.text.specs.Refusals.{depth_limit_passed, not_allowed_here, tape_ends_early}
+use Rattle.std.specs.Prelude.{Ok, Err, cond, List, [], ◌∷◌, ℕ, ◌+◌, ltb, length, set}
+use Rattle.text.specs.Refusals.{Told, depth_limit_passed, not_allowed_here, tape_ends_early}
 use Rattle.grammar.specs.declared.kinds.Kind.{Kind}
 use Rattle.grammar.specs.declared.states.Frame.{Frame}
 use Rattle.grammar.specs.declared.states.Frame.TheVariants.{Top, Square, Tuple, Struct, Key, Pair}

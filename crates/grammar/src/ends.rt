@@ -1,6 +1,5 @@
 // What the end of the tape says.
-ghost use Rattle.std.specs.Prelude.{Err};
-ghost use Rattle.std.specs.Prelude.{◌≡◌};
+ghost use Rattle.std.specs.Prelude.{Err, ◌≡◌};
 ghost use Rattle.text.specs.Refusals.{tape_ends_early};
 ghost use Rattle.grammar.specs.Walk.{ended, finish};
 

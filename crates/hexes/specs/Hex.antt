@@ -1,6 +1,5 @@
 -- Hex digits (document 01): "Integer characters: hex digits, `_`", "`\u{}` takes 1 to 6 hex digits".
-use Rattle.std.specs.Prelude.{Some, None, Option}
-use Rattle.std.specs.Prelude.{ℕ, ◌-◌, cond}
+use Rattle.std.specs.Prelude.{Some, None, Option, ℕ, ◌-◌, cond}
 use Rattle.text.specs.Classes.{hex_digit, within}
 
 -- The value of a hex digit, 0 to 9, A to F, a to f; 16 for any other byte.

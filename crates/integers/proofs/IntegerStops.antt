@@ -1,6 +1,6 @@
 -- Nothing behind a byte outside of the raw name's class, such as a quiet byte or a slash, changes what an integer reads as, refusals included. Assumes nothing.
 use Rattle.std.proofs.Common.{Err}
-use Rattle.text.specs.Refusals.{Told}
+use Rattle.text.specs.Refusals.{Told, eof}
 use Prim.Native.Nat.{◌+◌, ◌<◌, ◌≤◌, ℕ}
 use native.Mathlib.Omega.{arith}
 use mathlib.Core.Bool.{Bool, ◌||◌, cond, false, true, ◌&&◌, not}
@@ -25,7 +25,6 @@ use Rattle.text.proofs.Choices.{bool_cases, either, or_left, or_right, and_true}
 use Rattle.text.proofs.ClassLaws.{inside, within_true}
 use Rattle.text.proofs.Stops.{Stopped, Reach, on, on₂, bind, part, behind, sum, run_reach, empty_stopped}
 use Rattle.text.specs.Classes.{digit, hex_digit, ascii_next, ascii_raw, int_char, letter, within}
-use Rattle.text.specs.Refusals.{eof}
 use Rattle.text.specs.Runs.{run}
 use Rattle.integers.specs.declared.integer.Integer.TheVariants as integer
 

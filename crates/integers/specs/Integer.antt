@@ -1,11 +1,9 @@
 -- Integers (document 01, module 5): "A suffix is skipped after a refusal, but not after 8 or 9. Without a suffix, the first of u8, u16, u32, u64 that fits;
 -- after a minus, of i8 to i64; a refusal is the one at 64 bits. A typed read answers the value and the place behind it; with another suffix it is 27".
-use Rattle.std.specs.Prelude.{Ok, Err}
-use Rattle.text.specs.Refusals.{Told}
-use Rattle.std.specs.Prelude.{ℕ, ◌+◌, List, Bool, false, cond, not, length, take, drop, eqb}
+use Rattle.std.specs.Prelude.{Ok, Err, ℕ, ◌+◌, List, Bool, false, cond, not, length, take, drop, eqb}
+use Rattle.text.specs.Refusals.{Told, placed_behind, eof, expected_integer, underscore_at_beginning, invalid_integer_digit, integer_out_of_bounds}
 use Rattle.text.specs.Classes.{int_char}
 use Rattle.text.specs.Runs.{run}
-use Rattle.text.specs.Refusals.{placed_behind, eof, expected_integer, underscore_at_beginning, invalid_integer_digit, integer_out_of_bounds}
 use Rattle.digits.specs.Digits.{run_of}
 use Rattle.digits.specs.declared.Run.{Run}
 use Rattle.digits.specs.declared.Run.TheVariants.{Value, Empty, Underscore, NotDigit, Over}

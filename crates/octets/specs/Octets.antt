@@ -2,8 +2,7 @@
 -- enough, with three exceptions: bad UTF-8 and the byte after the 65,536th are told when met ..". A byte may be taken unless with it no UTF-8 goes on; the place
 -- is then the first byte of its sequence, as document 01 has it for refusal 2. A character may be cut off at the end of a piece, and go on in the next.
 -- A reader has to believe only `Begins`, `Whole` and `Broken`: that the answers agree with them is proved in proofs/Exactly.antt.
-use Rattle.std.specs.Prelude.{Some, None, Option}
-use Rattle.std.specs.Prelude.{ℕ, ◌+◌, cond, List, [], ◌∷◌, ◌++◌, ◌⊎◌, ◌≡◌, eqb, drop, get_or, length}
+use Rattle.std.specs.Prelude.{Some, None, Option, ℕ, ◌+◌, cond, List, [], ◌∷◌, ◌++◌, ◌⊎◌, ◌≡◌, eqb, drop, get_or, length}
 use Rattle.text.specs.Classes.{within}
 use Rattle.text.specs.Utf8.{Char, Text, second_byte, tail_byte, utf8_of}
 use Rattle.octets.specs.declared.answer.Allowed.{Allowed}

@@ -1,4 +1,3 @@
-pub mod RunPlaces
 pub mod NameRuns
 pub mod PartLaws
 pub mod PlainNames

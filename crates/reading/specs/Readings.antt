@@ -1,7 +1,6 @@
 -- A reading: tokens with their places. Document 01: "kind, start, end, detail"; document 02, CR 6: a "fifth number", the gap; "places are byte offsets"; "the refusals of reading in text order". Room and
 -- limits are no part of a reading: what has to do with them stands around it.
-use Rattle.std.specs.Prelude.{Ok, Err}
-use Rattle.std.specs.Prelude.{ℕ, ◌+◌, List, [], ◌∷◌, drop}
+use Rattle.std.specs.Prelude.{Ok, Err, ℕ, ◌+◌, List, [], ◌∷◌, drop}
 use Rattle.text.specs.declared.refusal.Refusal.{Refusal}
 use Rattle.text.specs.Refusals.{Told, placed_behind}
 use Rattle.rows.specs.declared.Entry.{Entry}

@@ -4,7 +4,6 @@
 use lines::out;
 use lines::out::STDOUT_FILENO;
 use text::utf8;
-use text::utf8::EncodeAnswer;
 
 // A code point as the document writes it.
 fn point(o: &mut [u8], at: usize, c: u32) -> usize {
@@ -12,14 +11,6 @@ fn point(o: &mut [u8], at: usize, c: u32) -> usize {
     let k = io::hex(c as u64, 4, &mut digits);
     let a = out::bytes(o, at, b" U+");
     out::bytes(o, a, &digits[..k])
-}
-
-fn wrote(r: EncodeAnswer) -> usize {
-    match r {
-        EncodeAnswer::Wrote(n) => n,
-        EncodeAnswer::NotScalar => 0,
-        EncodeAnswer::NoRoom => 0,
-    }
 }
 
 // The character at the front of s, if there is one; a `!` behind it would say that its code point encodes to other bytes.
@@ -31,7 +22,7 @@ fn character(s: &[u8], o: &mut [u8], at: usize) -> usize {
     let c = utf8::code_point(s);
     let a = point(o, at, c);
     let mut bytes = [0u8; 4];
-    let n = wrote(utf8::encode(c, &mut bytes));
+    let n = utf8::encode(c, &mut bytes).unwrap_or(0);
     if check::same(lines::part(&bytes, 0, n), lines::part(s, 0, len)) {
         return a;
     }

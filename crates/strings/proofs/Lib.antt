@@ -1,4 +1,3 @@
-pub mod RunPlaces
 pub mod PieceLaws
 pub mod CharLaws
 pub mod CursorLaws

@@ -13,3 +13,4 @@ pub mod JudgeLaws
 pub mod Cuts
 pub mod CharFronts
 pub mod AheadLaws
+pub mod RunPlaces

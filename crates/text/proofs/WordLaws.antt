@@ -1,37 +1,16 @@
 -- Laws of words at the front of a part, and what stops them. Assumes nothing.
-use Prim.Native.Nat.{ℕ, ◌+◌, ◌≤◌, ◌<◌}
+use Prim.Native.Nat.{ℕ, ◌≤◌, ◌<◌}
 use native.Mathlib.Omega.{arith}
 use mathlib.Core.Bool.{Bool, true, false, ◌&&◌}
 use mathlib.Core.List.{List, [], ◌∷◌, ◌++◌}
 use mathlib.Core.Path.{◌≡◌, refl, sym, ap, ◌∙◌}
 use lib.Dec.{eqb, leb}
-use lib.ListN.{length, get_or, drop, drop_of_length-le}
-use lib.Seq.{drop-cons}
-use borrow.Author.Tests.{eq-eqb, eqb-true, le-leb, ne_eqb}
+use lib.ListN.{length, get_or}
+use borrow.Author.Tests.{eqb-true, le-leb, ne_eqb}
 use Rattle.text.specs.Words.{starts_with}
 use Rattle.text.proofs.Choices.{and_false, and_one, and_true, bool_cases, either}
 use Rattle.text.proofs.ClassLaws.{all_of}
-use Rattle.text.proofs.Lists.{front}
 use Rattle.text.proofs.Stops.{Stopped}
-
--- ---- at a place, as a loop asks for it
-
-module _ (word t : List ℕ) (i : ℕ) where
-  pub starts_end : length word ≤ i → starts_with (drop i word) (drop i t) ≡ true
-  unfolding starts_with
-  starts_end h = rw (drop_of_length-le word h)
-
-  pub starts_out : i < length word → length t ≤ i → starts_with (drop i word) (drop i t) ≡ false
-  unfolding starts_with
-  starts_out h k = rw (drop_of_length-le t k, drop-cons word i 0 h)
-
-  pub starts_differ : i < length word → i < length t → (get_or t i 0 ≡ get_or word i 0 → ⊥) → starts_with (drop i word) (drop i t) ≡ false
-  unfolding starts_with
-  starts_differ h k n = rw (front t i k, front word i h, ne_eqb _ _ n)
-
-  pub starts_more : i < length word → i < length t → get_or t i 0 ≡ get_or word i 0 → starts_with (drop i word) (drop i t) ≡ starts_with (drop (i + 1) word) (drop (i + 1) t)
-  unfolding starts_with
-  starts_more h k e = rw (front t i k, front word i h, eq-eqb (get_or t i 0) (get_or word i 0) e)
 
 -- ---- a word that stands at the front lies within the part
 

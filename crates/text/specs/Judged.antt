@@ -1,6 +1,5 @@
 -- What every call asks of its text and places first (document 01): "1: text over 65,536 bytes. 2: not UTF-8. 28: a place past the end or inside a character."
-use Rattle.std.specs.Prelude.{Ok, Err, Some, None, Option}
-use Rattle.std.specs.Prelude.{ℕ, List, Bool, cond, not, ◌&&◌, length, get_or, ltb, leb}
+use Rattle.std.specs.Prelude.{Ok, Err, Some, None, Option, ℕ, List, Bool, cond, not, ◌&&◌, length, get_or, ltb, leb}
 use Rattle.text.specs.Refusals.{Told, too_long, not_utf8, unfit}
 use Rattle.text.specs.Classes.{within}
 use Rattle.text.specs.Utf8.{utf8_of}

@@ -1,9 +1,9 @@
 -- UTF-8 as RFC 3629 has it. Document 01: refusal 2, "not UTF-8", stands at "the first byte of the first bad sequence".
 -- A reader has to believe only `Scalar`, `encode` and `Encoded`: that the grammar and the decision below agree with them is proved in proofs/Utf8Agree.antt.
-use Rattle.std.specs.Prelude.{Some, None, Option}
+use Rattle.std.specs.Prelude.{Some, None, Option, Result, Ok, Err}
 use Rattle.std.specs.Prelude.{ℕ, zero, suc, ◌+◌, ◌*◌, ◌/◌, ◌%◌, ◌≤◌, ◌<◌, List, [], ◌∷◌, ◌++◌, Bool, true, cond, ◌&&◌, ◌≡◌, ◌⊎◌, length, get_or, drop, ltb, leb, eqb}
-use Rattle.text.specs.declared.utf8.EncodeAnswer.{EncodeAnswer}
-use Rattle.text.specs.declared.utf8.EncodeAnswer.TheVariants.{Wrote, NotScalar, NoRoom}
+use Rattle.text.specs.declared.utf8.EncodeError.{EncodeError}
+use Rattle.text.specs.declared.utf8.EncodeError.TheVariants.{NotScalar, NoRoom}
 use Rattle.text.specs.Classes.{within}
 
 -- ---- section 3: the encoding of a scalar value
@@ -126,8 +126,8 @@ unfoldable pub encoded_len : ℕ → ℕ
 encoded_len c = cond (ltb c 0x80) 1 (cond (ltb c 0x800) 2 (cond (ltb c 0x10000) 3 4))
 
 -- Encoding c at the front of a buffer of so many bytes.
-unfoldable pub encode_answer : ℕ → ℕ → EncodeAnswer
-encode_answer c room = cond (scalar c) (cond (leb (encoded_len c) room) (Wrote (encoded_len c)) NoRoom) NotScalar
+unfoldable pub encode_answer : ℕ → ℕ → Result ℕ EncodeError
+encode_answer c room = cond (scalar c) (cond (leb (encoded_len c) room) (Ok (encoded_len c)) (Err NoRoom)) (Err NotScalar)
 
 -- The buffer afterwards: a refused encoding leaves it as it was.
 unfoldable pub encoded_into : ℕ → List ℕ → List ℕ

@@ -8,10 +8,9 @@ use crate::ascii;
 use crate::bytes::peek;
 use crate::classes::is_within;
 
-// What encoding comes to.
+// Why a code point is not encoded.
 #[derive(Clone, Copy)]
-pub enum EncodeAnswer {
-    Wrote(usize),
+pub enum EncodeError {
     NotScalar,
     NoRoom,
 }
@@ -163,19 +162,19 @@ pub fn encoded_len(c: u32) -> usize
     4
 }
 
-// The bytes of a scalar value, at the front of out.
-pub fn encode(c: u32, out: &mut [u8]) -> EncodeAnswer
+// The bytes of a scalar value, at the front of out; how many they are, or why none was written.
+pub fn encode(c: u32, out: &mut [u8]) -> Result<usize, EncodeError>
     ensures { (result ≡ encode_answer c (length out.old)) × (out.new ≡ encoded_into c out.old) }
 {
     if !is_scalar(c) {
-        return EncodeAnswer::NotScalar;
+        return Err(EncodeError::NotScalar);
     }
     let n = encoded_len(c);
     if out.len() < n {
-        return EncodeAnswer::NoRoom;
+        return Err(EncodeError::NoRoom);
     }
     put(c, out);
-    EncodeAnswer::Wrote(n)
+    Ok(n)
 }
 
 // The same where it fits.

@@ -1,6 +1,6 @@
 -- The loop that judges: one turn for each thing that an entry can do. Assumes nothing.
 use Rattle.std.proofs.Common.{Err}
-use Rattle.text.specs.Refusals.{Told}
+use Rattle.text.specs.Refusals.{Told, depth_limit_passed, not_allowed_here}
 use Prim.Native.Nat.{ℕ, ◌+◌, ◌-◌, ◌<◌, ◌≤◌}
 use mathlib.Core.Path.{◌≡◌, sym, ap, ◌∙◌}
 use mathlib.Core.Bool.{Bool, true, false, cond}
@@ -8,7 +8,6 @@ use mathlib.Core.List.{List, ◌∷◌}
 use lib.Dec.{ltb}
 use lib.ListN.{length, set, get_or}
 use borrow.Author.Tests.{lt-ltb, le-ltb}
-use Rattle.text.specs.Refusals.{depth_limit_passed, not_allowed_here}
 use Rattle.rows.specs.Rows.{entry_at, entries_of}
 use Rattle.grammar.specs.declared.kinds.Kind.{Kind}
 use Rattle.grammar.specs.declared.states.Frame.{Frame}

@@ -1,6 +1,6 @@
 -- The loop that judges, with its arrays: what holds between two entries, and that each turn keeps it. Assumes nothing.
 use Rattle.std.proofs.Common.{Err, None, Option}
-use Rattle.text.specs.Refusals.{Told}
+use Rattle.text.specs.Refusals.{Told, depth_limit_passed, not_allowed_here}
 use Prim.Native.Nat.{ℕ, suc, ◌+◌, ◌-◌, ◌*◌, ◌<◌, ◌≤◌}
 use native.Mathlib.Omega.{arith}
 use mathlib.Core.Bool.{Bool, true, false, cond}
@@ -9,7 +9,6 @@ use mathlib.Core.Path.{◌≡◌, ◌∙◌, ap, refl, subst, sym}
 use lib.ListN.{length, get_or, set, length-set}
 use lib.Seq.{get_or-set_same, get_or-set_other}
 use Rattle.text.proofs.Choices.{either, lt_or_le}
-use Rattle.text.specs.Refusals.{depth_limit_passed, not_allowed_here}
 use Rattle.text.specs.declared.refusal.Refusal.{Refusal}
 use Rattle.rows.specs.Rows.{entry_at, entries_of}
 use Rattle.grammar.specs.declared.kinds.Kind.{Kind}

@@ -1,9 +1,7 @@
 -- Characters at the cursor (document 01, module 1): "`expect_char` and `consume_char` don't move on a mismatch."
-use Rattle.std.specs.Prelude.{Ok, Err}
-use Rattle.text.specs.Refusals.{Told}
-use Rattle.std.specs.Prelude.{ℕ, List, [], ◌∷◌, Bool, true, false, cond, drop, eqb}
+use Rattle.std.specs.Prelude.{Ok, Err, ℕ, List, [], ◌∷◌, Bool, true, false, cond, drop, eqb}
+use Rattle.text.specs.Refusals.{Told, eof}
 use Rattle.text.specs.declared.refusal.Refusal.{Refusal}
-use Rattle.text.specs.Refusals.{eof}
 use Rattle.text.specs.Utf8.{char_len, code_of}
 use Rattle.cursor.specs.declared.ParserCursor.{ParserCursor}
 use Rattle.cursor.specs.declared.chars.Consumed.{Consumed}

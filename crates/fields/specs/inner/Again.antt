@@ -1,6 +1,5 @@
 -- The first of some fields that has the name of one before it: what the code finds in each ( ), in whatever order the fields stand.
-use Rattle.std.specs.Prelude.{Some, None, Option}
-use Rattle.std.specs.Prelude.{◌≡◌, List, cond, ℕ, ◌<◌, ◌≤◌, ltb, length, get_or}
+use Rattle.std.specs.Prelude.{Some, None, Option, ◌≡◌, List, cond, ℕ, ◌<◌, ◌≤◌, ltb, length, get_or}
 
 -- The earlier of two.
 abbrev pub earlier : Option ℕ → Option ℕ → Option ℕ

@@ -1,8 +1,6 @@
 -- The fields that the walk has gathered: the entries that name the fields of all open brackets lie in one array, those of each bracket from its base on.
-use Rattle.std.specs.Prelude.{Err, Some, None, Option}
-use Rattle.text.specs.Refusals.{Told}
-use Rattle.std.specs.Prelude.{ℕ, zero, suc, ◌+◌, ◌-◌, ◌<◌, ◌≤◌, cond, List, [], ◌∷◌, ◌≡◌, length, get_or}
-use Rattle.text.specs.Refusals.{repeated_field}
+use Rattle.std.specs.Prelude.{Err, Some, None, Option, ℕ, zero, suc, ◌+◌, ◌-◌, ◌<◌, ◌≤◌, cond, List, [], ◌∷◌, ◌≡◌, length, get_or}
+use Rattle.text.specs.Refusals.{Told, repeated_field}
 use Rattle.fields.specs.inner.Again.{earlier}
 use Rattle.fields.specs.Fields.{is_named}
 use Rattle.fields.specs.Names.{HasName}

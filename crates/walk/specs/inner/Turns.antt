@@ -1,8 +1,6 @@
 -- What the next entry comes to: the grammar's step, held to the limit, or the verdict with which the walk stops there.
-use Rattle.std.specs.Prelude.{Err}
-use Rattle.text.specs.Refusals.{Told}
-use Rattle.std.specs.Prelude.{ℕ, ◌<◌, ◌≤◌, List, ◌≡◌}
-use Rattle.text.specs.Refusals.{depth_limit_passed, not_allowed_here}
+use Rattle.std.specs.Prelude.{Err, ℕ, ◌<◌, ◌≤◌, List, ◌≡◌}
+use Rattle.text.specs.Refusals.{Told, depth_limit_passed, not_allowed_here}
 use Rattle.rows.specs.Rows.{entry_at}
 use Rattle.grammar.specs.declared.states.Frame.{Frame}
 use Rattle.grammar.specs.declared.states.Want.{Want}

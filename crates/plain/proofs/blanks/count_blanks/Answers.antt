@@ -3,7 +3,7 @@ use mathlib.Core.Path.{◌∙◌}
 use Rattle.std.proofs.Common.{rules, tests}
 use Rattle.std.proofs.lemmas.Iterator.{YieldsList-from_slice}
 use Rattle.std.proofs.lemmas.Iterator.Search.{position_from_yields_List}
-use Rattle.plain_names.proofs.RunPlaces.{run_place}
+use Rattle.text.proofs.RunPlaces.{run_place}
 use Rattle.text.specs.Classes.{blank1}
 use Rattle.plain.proofs.blanks.count_blanks.Goals as goal
 

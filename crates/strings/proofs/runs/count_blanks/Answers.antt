@@ -3,7 +3,7 @@ use mathlib.Core.Path.{◌∙◌}
 use Rattle.std.proofs.Common.{rules, tests}
 use Rattle.std.proofs.lemmas.Iterator.{YieldsList-from_slice}
 use Rattle.std.proofs.lemmas.Iterator.Search.{position_from_yields_List}
-use Rattle.strings.proofs.RunPlaces.{run_place}
+use Rattle.text.proofs.RunPlaces.{run_place}
 use Rattle.text.specs.Classes.{continuation_blank}
 use Rattle.strings.proofs.runs.count_blanks.Goals as goal
 

@@ -1,10 +1,10 @@
+use Rattle.std.proofs.Common.{Ok}
 use native.Mathlib.Omega.{arith}
 use mathlib.Core.Path.{◌∙◌, ap, refl, sym}
 use lib.ListN.{length}
 use borrow.Author.Tests.{le-leb, lt-leb}
 use Rattle.text.proofs.Utf8Agree.{scalar_true}
 use Rattle.text.specs.Utf8.{encode_answer, encoded_into, encoded_len}
-use Rattle.text.specs.declared.utf8.EncodeAnswer.TheVariants.{Wrote}
 use Rattle.text.proofs.utf8.encode.Goals as goal
 
 pub returns-then-not-is_scalar : goal.returns-then-not-is_scalar
@@ -20,4 +20,4 @@ put-requires c = ((scalar_true c.args.c (sym c.is_scalar.ensures ∙ c.if-not-is
 
 pub returns : goal.returns
 unfolding encode_answer encoded_into
-returns c = simp (sym c.is_scalar.ensures ∙ c.if-not-is_scalar.false, le-leb (encoded_len c.args.c) (length c.args.out.now) (omega (arith, c.encoded_len-n.ensures))) (ap Wrote c.encoded_len-n.ensures, c.put.ensures)
+returns c = simp (sym c.is_scalar.ensures ∙ c.if-not-is_scalar.false, le-leb (encoded_len c.args.c) (length c.args.out.now) (omega (arith, c.encoded_len-n.ensures))) (ap Ok c.encoded_len-n.ensures, c.put.ensures)
