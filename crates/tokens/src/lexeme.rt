@@ -1,6 +1,5 @@
 // What a token is on the tape: its length, kind and detail.
-ghost use Rattle.std.specs.Prelude.{Ok};
-ghost use Rattle.std.specs.Prelude.{◌≡◌};
+ghost use Rattle.std.specs.Prelude.{◌≡◌, Ok};
 ghost use Rattle.tokens.specs.Lexemes.{number_lexeme, lexeme_of};
 
 use crate::token::Token;
@@ -36,7 +35,7 @@ fn number_lexeme(n: Number) -> Result<Lexeme, Refusal>
     }
 }
 
-// Kinds and details are document 01's numbers.
+// A token's lexeme, or what refuses it. Kinds and details are document 01's numbers.
 pub fn lexeme_of(t: Token) -> Result<Lexeme, Refusal>
     ensures { result ≡ lexeme_of t }
 {
