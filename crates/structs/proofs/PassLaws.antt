@@ -2,15 +2,13 @@
 use Rattle.std.proofs.Common.{Ok, Err}
 use Rattle.text.specs.Refusals.{Told}
 use Rattle.strings.specs.declared.literal.Literal.{Literal}
-use Prim.Native.Nat.{◌+◌, ◌-◌, ◌^◌, ◌<◌, ◌≤◌, ℕ}
+use Prim.Native.Nat.{◌+◌, ◌^◌, ◌<◌, ◌≤◌, ℕ}
 use native.Mathlib.Omega.{arith}
-use mathlib.Core.Bool.{cond}
 use mathlib.Core.List.{List}
-use mathlib.Core.Path.{◌∙◌, ◌≡◌, ap, refl, subst, sym}
+use mathlib.Core.Path.{◌≡◌, refl, subst}
 use lib.Dec.{eqb}
-use lib.ListN.{drop, length, length-drop, take}
+use lib.ListN.{drop, length, length-drop}
 use Rattle.text.proofs.Choices.{cond_cases}
-use Rattle.text.proofs.Lists.{tail_part}
 use Rattle.text.specs.Refusals.{placed_behind}
 use Rattle.comments.proofs.GapLaws.{EndsBy, gap_bounded}
 use Rattle.comments.specs.Gaps.{gap_of}
@@ -19,7 +17,7 @@ use Rattle.comments.specs.declared.gap.Gap.TheVariants as gap
 use Rattle.strings.proofs.Bounds.{Bounded-char, Bounded-string, byte_string_bounded, char_bounded, string_bounded}
 use Rattle.strings.specs.Chars.{char_of}
 use Rattle.strings.specs.Strings.{string_of, byte_string_of}
-use Rattle.structs.specs.Passes.{Fits, FitsLiteral, behind_char, behind_gap, behind_literal, onward, past_byte_string, past_char, past_gap, past_string}
+use Rattle.structs.specs.Passes.{Fits, FitsLiteral, behind_char, behind_gap, behind_literal, past_byte_string, past_char, past_gap, past_string}
 
 -- ---- from a place that was reached
 

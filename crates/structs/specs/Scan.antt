@@ -3,7 +3,7 @@
 use Rattle.std.specs.Prelude.{Ok, Err}
 use Rattle.text.specs.Refusals.{Told}
 use Rattle.structs.specs.declared.kinds.StructType.{StructType}
-use Rattle.std.specs.Prelude.{ℕ, zero, suc, pred, ◌+◌, ◌-◌, cond, ◌||◌, List, [], ◌∷◌, eqb, ltb, length, get_or, drop}
+use Rattle.std.specs.Prelude.{ℕ, zero, suc, pred, ◌+◌, ◌-◌, cond, List, [], ◌∷◌, eqb, ltb, length, get_or, drop}
 use Rattle.text.specs.Refusals.{eof, placed_behind}
 use Rattle.text.specs.Classes.{one_of}
 use Rattle.structs.specs.Kinds.{placed_kind}

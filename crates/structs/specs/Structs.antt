@@ -4,7 +4,6 @@ use Rattle.std.specs.Prelude.{Ok, Err}
 use Rattle.text.specs.Refusals.{Told}
 use Rattle.structs.specs.declared.kinds.StructType.{StructType}
 use Rattle.std.specs.Prelude.{ℕ, ◌+◌, cond, List, eqb, get_or, drop}
-use Rattle.text.specs.Refusals.{placed_behind}
 use Rattle.names.specs.Identifiers.{skip_identifier_of}
 use Rattle.names.specs.declared.Identifier.{Identifier}
 use Rattle.names.specs.declared.Identifier.TheVariants as name

@@ -1,8 +1,9 @@
-// What a step of the scan passes over, one after the other; a refusal stays.
+// What a step of the scan passes over, one after the other: the place that was reached, or the refusal on the way, which stays.
 ghost use Rattle.std.specs.Prelude.{◌≡◌, length};
 ghost use Rattle.structs.specs.Passes.{Fits, FitsLiteral, behind_literal, past_gap, past_char, past_string, past_byte_string};
 
 use comments::{Gap, skip_gap};
+use strings::Literal;
 use strings::chars::char_literal;
 use text::Refusal;
 use text::refusal::placed_behind;
@@ -12,9 +13,7 @@ pub fn skip_ws(s: &[u8], from: Result<usize, Refusal>) -> Result<usize, Refusal>
     requires { Fits (length s.now) from }
     ensures { result ≡ past_gap s.now from }
 {
-    let Ok(at) = from else {
-        return from;
-    };
+    let at = from?;
     let gap = skip_gap(&s[at..]);
     match gap {
         Gap::Clear(n) => Ok(at + n),
@@ -28,9 +27,7 @@ pub fn skip_char(s: &[u8], from: Result<usize, Refusal>) -> Result<usize, Refusa
     requires { Fits (length s.now) from }
     ensures { result ≡ past_char s.now from }
 {
-    let Ok(at) = from else {
-        return from;
-    };
+    let at = from?;
     let read = char_literal(&s[at..]);
     match read {
         Ok((len, _)) => Ok(at + len),
@@ -59,9 +56,7 @@ pub fn skip_string(s: &[u8], from: Result<usize, Refusal>) -> Result<usize, Refu
     requires { Fits (length s.now) from }
     ensures { result ≡ past_string s.now from }
 {
-    let Ok(at) = from else {
-        return from;
-    };
+    let at = from?;
     behind_literal(strings::string(&s[at..]), Refusal::EXPECTED_STRING, at)
 }
 
@@ -70,9 +65,7 @@ pub fn skip_byte_string(s: &[u8], from: Result<usize, Refusal>) -> Result<usize,
     requires { Fits (length s.now) from }
     ensures { result ≡ past_byte_string s.now from }
 {
-    let Ok(at) = from else {
-        return from;
-    };
+    let at = from?;
     behind_literal(
         strings::byte_string_no_base64(&s[at..]),
         Refusal::EXPECTED_BYTE_STRING,

@@ -13,16 +13,11 @@ use text::refusal::placed_behind;
 pub fn behind_comma(s: &[u8]) -> Result<StructType, Refusal>
     ensures { result ≡ after_comma s.now }
 {
-    let gap = skip_ws(s, Ok(0));
-    match gap {
-        Ok(i) => {
-            if peek(s, i) == b')' {
-                return Ok(StructType::NewtypeTuple);
-            }
-            Ok(StructType::NonNewtypeTuple)
-        }
-        Err(refusal) => Err(refusal),
+    let i = skip_ws(s, Ok(0))?;
+    if peek(s, i) == b')' {
+        return Ok(StructType::NewtypeTuple);
     }
+    Ok(StructType::NonNewtypeTuple)
 }
 
 // From a place inside one bracket, to the comma or closing bracket that decides.

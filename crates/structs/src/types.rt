@@ -27,24 +27,19 @@ fn behind_name(s: &[u8], at: usize, tuple: TupleMode) -> Result<StructType, Refu
     requires { at ≤ length s.now }
     ensures { result ≡ after_name tuple s.now at }
 {
-    let gap = skip_ws(s, Ok(at));
-    match gap {
-        Ok(i) => {
-            let c = peek(s, i);
-            if c == b':' {
-                return Ok(StructType::Named);
-            }
-            if c == b',' {
-                let next = i + 1;
-                return placed(behind_comma(&s[next..]), next);
-            }
-            if c == b')' {
-                return Ok(StructType::NewtypeTuple);
-            }
-            undecided(s, i, tuple)
-        }
-        Err(refusal) => Err(refusal),
+    let i = skip_ws(s, Ok(at))?;
+    let c = peek(s, i);
+    if c == b':' {
+        return Ok(StructType::Named);
     }
+    if c == b',' {
+        let next = i + 1;
+        return placed(behind_comma(&s[next..]), next);
+    }
+    if c == b')' {
+        return Ok(StructType::NewtypeTuple);
+    }
+    undecided(s, i, tuple)
 }
 
 // What stands inside the brackets, from a place behind the whitespace in front.
@@ -66,30 +61,22 @@ fn in_parens(s: &[u8], cursor: ParserCursor, tuple: TupleMode) -> Result<StructT
     ensures { result ≡ parenthesized tuple s.now }
 {
     let at = cursor.cursor;
-    let gap = skip_ws(s, Ok(at));
-    match gap {
-        Ok(i) => {
-            if peek(s, i) == b')' {
-                return Ok(StructType::EmptyTuple);
-            }
-            contents(s, i, tuple)
-        }
-        Err(refusal) => Err(refusal),
+    let i = skip_ws(s, Ok(at))?;
+    if peek(s, i) == b')' {
+        return Ok(StructType::EmptyTuple);
     }
+    contents(s, i, tuple)
 }
 
 // Inside a bracket that was passed already.
 fn in_newtype(s: &[u8], tuple: TupleMode) -> Result<StructType, Refusal>
     ensures { result ≡ inside_newtype tuple s.now }
 {
-    let gap = skip_ws(s, Ok(0));
-    match gap {
-        Ok(i) => contents(s, i, tuple),
-        Err(refusal) => Err(refusal),
-    }
+    let i = skip_ws(s, Ok(0))?;
+    contents(s, i, tuple)
 }
 
-// The type of the struct at the front of a part, in both modes; without a bracket, where one has to stand, a unit struct.
+// The type of the struct at the front of a part, in both modes, or the refusal; without a bracket, where one has to stand, a unit struct.
 pub fn check_struct_type(
     s: &[u8],
     newtype: NewtypeMode,

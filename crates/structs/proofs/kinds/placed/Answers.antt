@@ -1,6 +1,5 @@
 use Rattle.std.proofs.Common.{Err}
 use mathlib.Core.Path.{ap}
-use borrow.Author.Rules.{rules}
 use Rattle.structs.proofs.kinds.placed.Goals as goal
 
 pub placed_behind-requires : goal.placed_behind-requires

@@ -1,6 +1,7 @@
+use Rattle.std.proofs.Common.{Err}
+use Rattle.std.proofs.lemmas.Result.{err_from_is_err_and}
 use native.Mathlib.Omega.{arith}
 use mathlib.Core.Path.{◌∙◌, ap, sym}
-use borrow.Author.Rules.{rules}
 use Rattle.strings.specs.Strings.{string_of}
 use Rattle.structs.proofs.PassLaws.{past-string, place_le, string_places}
 use Rattle.structs.specs.Passes.{past_string}
@@ -8,17 +9,19 @@ use Rattle.text.proofs.Lists.{tail_part}
 use Rattle.structs.proofs.passes.skip_string.Goals as goal
 
 pub slice_bounds-string-count : goal.slice_bounds-string-count
-slice_bounds-string-count c = place_le c.args.s.now c.args.from _ c.in-Ok.is c.requires
+slice_bounds-string-count c = place_le c.args.s.now c.args.from _ c.in_ok-at.was c.requires
 
 pub slice_bounds-string-start : goal.slice_bounds-string-start
-slice_bounds-string-start c = place_le c.args.s.now c.args.from _ c.in-Ok.is c.requires
+slice_bounds-string-start c = place_le c.args.s.now c.args.from _ c.in_ok-at.was c.requires
 
 pub behind_literal-requires : goal.behind_literal-requires
-behind_literal-requires c = rw (c.string.ensures ∙ ap string_of (tail_part c.args.s.now c.in-Ok.at)) (string_places c.args.s.now c.in-Ok.at (place_le c.args.s.now c.args.from _ c.in-Ok.is c.requires) (omega arith))
+behind_literal-requires c = rw (c.string.ensures ∙ ap string_of (tail_part c.args.s.now c.in_ok-at.at)) (string_places c.args.s.now c.in_ok-at.at (place_le c.args.s.now c.args.from _ c.in_ok-at.was c.requires) (omega arith))
 
 pub returns : goal.returns
-returns c = c.behind_literal.ensures ∙ sym (past-string c.args.s.now c.args.from _ c.in-Ok.is _ (sym (c.string.ensures ∙ ap string_of (tail_part c.args.s.now c.in-Ok.at))))
+returns c = c.behind_literal.ensures ∙ sym (past-string c.args.s.now c.args.from _ c.in_ok-at.was _ (sym (c.string.ensures ∙ ap string_of (tail_part c.args.s.now c.in_ok-at.at))))
 
-pub returns-in_default : goal.returns-in_default
+pub returns-in_err-at : goal.returns-in_err-at
 unfolding past_string
-returns-in_default c = search rules
+returns-in_err-at c =
+    let p = err_from_is_err_and c.from_residual.result c.from_residual.ensures.1 in
+    p.1 ∙ ap Err p.2 ∙ ap (past_string c.args.s.now) (sym c.in_err-at.was)

@@ -1,10 +1,8 @@
 use Rattle.std.proofs.Common.{Err}
-use Prim.Native.Nat.{◌+◌, ◌-◌, ◌≤◌, ℕ}
+use Prim.Native.Nat.{◌+◌, ◌≤◌, ℕ}
 use native.Mathlib.Omega.{arith}
-use mathlib.Core.List.{List}
 use mathlib.Core.Path.{◌∙◌, ◌≡◌, ap, refl, sym}
 use lib.ListN.{drop, length, length-drop}
-use borrow.Author.Rules.{rules}
 use borrow.Author.Tests.{eq-eqb, ne_eqb}
 use Rattle.structs.proofs.ScanLaws.{comma_fits, scan_at}
 use Rattle.structs.proofs.StepLaws.{Sized, step_sized}

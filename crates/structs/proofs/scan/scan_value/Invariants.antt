@@ -1,17 +1,7 @@
-use Prim.Native.Nat.{◌+◌, ◌-◌, ◌≤◌, ℕ}
-use native.Mathlib.Omega.{arith}
-use mathlib.Core.List.{List}
-use mathlib.Core.Path.{◌∙◌, ◌≡◌, ap, refl, sym}
-use lib.ListN.{drop, length, length-drop}
-use borrow.Author.Rules.{rules}
-use borrow.Author.Tests.{eq-eqb, ne_eqb}
-use Rattle.structs.proofs.ScanLaws.{comma_fits, scan_at}
-use Rattle.structs.proofs.StepLaws.{Sized, step_sized}
-use Rattle.structs.specs.Kinds.{placed_kind}
-use Rattle.structs.specs.Scan.{after_comma, by_step, scan_from, scan_of, step_of}
-use Rattle.structs.specs.declared.steps.Step.{Step}
-use Rattle.structs.specs.declared.steps.Step.TheVariants.{Closing, Comma, Opening, Plain, Refused}
-use Rattle.text.proofs.Lists.{tail_part, on_part}
+use Prim.Native.Nat.{◌+◌, ◌-◌, ◌≤◌}
+use mathlib.Core.Path.{◌≡◌}
+use lib.ListN.{drop, length}
+use Rattle.structs.specs.Scan.{scan_from, scan_of}
 use Rattle.structs.proofs.scan.scan_value.Given as goal
 
 abbrev pub invariant-loop-n : goal.invariant-loop-n

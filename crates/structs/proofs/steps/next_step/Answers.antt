@@ -1,5 +1,4 @@
 use mathlib.Core.Path.{◌∙◌, ap, sym}
-use borrow.Author.Rules.{rules}
 use borrow.Author.Tests.{le-ltb, lt-ltb}
 use Rattle.structs.specs.Scan.{step_of}
 use Rattle.structs.specs.declared.steps.Step.TheVariants.{Refused}

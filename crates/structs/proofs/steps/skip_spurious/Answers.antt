@@ -1,6 +1,5 @@
 use Rattle.std.proofs.Common.{Ok}
 use native.Mathlib.Omega.{arith}
-use borrow.Author.Rules.{rules}
 use Rattle.structs.proofs.PassLaws.{byte_string_fits, char_fits, gap_fits, string_fits}
 use Rattle.structs.specs.Scan.{past_spurious}
 use Rattle.structs.proofs.steps.skip_spurious.Goals as goal

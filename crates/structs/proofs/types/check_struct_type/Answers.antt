@@ -3,7 +3,6 @@ use mathlib.Core.Bool.{true}
 use mathlib.Core.Path.{◌∙◌, ◌≡◌, ap}
 use lib.Dec.{eqb}
 use lib.ListN.{get_or}
-use borrow.Author.Rules.{rules}
 use Rattle.cursor.proofs.CharLaws.{found_here, lost_here}
 use Rattle.cursor.specs.Cursor.{cursor_at, moved_by}
 use Rattle.cursor.specs.inner.Chars.{consumed_of}

@@ -1,9 +1,6 @@
-use Prim.Native.Nat.{ℕ}
 use native.Mathlib.Omega.{arith}
-use mathlib.Core.List.{List}
 use mathlib.Core.Path.{◌≡◌}
 use lib.ListN.{drop, length}
-use borrow.Author.Rules.{rules}
 use Rattle.names.specs.Identifiers.{skip_identifier_of}
 use Rattle.names.specs.declared.Identifier.{Identifier}
 use Rattle.structs.proofs.TypeLaws.{NameFits, name_at}

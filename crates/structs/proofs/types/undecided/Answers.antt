@@ -1,4 +1,3 @@
-use borrow.Author.Rules.{rules}
 use Rattle.structs.proofs.types.undecided.Goals as goal
 
 pub returns-in-ImpreciseTupleOrNewtype : goal.returns-in-ImpreciseTupleOrNewtype
