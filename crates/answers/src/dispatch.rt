@@ -11,29 +11,25 @@ pub fn answer(
     o: &mut [u8],
     at: usize,
 ) -> usize {
-    if line.len() < 2 {
+    let [letter, b' ', words @ ..] = line else {
         return show::bad(o, at);
-    }
-    if line[1] != b' ' {
-        return show::bad(o, at);
-    }
-    let letter = line[0];
-    match letter {
-        b'P' => edits::repair_any::answer(&line[2..], text, tape, links, o, at),
-        b'p' => edits::repair_text::answer(&line[2..], text, tape, links, o, at),
-        b'R' => tapes::read_any::answer(&line[2..], text, tape, o, at),
-        b'r' => tapes::read_text::answer(&line[2..], text, tape, o, at),
-        b'W' => tapes::walk_any::answer(&line[2..], text, tape, links, o, at),
-        b'w' => tapes::walk_text::answer(&line[2..], text, tape, links, o, at),
-        b'I' => lists::list_any::answer(&line[2..], text, tape, links, numbers, spare, o, at),
-        b'n' => lists::list_text::answer(&line[2..], text, tape, links, numbers, spare, o, at),
-        b'Q' => arrivals::arrive_any::answer(&line[2..], text, tape, o, at),
-        b'q' => arrivals::arrive_text::answer(&line[2..], text, tape, links, o, at),
-        b'C' => cases::any_c::answer(&line[2..], text, tape, spare, o, at),
-        b'c' => cases::c::answer(&line[2..], text, spare, o, at),
-        b'i' => cases::i::answer(&line[2..], text, o, at),
-        b'k' => cases::k::answer(&line[2..], text, o, at),
-        b's' => cases::s::answer(&line[2..], text, o, at),
+    };
+    match *letter {
+        b'P' => edits::repair_any::answer(words, text, tape, links, o, at),
+        b'p' => edits::repair_text::answer(words, text, tape, links, o, at),
+        b'R' => tapes::read_any::answer(words, text, tape, o, at),
+        b'r' => tapes::read_text::answer(words, text, tape, o, at),
+        b'W' => tapes::walk_any::answer(words, text, tape, links, o, at),
+        b'w' => tapes::walk_text::answer(words, text, tape, links, o, at),
+        b'I' => lists::list_any::answer(words, text, tape, links, numbers, spare, o, at),
+        b'n' => lists::list_text::answer(words, text, tape, links, numbers, spare, o, at),
+        b'Q' => arrivals::arrive_any::answer(words, text, tape, o, at),
+        b'q' => arrivals::arrive_text::answer(words, text, tape, links, o, at),
+        b'C' => cases::any_c::answer(words, text, tape, spare, o, at),
+        b'c' => cases::c::answer(words, text, spare, o, at),
+        b'i' => cases::i::answer(words, text, o, at),
+        b'k' => cases::k::answer(words, text, o, at),
+        b's' => cases::s::answer(words, text, o, at),
         _ => show::bad(o, at),
     }
 }

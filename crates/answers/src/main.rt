@@ -83,7 +83,7 @@ fn last(
     o: &mut [u8],
 ) -> State {
     let a = answer(
-        s.passing || rest.len() == 0,
+        s.passing || rest.is_empty(),
         rest,
         text,
         tape,
@@ -193,13 +193,11 @@ fn run(
         passing: false,
         on: true,
     };
-    let mut turns = u64::MAX;
-    while 0 < turns {
+    for _ in 0..u64::MAX {
         s = turn(stdin, s, buf, text, tape, links, numbers, spare, o);
         if !s.on {
             return;
         }
-        turns -= 1;
     }
 }
 

@@ -1,4 +1,5 @@
 -- `Q NUMBERS STATE KEPT PIECE`, word by word. Assumes nothing.
+use Rattle.std.specs.Prelude.{Option, Some, None}
 use Prim.Native.Nat.{ℕ, ◌+◌, ◌-◌, ◌≤◌}
 use native.Mathlib.Omega.{arith}
 use mathlib.Core.Bool.{Bool, true, false, cond}
@@ -23,12 +24,6 @@ use Rattle.words.specs.Number.{decimal_of}
 use Rattle.words.specs.Numbers.{numbers_in, numbers_of}
 use Rattle.words.specs.Said.{by_number, by_hex, by_list}
 use Rattle.words.specs.Split.{first_word, behind_word}
-use Rattle.words.specs.declared.hex.Hex.{Hex}
-use Rattle.words.specs.declared.hex.Hex.TheVariants as hex
-use Rattle.words.specs.declared.list.Count.{Count}
-use Rattle.words.specs.declared.list.Count.TheVariants as count
-use Rattle.words.specs.declared.number.Decimal.{Decimal}
-use Rattle.words.specs.declared.number.Decimal.TheVariants as number
 use Rattle.words.proofs.SaidLaws.{hex_said, tape_said}
 use Rattle.arrivals.specs.Arrives.{end_text}
 use Rattle.arrivals.specs.States.{spoken_by}
@@ -43,21 +38,21 @@ use Rattle.arrivals.proofs.WordLaws.{hex_fits}
 -- ---- the last word
 
 module _ (word : List ℕ) (room : ℕ) where
-  pub last_piece : (n : ℕ) → hex_in word room ≡ hex.Bytes n → last.Piece n ≡ last_of word room
+  pub last_piece : (n : ℕ) → hex_in word room ≡ Some n → last.Piece n ≡ last_of word room
   unfolding last_of
-  last_piece n e = sym (ap (λ (h : Hex). last_by h word) e)
+  last_piece n e = sym (ap (λ (h : Option ℕ). last_by h word) e)
 
-  pub last_end : hex_in word room ≡ hex.Bad → is_end word ≡ true → last.End ≡ last_of word room
+  pub last_end : hex_in word room ≡ None → is_end word ≡ true → last.End ≡ last_of word room
   unfolding last_of
-  last_end e f = sym (ap (λ (h : Hex). last_by h word) e ∙ ap (λ (b : Bool). cond b last.End last.Bad) f)
+  last_end e f = sym (ap (λ (h : Option ℕ). last_by h word) e ∙ ap (λ (b : Bool). cond b last.End last.Bad) f)
 
-  pub last_none : hex_in word room ≡ hex.Bad → is_end word ≡ false → last.Bad ≡ last_of word room
+  pub last_none : hex_in word room ≡ None → is_end word ≡ false → last.Bad ≡ last_of word room
   unfolding last_of
-  last_none e f = sym (ap (λ (h : Hex). last_by h word) e ∙ ap (λ (b : Bool). cond b last.End last.Bad) f)
+  last_none e f = sym (ap (λ (h : Option ℕ). last_by h word) e ∙ ap (λ (b : Bool). cond b last.End last.Bad) f)
 
 module _ (word text : List ℕ) (k : ℕ) where
   -- the room behind the first k
-  pub last_room : (r : Hex) → r ≡ hex_in word (length (take (length text - k) (drop k text))) → r ≡ hex_in word (length text - k)
+  pub last_room : (r : Option ℕ) → r ≡ hex_in word (length (take (length text - k) (drop k text))) → r ≡ hex_in word (length text - k)
   last_room r e = e ∙ ap (λ (s : List ℕ). hex_in word (length s)) (tail_part text k) ∙ ap (hex_in word) (length-drop k text)
 
   pub last_held : (left : List ℕ) → left ≡ over (pairs word) (take (length text - k) (drop k text))
@@ -74,34 +69,34 @@ module _ (word : List ℕ) (kept : ℕ) (tape : List ℕ) where
   abbrev nine : Bool → Spoken
   nine b = cond b (spoken_by (state_of (numbers_of word) kept)) spoken.Bad
 
-  spoken-by : (k : Count) (b : Bool) → numbers_in word (length tape) ≡ k → eqb (length (numbers_of word)) 9 ≡ b
+  spoken-by : (k : Option ℕ) (b : Bool) → numbers_in word (length tape) ≡ k → eqb (length (numbers_of word)) 9 ≡ b
       → spoken_of word kept (length tape) ≡ by_list k spoken.Bad (nine b)
   unfolding spoken_of
   spoken-by k b e f =
-      ap (λ (x : Count). by_list x spoken.Bad (nine (eqb (length (numbers_of word)) 9))) e ∙ ap (λ (x : Bool). by_list k spoken.Bad (nine x)) f
+      ap (λ (x : Option ℕ). by_list x spoken.Bad (nine (eqb (length (numbers_of word)) 9))) e ∙ ap (λ (x : Bool). by_list k spoken.Bad (nine x)) f
 
-  pub no_numbers : numbers_in word (length tape) ≡ count.Bad → spoken.Bad ≡ spoken_of word kept (length tape)
-  no_numbers e = sym (spoken-by count.Bad (eqb (length (numbers_of word)) 9) e refl)
+  pub no_numbers : numbers_in word (length tape) ≡ None → spoken.Bad ≡ spoken_of word kept (length tape)
+  no_numbers e = sym (spoken-by None (eqb (length (numbers_of word)) 9) e refl)
 
-  module _ (n : ℕ) (e : numbers_in word (length tape) ≡ count.Stored n) (stored s : List ℕ) (l : stored ≡ over (numbers_of word) tape) (f : s ≡ take n stored) where
+  module _ (n : ℕ) (e : numbers_in word (length tape) ≡ Some n) (stored s : List ℕ) (l : stored ≡ over (numbers_of word) tape) (f : s ≡ take n stored) where
     same : s ≡ numbers_of word
     same = tape_said word tape stored s n e l f
 
     pub not_nine : (length s ≡ 9 → ⊥) → spoken.Bad ≡ spoken_of word kept (length tape)
     not_nine h =
-        sym (spoken-by (count.Stored n) false e (ap (λ (x : List ℕ). eqb (length x) 9) (sym same) ∙ ne_eqb (length s) 9 h))
+        sym (spoken-by (Some n) false e (ap (λ (x : List ℕ). eqb (length x) 9) (sym same) ∙ ne_eqb (length s) 9 h))
 
     pub nine_said : length s ≡ 9 → (r : Spoken) → r ≡ spoken_by (state_of s kept) → r ≡ spoken_of word kept (length tape)
     nine_said h r p =
         p ∙ ap (λ (x : List ℕ). spoken_by (state_of x kept)) same
-        ∙ sym (spoken-by (count.Stored n) true e (ap (λ (x : List ℕ). eqb (length x) 9) (sym same) ∙ eq-eqb (length s) 9 h))
+        ∙ sym (spoken-by (Some n) true e (ap (λ (x : List ℕ). eqb (length x) 9) (sym same) ∙ eq-eqb (length s) 9 h))
 
 -- ---- what is held
 
 module _ (word : List ℕ) (room k space : ℕ) (h : k + room ≤ space) where
-  holds_by : (x : Hex) → hex_in word room ≡ x → Holds (last_by x word) k space
-  holds_by (hex.Bytes n) e = let fits : n ≤ room = (hex_fits word room n e).1 in omega arith
-  holds_by hex.Bad e = cond_cases (λ (l : Last). Holds l k space) (is_end word) last.End last.Bad (λ t. tt) (λ f. tt)
+  holds_by : (x : Option ℕ) → hex_in word room ≡ x → Holds (last_by x word) k space
+  holds_by (Some n) e = let fits : n ≤ room = (hex_fits word room n e).1 in omega arith
+  holds_by None e = cond_cases (λ (l : Last). Holds l k space) (is_end word) last.End last.Bad (λ t. tt) (λ f. tt)
 
   pub holds_last : (l : Last) → l ≡ last_of word room → Holds l k space
   unfolding last_of
@@ -127,12 +122,12 @@ module _ (word kept text held : List ℕ) (k : ℕ) (f : take k text ≡ kept) (
   abbrev Same : Last → Type 0
   Same l = called_text l a k held room ≡ call_by l a kept (pairs word) room
 
-  called_by : (x : Hex) → hex_in word (length text - k) ≡ x → Same (last_by x word)
-  called_by (hex.Bytes n) h =
+  called_by : (x : Option ℕ) → hex_in word (length text - k) ≡ x → Same (last_by x word)
+  called_by (Some n) h =
       let fits : (n ≡ length (pairs word)) × (n ≤ length text - k) = hex_fits word (length text - k) n h in
       ap (λ (s : List ℕ). piece_line a s n room) (front_both kept (pairs word) text held k f g e n fits.0 fits.1)
       ∙ ap (λ (m : ℕ). piece_line a (kept ++ pairs word) m room) fits.0
-  called_by hex.Bad h =
+  called_by None h =
       cond_cases Same (is_end word) last.End last.Bad
       (λ t. ap (λ (s : List ℕ). end_text (finish_of a s room)) (front_kept kept (pairs word) text held k f g e)) (λ t. refl)
 
@@ -153,23 +148,23 @@ module _ (n : ℕ) (words : List ℕ) (space numbers : ℕ) (out end : List ℕ 
   abbrev line_own : Spoken → Last → List ℕ
   line_own sp l = call_text sp l (pairs kept_word) (pairs last_word) (room_for n numbers)
 
-  abbrev line_by : Hex → List ℕ
+  abbrev line_by : Option ℕ → List ℕ
   line_by h = by_hex h bad_text (line_own (spoken_of (first_word words) (length (pairs kept_word)) numbers) (last_of last_word (space - length (pairs kept_word))))
 
-  line_bad : hex_in kept_word space ≡ hex.Bad → end ≡ put out bad_text → end ≡ put out (state_line n words space numbers)
+  line_bad : hex_in kept_word space ≡ None → end ≡ put out bad_text → end ≡ put out (state_line n words space numbers)
   unfolding state_line
-  line_bad e p = p ∙ sym (ap (λ (h : Hex). put out (line_by h)) e)
+  line_bad e p = p ∙ sym (ap (λ (h : Option ℕ). put out (line_by h)) e)
 
-  line_good : (k : ℕ) → hex_in kept_word space ≡ hex.Bytes k → (sp : Spoken) → sp ≡ spoken_of (first_word words) k numbers
+  line_good : (k : ℕ) → hex_in kept_word space ≡ Some k → (sp : Spoken) → sp ≡ spoken_of (first_word words) k numbers
       → (l : Last) → l ≡ last_of last_word (space - k) → end ≡ put out (line_own sp l) → end ≡ put out (state_line n words space numbers)
   unfolding state_line
   line_good k e sp q l r p =
       p ∙ ap (λ (x : Spoken). put out (line_own x l)) q ∙ ap (λ (x : Last). put out (line_own (spoken_of (first_word words) k numbers) x)) r
       ∙ ap (λ (m : ℕ). put out (line_own (spoken_of (first_word words) m numbers) (last_of last_word (space - m)))) (hex_fits kept_word space k e).0
-      ∙ sym (ap (λ (h : Hex). put out (line_by h)) e)
+      ∙ sym (ap (λ (h : Option ℕ). put out (line_by h)) e)
 
 -- by what the code's calls say
-module _ (n : ℕ) (words text tape two word : List ℕ) (a : two ≡ behind_word words) (b : word ≡ first_word two) (h : Hex) (left : List ℕ)
+module _ (n : ℕ) (words text tape two word : List ℕ) (a : two ≡ behind_word words) (b : word ≡ first_word two) (h : Option ℕ) (left : List ℕ)
     (c : h ≡ hex_in word (length text)) (d : left ≡ over (pairs word) text) (out end : List ℕ × ℕ) where
   abbrev Says : Type 0
   Says = end ≡ put out (state_line n words (length text) (length tape))
@@ -180,11 +175,11 @@ module _ (n : ℕ) (words text tape two word : List ℕ) (a : two ≡ behind_wor
   reads_kept : h ≡ hex_in (first_word (behind_word words)) (length text)
   reads_kept = c ∙ ap (λ (s : List ℕ). hex_in s (length text)) is_kept
 
-  pub over_no_text : h ≡ hex.Bad → end ≡ put out bad_text → Says
+  pub over_no_text : h ≡ None → end ≡ put out bad_text → Says
   over_no_text e p = line_bad n words (length text) (length tape) out end (sym reads_kept ∙ e) p
 
-  module _ (k : ℕ) (e : h ≡ hex.Bytes k) where
-    said_kept : hex_in word (length text) ≡ hex.Bytes k
+  module _ (k : ℕ) (e : h ≡ Some k) where
+    said_kept : hex_in word (length text) ≡ Some k
     said_kept = sym c ∙ e
 
     pub kept_fits : k ≤ length text
@@ -227,15 +222,15 @@ module _ (n : ℕ) (words text tape two word : List ℕ) (a : two ≡ behind_wor
 -- ---- `NUMBERS` before them
 
 module _ (words : List ℕ) (space numbers : ℕ) (out end : List ℕ × ℕ) where
-  abbrev any_by : Decimal → List ℕ
+  abbrev any_by : Option ℕ → List ℕ
   any_by d = by_number d bad_text (λ n. state_line n (behind_word words) space numbers)
 
-  pub any_bad : decimal_of (first_word words) ≡ number.Bad → end ≡ put out bad_text → end ≡ put out (any_line words space numbers)
+  pub any_bad : decimal_of (first_word words) ≡ None → end ≡ put out bad_text → end ≡ put out (any_line words space numbers)
   unfolding any_line
-  any_bad e p = p ∙ sym (ap (λ (d : Decimal). put out (any_by d)) e)
+  any_bad e p = p ∙ sym (ap (λ (d : Option ℕ). put out (any_by d)) e)
 
-  pub any_good : (n : ℕ) → decimal_of (first_word words) ≡ number.Value n → (rest : List ℕ) → rest ≡ behind_word words
+  pub any_good : (n : ℕ) → decimal_of (first_word words) ≡ Some n → (rest : List ℕ) → rest ≡ behind_word words
       → end ≡ put out (state_line n rest space numbers) → end ≡ put out (any_line words space numbers)
   unfolding any_line
   any_good n e rest f p =
-      p ∙ ap (λ (s : List ℕ). put out (state_line n s space numbers)) f ∙ sym (ap (λ (d : Decimal). put out (any_by d)) e)
+      p ∙ ap (λ (s : List ℕ). put out (state_line n s space numbers)) f ∙ sym (ap (λ (d : Option ℕ). put out (any_by d)) e)

@@ -1,4 +1,5 @@
 -- `q CUTS HEX`: the pieces of a text, one after another. Assumes nothing.
+use Rattle.std.specs.Prelude.{Option, Some, None}
 use Prim.Native.Nat.{ℕ, ◌+◌, ◌-◌, ◌<◌, ◌≤◌}
 use native.Mathlib.Omega.{arith}
 use mathlib.Core.Bool.{Bool, true, false, cond}
@@ -23,10 +24,6 @@ use Rattle.words.specs.Hex.{hex_in, pairs}
 use Rattle.words.specs.Numbers.{numbers_in, numbers_of}
 use Rattle.words.specs.Said.{by_hex, by_list}
 use Rattle.words.specs.Split.{first_word, behind_word}
-use Rattle.words.specs.declared.hex.Hex.{Hex}
-use Rattle.words.specs.declared.hex.Hex.TheVariants as hex
-use Rattle.words.specs.declared.list.Count.{Count}
-use Rattle.words.specs.declared.list.Count.TheVariants as count
 use Rattle.arrivals.specs.Arrives.{piece_text, end_text, next_of, kept_behind}
 use Rattle.arrivals.specs.Texts.{sum_of, pieces_of, answers_from, text_line}
 use Rattle.arrivals.specs.declared.arrive_text.Stand.{Stand}
@@ -163,39 +160,39 @@ module _ (words : List ℕ) (space numbers lengths : ℕ) (out end : List ℕ ×
   abbrev text_own : List ℕ → List ℕ → List ℕ
   text_own cuts s = answers_from (pieces_of cuts s) begun [] (room_of numbers)
 
-  abbrev text_by : Count → Hex → Bool → List ℕ
+  abbrev text_by : Option ℕ → Option ℕ → Bool → List ℕ
   text_by c h b =
       by_list c bad_text (by_hex h bad_text (cond b (text_own (numbers_of (first_word words)) (pairs (behind_word words))) bad_text))
 
-  text_is : (c : Count) (h : Hex) (b : Bool) → numbers_in (first_word words) lengths ≡ c → hex_in (behind_word words) space ≡ h
+  text_is : (c : Option ℕ) (h : Option ℕ) (b : Bool) → numbers_in (first_word words) lengths ≡ c → hex_in (behind_word words) space ≡ h
       → leb (sum_of (numbers_of (first_word words))) (length (pairs (behind_word words))) ≡ b → text_line words space numbers lengths ≡ text_by c h b
   unfolding text_line
   text_is c h b e f g =
-      ap (λ (x : Count). text_by x (hex_in (behind_word words) space) (leb (sum_of (numbers_of (first_word words))) (length (pairs (behind_word words))))) e
-      ∙ ap (λ (x : Hex). text_by c x (leb (sum_of (numbers_of (first_word words))) (length (pairs (behind_word words))))) f ∙ ap (text_by c h) g
+      ap (λ (x : Option ℕ). text_by x (hex_in (behind_word words) space) (leb (sum_of (numbers_of (first_word words))) (length (pairs (behind_word words))))) e
+      ∙ ap (λ (x : Option ℕ). text_by c x (leb (sum_of (numbers_of (first_word words))) (length (pairs (behind_word words))))) f ∙ ap (text_by c h) g
 
   abbrev Says : Type 0
   Says = end ≡ put out (text_line words space numbers lengths)
 
-  pub no_cuts : numbers_in (first_word words) lengths ≡ count.Bad → end ≡ put out bad_text → Says
+  pub no_cuts : numbers_in (first_word words) lengths ≡ None → end ≡ put out bad_text → Says
   no_cuts e p =
-      p ∙ sym (ap (put out) (text_is count.Bad (hex_in (behind_word words) space) (leb (sum_of (numbers_of (first_word words))) (length (pairs (behind_word words)))) e refl refl))
+      p ∙ sym (ap (put out) (text_is None (hex_in (behind_word words) space) (leb (sum_of (numbers_of (first_word words))) (length (pairs (behind_word words)))) e refl refl))
 
-  module _ (k : ℕ) (e : numbers_in (first_word words) lengths ≡ count.Stored k) where
-    pub no_text : hex_in (behind_word words) space ≡ hex.Bad → end ≡ put out bad_text → Says
+  module _ (k : ℕ) (e : numbers_in (first_word words) lengths ≡ Some k) where
+    pub no_text : hex_in (behind_word words) space ≡ None → end ≡ put out bad_text → Says
     no_text f p =
-        p ∙ sym (ap (put out) (text_is (count.Stored k) hex.Bad (leb (sum_of (numbers_of (first_word words))) (length (pairs (behind_word words)))) e f refl))
+        p ∙ sym (ap (put out) (text_is (Some k) None (leb (sum_of (numbers_of (first_word words))) (length (pairs (behind_word words)))) e f refl))
 
-    module _ (n : ℕ) (f : hex_in (behind_word words) space ≡ hex.Bytes n) (cuts : List ℕ) (c : cuts ≡ numbers_of (first_word words)) (b : Bool) (g : b ≡ leb (sum_of cuts) n) where
+    module _ (n : ℕ) (f : hex_in (behind_word words) space ≡ Some n) (cuts : List ℕ) (c : cuts ≡ numbers_of (first_word words)) (b : Bool) (g : b ≡ leb (sum_of cuts) n) where
       same_test : leb (sum_of (numbers_of (first_word words))) (length (pairs (behind_word words))) ≡ b
       same_test =
           ap (λ (x : List ℕ). leb (sum_of x) (length (pairs (behind_word words)))) (sym c)
           ∙ ap (leb (sum_of cuts)) (sym (hex_fits (behind_word words) space n f).0) ∙ sym g
 
       pub too_long : b ≡ false → end ≡ put out bad_text → Says
-      too_long z p = p ∙ sym (ap (put out) (text_is (count.Stored k) (hex.Bytes n) false e f (same_test ∙ z)))
+      too_long z p = p ∙ sym (ap (put out) (text_is (Some k) (Some n) false e f (same_test ∙ z)))
 
       pub line_goes : b ≡ true → (s : List ℕ) → s ≡ pairs (behind_word words) → end ≡ put out (text_own cuts s) → Says
       line_goes z s d p =
           p ∙ ap (λ (x : List ℕ). put out (text_own x s)) c ∙ ap (λ (x : List ℕ). put out (text_own (numbers_of (first_word words)) x)) d
-          ∙ sym (ap (put out) (text_is (count.Stored k) (hex.Bytes n) true e f (same_test ∙ z)))
+          ∙ sym (ap (put out) (text_is (Some k) (Some n) true e f (same_test ∙ z)))

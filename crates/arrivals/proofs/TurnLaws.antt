@@ -43,6 +43,13 @@ least_taken k m s e =
     min_cases k m _ (λ p q. ap (λ (i : ℕ). take i s) q)
     λ p q. ap (λ (i : ℕ). take i s) q ∙ take_all m s (omega (arith, e)) ∙ sym (take_all k s (omega (arith, e, p)))
 
+-- where there is room for all
+pub over_whole : (s d : List ℕ) → length s ≤ length d → over s d ≡ s ++ drop (length s) d
+unfolding over
+over_whole [] d h = refl
+over_whole (a ∷ s) [] h = absurd (not-suc-le-zero h)
+over_whole (a ∷ s) (b ∷ d) h = ap (λ (l : List ℕ). a ∷ l) (over_whole s d (le_of_suc-le-suc h))
+
 over_dropped : (s d : List ℕ) (k : ℕ) → length s ≤ k → drop k (over s d) ≡ drop k d
 unfolding over
 over_dropped [] d k h = refl

@@ -1,6 +1,6 @@
 -- `Q NUMBERS STATE KEPT PIECE`: one call over any state, with a tape of so many numbers; `ANSWER -> STATE KEPT` for a piece, the answer alone for the end.
 use Rattle.std.specs.Prelude.{Ok, Err}
-use Rattle.std.specs.Prelude.{ℕ, ◌-◌, min, Bool, cond, ◌&&◌, List, [], ◌++◌, eqb, length, get_or}
+use Rattle.std.specs.Prelude.{ℕ, ◌-◌, min, Bool, cond, ◌&&◌, List, [], ◌++◌, eqb, length, get_or, Option, Some, None}
 use Rattle.pieces.specs.Ends.{finish_of}
 use Rattle.pieces.specs.Pieces.{Outcome, kept_in, piece_of}
 use Rattle.pieces.specs.declared.state.Arrival.{Arrival}
@@ -12,8 +12,6 @@ use Rattle.words.specs.Hex.{hex_in, pairs}
 use Rattle.words.specs.Number.{decimal_of}
 use Rattle.words.specs.Said.{by_number, by_bytes, by_numbers}
 use Rattle.words.specs.Split.{first_word, behind_word}
-use Rattle.words.specs.declared.hex.Hex.{Hex}
-use Rattle.words.specs.declared.hex.Hex.TheVariants as hex
 use Rattle.arrivals.specs.Arrives.{piece_text, end_text}
 use Rattle.arrivals.specs.States.{spoken_by, stands_text}
 use Rattle.arrivals.specs.declared.arrive_any.Last.{Last}
@@ -28,9 +26,9 @@ unfoldable pub is_end : List ℕ → Bool
 is_end s = eqb (length s) 3 && (eqb (get_or s 0 0) 101 && (eqb (get_or s 1 0) 110 && eqb (get_or s 2 0) 100))
 
 -- The last word: bytes, for which there is room, or `end`.
-abbrev pub last_by : Hex → List ℕ → Last
-last_by (hex.Bytes n) word = last.Piece n
-last_by hex.Bad word = cond (is_end word) last.End last.Bad
+abbrev pub last_by : Option ℕ → List ℕ → Last
+last_by (Some n) word = last.Piece n
+last_by None word = cond (is_end word) last.End last.Bad
 
 unfoldable pub last_of : List ℕ → ℕ → Last
 last_of word room = last_by (hex_in word room) word

@@ -14,9 +14,6 @@ use crate::{said, states};
 use lent::numbers;
 use pieces::state::Arrival;
 use text::Refusal;
-use words::hex::Hex;
-use words::list::Count;
-use words::number::Decimal;
 use words::{hex, list, number};
 
 // What the last word says: a piece of so many bytes, the end of the text, or the line is no case.
@@ -30,19 +27,7 @@ enum Last {
 fn is_end(s: &[u8]) -> bool
     ensures { result ≡ is_end s.now }
 {
-    if s.len() != 3 {
-        return false;
-    }
-    if s[0] != b'e' {
-        return false;
-    }
-    if s[1] != b'n' {
-        return false;
-    }
-    if s[2] != b'd' {
-        return false;
-    }
-    true
+    s == b"end".as_slice()
 }
 
 // The bytes that the last word says, behind the first k.
@@ -51,24 +36,20 @@ fn last_of(word: &[u8], k: usize, text: &mut [u8]) -> Last
     ensures value { result ≡ last_of word.now (length text.old - k) }
     ensures text_after { text.new ≡ take k text.old ++ over (pairs word.now) (drop k text.old) }
 {
-    let bytes = hex::bytes(word, &mut text[k..]);
-    match bytes {
-        Hex::Bytes(n) => Last::Piece(n),
-        Hex::Bad => {
-            if is_end(word) {
-                return Last::End;
-            }
-            Last::Bad
-        }
+    if let Some(n) = hex::bytes(word, &mut text[k..]) {
+        return Last::Piece(n);
     }
+    if is_end(word) {
+        return Last::End;
+    }
+    Last::Bad
 }
 
 // The state that a word says, its numbers to the front of the tape.
 fn spoken(word: &[u8], kept: usize, tape: &mut [u32]) -> Spoken
     ensures { result ≡ spoken_of word.now kept (length tape.old) }
 {
-    let listed = list::numbers(word, tape);
-    let Count::Stored(n) = listed else {
+    let Some(n) = list::numbers(word, tape) else {
         return Spoken::Bad;
     };
     let numbers = list::first(&tape[..], n);
@@ -171,8 +152,7 @@ fn over_state(
         (state_line room words.now (length text.old) (length tape.old)) }
 {
     let two = words::behind(words);
-    let bytes = hex::bytes(words::word(two), text);
-    let Hex::Bytes(k) = bytes else {
+    let Some(k) = hex::bytes(words::word(two), text) else {
         return show::bad(o, at);
     };
     let last = last_of(words::behind(two), k, text);
@@ -189,8 +169,7 @@ pub fn answer(words: &[u8], text: &mut [u8], tape: &mut [u32], o: &mut [u8], at:
     ensures { (o.new, result) ≡ put (o.old, at)
         (any_line words.now (length text.old) (length tape.old)) }
 {
-    let first = number::decimal_of(words::word(words));
-    let Decimal::Value(numbers) = first else {
+    let Some(numbers) = number::decimal_of(words::word(words)) else {
         return show::bad(o, at);
     };
     over_state(numbers as usize, words::behind(words), text, tape, o, at)

@@ -13,8 +13,6 @@ ghost use Rattle.arrivals.specs.inner.Stands.{next_by, said_text, Turned};
 use crate::said;
 use lines::out;
 use pieces::state::{Arrival, Arrived};
-use words::hex::Hex;
-use words::list::Count;
 use words::{hex, list};
 
 // The state behind a piece, and the place in the output.
@@ -38,8 +36,8 @@ fn fit(cuts: &[u32], n: usize) -> bool
     ensures { result ≡ leb (sum_of cuts.now) n }
 {
     let mut left = n;
-    for i in 0..cuts.len() {
-        let k = cuts[i] as usize;
+    for cut in cuts {
+        let k = *cut as usize;
         if left < k {
             return false;
         }
@@ -53,11 +51,7 @@ fn shift(s: &mut [u8], from: usize, n: usize)
     requires { from + n ≤ length s.old }
     ensures { s.new ≡ over (take n (drop from s.old)) s.old }
 {
-    let mut i = 0;
-    while i < n {
-        s[i] = s[from + i];
-        i += 1;
-    }
+    s.copy_within(from..from + n, 0);
 }
 
 // The state behind a piece: as it was where the piece was not taken.
@@ -126,8 +120,8 @@ fn pieces(
         from: 0,
         at,
     };
-    for i in 0..cuts.len() {
-        s = turn(s, cuts[i] as usize, text, tape, o);
+    for cut in cuts {
+        s = turn(s, *cut as usize, text, tape, o);
     }
     let rest = turn(s, n - s.from, text, tape, o);
     end(rest, &text[..], tape, o)
@@ -155,13 +149,11 @@ pub fn answer(
     ensures { (o.new, result) ≡ put (o.old, at)
         (text_line words.now (length text.old) (length tape.old) (length links.old)) }
 {
-    let listed = list::numbers(words::word(words), links);
-    let Count::Stored(k) = listed else {
+    let Some(k) = list::numbers(words::word(words), links) else {
         return show::bad(o, at);
     };
     let cuts = list::first(&links[..], k);
-    let bytes = hex::bytes(words::behind(words), text);
-    let Hex::Bytes(n) = bytes else {
+    let Some(n) = hex::bytes(words::behind(words), text) else {
         return show::bad(o, at);
     };
     if !fit(cuts, n) {

@@ -21,7 +21,7 @@ returns-in_default c =
     let links : List ℕ = c.args.links.now in
     let first : List ℕ = first_word words in
     let rest : List ℕ = behind_word words in
-    no_cuts words (length text) (length c.args.tape.now) (length links) (c.args.o.now, c.args.at) _ (said (λ (w : List ℕ). numbers_in w (length links)) _ first _ _ c.numbers-listed.ensures.value c.word.ensures c.in_default.is) c.bad.ensures
+    no_cuts words (length text) (length c.args.tape.now) (length links) (c.args.o.now, c.args.at) _ (said (λ (w : List ℕ). numbers_in w (length links)) _ first _ _ c.numbers.ensures.value c.word.ensures c.in_default.is) c.bad.ensures
 
 pub returns-in_default-bytes : goal.returns-in_default-bytes
 returns-in_default-bytes c =
@@ -30,7 +30,7 @@ returns-in_default-bytes c =
     let links : List ℕ = c.args.links.now in
     let first : List ℕ = first_word words in
     let rest : List ℕ = behind_word words in
-    no_text words (length text) (length c.args.tape.now) (length links) (c.args.o.now, c.args.at) _ c.in-Stored.k (said (λ (w : List ℕ). numbers_in w (length links)) _ first _ _ c.numbers-listed.ensures.value c.word.ensures c.in-Stored.is) (said (λ (w : List ℕ). hex_in w (length text)) _ rest _ _ c.bytes-bytes.ensures.value c.behind.ensures c.in_default-bytes.is) c.bad-in_default-bytes.ensures
+    no_text words (length text) (length c.args.tape.now) (length links) (c.args.o.now, c.args.at) _ c.in-Some.k (said (λ (w : List ℕ). numbers_in w (length links)) _ first _ _ c.numbers.ensures.value c.word.ensures c.in-Some.is) (said (λ (w : List ℕ). hex_in w (length text)) _ rest _ _ c.bytes.ensures.value c.behind.ensures c.in_default-bytes.is) c.bad-in_default-bytes.ensures
 
 pub returns-then-not-fit : goal.returns-then-not-fit
 returns-then-not-fit c =
@@ -39,7 +39,7 @@ returns-then-not-fit c =
     let links : List ℕ = c.args.links.now in
     let first : List ℕ = first_word words in
     let rest : List ℕ = behind_word words in
-    too_long words (length text) (length c.args.tape.now) (length links) (c.args.o.now, c.args.at) _ c.in-Stored.k (said (λ (w : List ℕ). numbers_in w (length links)) _ first _ _ c.numbers-listed.ensures.value c.word.ensures c.in-Stored.is) c.in-Bytes.n (said (λ (w : List ℕ). hex_in w (length text)) _ rest _ _ c.bytes-bytes.ensures.value c.behind.ensures c.in-Bytes.is) _ (tape_said first links _ _ c.in-Stored.k (said (λ (w : List ℕ). numbers_in w (length links)) _ first _ _ c.numbers-listed.ensures.value c.word.ensures c.in-Stored.is) (c.numbers-listed.ensures.tape_after ∙ ap (λ (w : List ℕ). over (numbers_of w) links) c.word.ensures) c.first-cuts.ensures) _ c.fit.ensures c.if-not-fit.true c.bad-then-not-fit.ensures
+    too_long words (length text) (length c.args.tape.now) (length links) (c.args.o.now, c.args.at) _ c.in-Some.k (said (λ (w : List ℕ). numbers_in w (length links)) _ first _ _ c.numbers.ensures.value c.word.ensures c.in-Some.is) c.in-Some-bytes.n (said (λ (w : List ℕ). hex_in w (length text)) _ rest _ _ c.bytes.ensures.value c.behind.ensures c.in-Some-bytes.is) _ (tape_said first links _ _ c.in-Some.k (said (λ (w : List ℕ). numbers_in w (length links)) _ first _ _ c.numbers.ensures.value c.word.ensures c.in-Some.is) (c.numbers.ensures.tape_after ∙ ap (λ (w : List ℕ). over (numbers_of w) links) c.word.ensures) c.first-cuts.ensures) _ c.fit.ensures c.if-not-fit.true c.bad-then-not-fit.ensures
 
 pub pieces-requires : goal.pieces-requires
 pieces-requires c =
@@ -48,7 +48,7 @@ pieces-requires c =
     let links : List ℕ = c.args.links.now in
     let first : List ℕ = first_word words in
     let rest : List ℕ = behind_word words in
-    (leb-true _ _ (sym c.fit.ensures ∙ c.if-not-fit.false), omega (arith, (hex_fits rest (length text) c.in-Bytes.n (said (λ (w : List ℕ). hex_in w (length text)) _ rest _ _ c.bytes-bytes.ensures.value c.behind.ensures c.in-Bytes.is)).1, c.bytes-bytes.auto.buf))
+    (leb-true _ _ (sym c.fit.ensures ∙ c.if-not-fit.false), omega (arith, (hex_fits rest (length text) c.in-Some-bytes.n (said (λ (w : List ℕ). hex_in w (length text)) _ rest _ _ c.bytes.ensures.value c.behind.ensures c.in-Some-bytes.is)).1, c.bytes.auto.buf))
 
 pub returns : goal.returns
 returns c =
@@ -57,6 +57,6 @@ returns c =
     let links : List ℕ = c.args.links.now in
     let first : List ℕ = first_word words in
     let rest : List ℕ = behind_word words in
-    line_goes words (length text) (length c.args.tape.now) (length links) (c.args.o.now, c.args.at) _ c.in-Stored.k (said (λ (w : List ℕ). numbers_in w (length links)) _ first _ _ c.numbers-listed.ensures.value c.word.ensures c.in-Stored.is) c.in-Bytes.n (said (λ (w : List ℕ). hex_in w (length text)) _ rest _ _ c.bytes-bytes.ensures.value c.behind.ensures c.in-Bytes.is) _ (tape_said first links _ _ c.in-Stored.k (said (λ (w : List ℕ). numbers_in w (length links)) _ first _ _ c.numbers-listed.ensures.value c.word.ensures c.in-Stored.is) (c.numbers-listed.ensures.tape_after ∙ ap (λ (w : List ℕ). over (numbers_of w) links) c.word.ensures) c.first-cuts.ensures) _ c.fit.ensures c.if-not-fit.false _
-    (ap (take c.in-Bytes.n) (c.bytes-bytes.ensures.buf_after ∙ ap (λ (w : List ℕ). over (pairs w) text) c.behind.ensures) ∙ hex_said rest text c.in-Bytes.n (said (λ (w : List ℕ). hex_in w (length text)) _ rest _ _ c.bytes-bytes.ensures.value c.behind.ensures c.in-Bytes.is))
+    line_goes words (length text) (length c.args.tape.now) (length links) (c.args.o.now, c.args.at) _ c.in-Some.k (said (λ (w : List ℕ). numbers_in w (length links)) _ first _ _ c.numbers.ensures.value c.word.ensures c.in-Some.is) c.in-Some-bytes.n (said (λ (w : List ℕ). hex_in w (length text)) _ rest _ _ c.bytes.ensures.value c.behind.ensures c.in-Some-bytes.is) _ (tape_said first links _ _ c.in-Some.k (said (λ (w : List ℕ). numbers_in w (length links)) _ first _ _ c.numbers.ensures.value c.word.ensures c.in-Some.is) (c.numbers.ensures.tape_after ∙ ap (λ (w : List ℕ). over (numbers_of w) links) c.word.ensures) c.first-cuts.ensures) _ c.fit.ensures c.if-not-fit.false _
+    (ap (take c.in-Some-bytes.n) (c.bytes.ensures.buf_after ∙ ap (λ (w : List ℕ). over (pairs w) text) c.behind.ensures) ∙ hex_said rest text c.in-Some-bytes.n (said (λ (w : List ℕ). hex_in w (length text)) _ rest _ _ c.bytes.ensures.value c.behind.ensures c.in-Some-bytes.is))
     c.pieces.ensures

@@ -1,4 +1,4 @@
-use Prim.Native.Nat.{◌+◌, ◌-◌, ◌≤◌}
+use Prim.Native.Nat.{◌+◌, ◌≤◌}
 use mathlib.Core.List.{[]}
 use mathlib.Core.Path.{◌≡◌}
 use lib.ListN.{length, take, drop}
@@ -9,12 +9,9 @@ use Rattle.arrivals.specs.Texts.{sum_of, pieces_of, answers_from}
 use Rattle.arrivals.proofs.TextLaws.{left_text}
 use Rattle.arrivals.proofs.arrive_text.pieces.Given as goal
 
-abbrev pub invariant-loop-i : goal.invariant-loop-i
-invariant-loop-i l =
-    (l.i-end ≡ length l.cuts) × (length l.text ≡ length l.initial.text) × (length l.tape ≡ length l.initial.tape) × (length l.o ≡ length l.initial.o) × (l.s.kept ≤ l.s.from)
-    × (l.s.from + sum_of (drop l.i l.cuts) ≤ l.n)
-    × (put (l.o, l.s.at) (left_text (drop l.i l.cuts) l.n l.s l.text (room_of (length l.initial.tape)))
+abbrev pub invariant-loop-cut : goal.invariant-loop-cut
+invariant-loop-cut l =
+    (length l.text ≡ length l.initial.text) × (length l.tape ≡ length l.initial.tape) × (length l.o ≡ length l.initial.o) × (l.s.kept ≤ l.s.from)
+    × (l.s.from + sum_of (drop l.cut-index l.cuts) ≤ l.n)
+    × (put (l.o, l.s.at) (left_text (drop l.cut-index l.cuts) l.n l.s l.text (room_of (length l.initial.tape)))
     ≡ put (l.initial.o, l.at) (answers_from (pieces_of l.cuts (take l.n l.initial.text)) begun [] (room_of (length l.initial.tape))))
-
-abbrev pub decreases-loop-i : goal.decreases-loop-i
-decreases-loop-i l = l.i-end - l.i

@@ -1,29 +1,19 @@
-use Prim.Native.Nat.{ℕ, ◌+◌}
+use Prim.Native.Nat.{ℕ, ◌+◌, ◌-◌}
 use native.Mathlib.Omega.{arith}
-use mathlib.Core.List.{List}
-use mathlib.Core.Path.{◌≡◌, refl, ap, ◌∙◌}
-use lib.ListN.{get_or, take, drop, set}
-use Rattle.lines.specs.Over.{over}
-use Rattle.lines.proofs.Laws.{shift_more}
-use borrow.Author.Rules.{rules}
+use mathlib.Core.List.{List, ◌++◌}
+use mathlib.Core.Path.{◌≡◌, sym, ap, ◌∙◌}
+use lib.ListN.{length, take, drop, length-drop}
+use lib.Seq.{paste, length-take-le}
+use Rattle.arrivals.proofs.TurnLaws.{over_whole}
 use Rattle.arrivals.proofs.arrive_text.shift.Goals as goal
-
-pub loop-i-init : goal.loop-i-init
-unfolding over
-loop-i-init c = (search rules, refl, refl)
-
-pub loop-i-preserved : goal.loop-i-preserved
-loop-i-preserved c =
-    let d : List ℕ = c.args.s.now in
-    let from : ℕ = c.args.from in
-    let i : ℕ = c.loop-i.i in (
-      search rules,
-      search rules,
-      ap (λ (l : List ℕ). set l i (get_or l (from + i) 0)) c.loop-i.invariant.2 ∙ shift_more d from i (omega arith),
-    )
 
 pub returns : goal.returns
 returns c =
     let d : List ℕ = c.args.s.now in
-    let all : c.loop-i.i ≡ c.args.n = omega arith in
-    c.loop-i.invariant.2 ∙ ap (λ (k : ℕ). over (take k (drop c.args.from d)) d) all
+    let part : List ℕ = take c.args.n (drop c.args.from d) in
+    let many : c.args.from + c.args.n - c.args.from ≡ c.args.n = omega arith in
+    let zero_behind : 0 + c.args.n ≡ c.args.n = omega arith in
+    let long : length part ≡ c.args.n = length-take-le c.args.n (drop c.args.from d) (omega (arith, length-drop c.args.from d)) in
+    c.copy_within.ensures.after ∙ ap (paste d 0 (drop c.args.from d)) many
+    ∙ ap (λ (m : ℕ). part ++ drop m d) (zero_behind)
+    ∙ sym (over_whole part d (omega (arith, long)) ∙ ap (λ (m : ℕ). part ++ drop m d) long)
