@@ -1,6 +1,6 @@
 -- How far strings, chars and byte literals reach: `string_bounded`, `byte_string_bounded`, `char_bounded`, `byte_bounded`. Assumes nothing.
 use Rattle.std.proofs.Common.{Ok, Err}
-use Rattle.text.specs.Refusals.{Told}
+use Rattle.text.specs.Refusals.{Told, expected_byte_string, expected_string, expected_string_end, placed_behind}
 use Prim.Native.Nat.{◌+◌, ◌<◌, ◌≤◌, suc, zero, ℕ}
 use native.Mathlib.Omega.{arith}
 use mathlib.Core.Bool.{Bool, ◌&&◌, ◌||◌, cond, false}
@@ -30,7 +30,6 @@ use Rattle.text.proofs.Lists.{head_at}
 use Rattle.text.proofs.RunLaws.{run_le}
 use Rattle.text.proofs.Utf8Agree.{char_len_le}
 use Rattle.text.proofs.Utf8Laws.{char_len_ascii}
-use Rattle.text.specs.Refusals.{expected_byte_string, expected_string, expected_string_end, placed_behind}
 use Rattle.text.specs.Runs.{ascii, run}
 use Rattle.text.specs.Utf8.{Scalar, char_len, code_of}
 use Rattle.text.specs.declared.refusal.Refusal.{Refusal}

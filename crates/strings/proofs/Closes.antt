@@ -1,7 +1,7 @@
 -- Accepted strings, chars and byte literals are decided by their own bytes: `string_closed`, `byte_string_closed`, `char_closed`, `byte_closed` say that
 -- nothing behind them changes the answer. Assumes nothing.
 use Rattle.std.proofs.Common.{Ok, Err}
-use Rattle.text.specs.Refusals.{Told}
+use Rattle.text.specs.Refusals.{Told, invalid_escape, expected_byte_literal, expected_char}
 use Rattle.strings.specs.declared.literal.Literal.{Literal}
 use Prim.Native.Nat.{◌+◌, ◌-◌, ◌<◌, ◌≤◌, suc, zero, ℕ}
 use native.Mathlib.Omega.{arith}
@@ -38,7 +38,6 @@ use Rattle.text.proofs.Choices.{bool_cases, cond_cases, either, lt_or_le}
 use Rattle.text.proofs.Utf8Agree.{Head, char_scalar, char_len_char, decode_encode, head_view}
 use Rattle.text.proofs.Utf8Agree.Head.{a_char, no_char}
 use Rattle.text.specs.Classes.{continuation_blank}
-use Rattle.text.specs.Refusals.{invalid_escape, expected_byte_literal, expected_char}
 use Rattle.text.specs.declared.reason.EscapeReason.TheVariants.{UnknownLetter}
 use Rattle.text.specs.Runs.{run}
 use Rattle.text.specs.Utf8.{char_len, code_of}

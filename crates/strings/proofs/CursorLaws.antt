@@ -1,6 +1,6 @@
 -- Chars and byte literals read by a cursor: each step answers what their definitions do. Assumes nothing.
 use Rattle.std.proofs.Common.{Ok, Err}
-use Rattle.text.specs.Refusals.{Told}
+use Rattle.text.specs.Refusals.{Told, expected_byte_literal, expected_char, invalid_escape}
 use Prim.Native.Nat.{◌+◌, ◌<◌, ◌≤◌, ℕ}
 use native.Mathlib.Omega.{arith}
 use mathlib.Core.Bool.{false, true}
@@ -23,7 +23,6 @@ use Rattle.escapes.specs.declared.answers.Mode.TheVariants.{Char, Bytes}
 use Rattle.strings.proofs.Wholes.{none_here}
 use Rattle.strings.specs.Chars.{by_byte_escape, by_char_escape, byte_ends, byte_of, char_ends, char_of}
 use Rattle.text.proofs.Choices.{bool_cases, either, lt_or_le}
-use Rattle.text.specs.Refusals.{expected_byte_literal, expected_char, invalid_escape}
 use Rattle.text.specs.declared.reason.EscapeReason.TheVariants.{UnicodeInByteLiteral}
 use Rattle.text.specs.Utf8.{char_len}
 

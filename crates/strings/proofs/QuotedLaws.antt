@@ -1,6 +1,6 @@
 -- Laws of quoted strings: what a body comes to, piece by piece. Assumes nothing.
 use Rattle.std.proofs.Common.{Ok, Err}
-use Rattle.text.specs.Refusals.{Told}
+use Rattle.text.specs.Refusals.{Told, expected_string_end, placed_behind, expected_byte_string}
 use Rattle.strings.specs.declared.literal.Literal.{Literal}
 use Prim.Native.Nat.{◌+◌, ◌<◌, ◌≤◌, ℕ, suc, zero}
 use native.Mathlib.Omega.{arith}
@@ -23,7 +23,6 @@ use Rattle.strings.specs.declared.pieces.Piece.TheVariants.{Backslash, Plain, Qu
 use Rattle.strings.specs.declared.pieces.Piece.TheVariants as pieces
 use Rattle.text.proofs.Choices.{or_false, or_true, cond_cases, bool_cases, either}
 use Rattle.text.proofs.Lists.{head_at}
-use Rattle.text.specs.Refusals.{expected_string_end, placed_behind, expected_byte_string}
 use Rattle.text.specs.Runs.{run}
 use Rattle.text.specs.declared.refusal.Refusal.{Refusal}
 

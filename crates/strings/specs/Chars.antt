@@ -1,9 +1,7 @@
 -- Chars and byte literals (document 01, modules 3 and 4): "in a char only one [`\x`]; in byte literals any byte. `\u` in a byte literal is 13, behind its
 -- `}`." 6: the text ends where a character is needed. 14: char expected. 15: byte literal expected.
-use Rattle.std.specs.Prelude.{Ok, Err}
-use Rattle.text.specs.Refusals.{Told}
-use Rattle.std.specs.Prelude.{ℕ, ◌+◌, List, cond, ◌&&◌, length, get_or, drop, eqb, ltb}
-use Rattle.text.specs.Refusals.{placed_behind, eof, invalid_escape, expected_char, expected_byte_literal}
+use Rattle.std.specs.Prelude.{Ok, Err, ℕ, ◌+◌, List, cond, ◌&&◌, length, get_or, drop, eqb, ltb}
+use Rattle.text.specs.Refusals.{Told, placed_behind, eof, invalid_escape, expected_char, expected_byte_literal}
 use Rattle.text.specs.declared.reason.EscapeReason.TheVariants.{UnicodeInByteLiteral}
 use Rattle.text.specs.Utf8.{char_len, code_of}
 use Rattle.escapes.specs.declared.answers.Mode.TheVariants.{Char, Bytes}

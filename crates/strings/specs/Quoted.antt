@@ -1,8 +1,6 @@
 -- Quoted strings and byte strings (document 01, module 4): "The closing quote is searched for before any escape is judged."
-use Rattle.std.specs.Prelude.{Ok, Err}
-use Rattle.text.specs.Refusals.{Told}
-use Rattle.std.specs.Prelude.{ℕ, ◌+◌, List, Bool, false, cond, ◌||◌, length, drop, ltb}
-use Rattle.text.specs.Refusals.{placed_behind, expected_string_end}
+use Rattle.std.specs.Prelude.{Ok, Err, ℕ, ◌+◌, List, Bool, false, cond, ◌||◌, length, drop, ltb}
+use Rattle.text.specs.Refusals.{Told, placed_behind, expected_string_end}
 use Rattle.text.specs.Runs.{run}
 use Rattle.escapes.specs.declared.answers.Mode.{Mode}
 use Rattle.strings.specs.declared.literal.Literal.{Literal}

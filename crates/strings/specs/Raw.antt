@@ -1,10 +1,8 @@
 -- Raw strings and raw byte strings (document 01, module 4): "A raw string ends at the first quote with its number of hashes."
-use Rattle.std.specs.Prelude.{Ok, Err}
-use Rattle.text.specs.Refusals.{Told}
+use Rattle.std.specs.Prelude.{Ok, Err, ℕ, suc, ◌+◌, ◌-◌, List, [], ◌∷◌, Bool, false, cond, ◌&&◌, length, get_or, take, drop, eqb, ltb, leb}
+use Rattle.text.specs.Refusals.{Told, expected_string, expected_string_end, expected_byte_string}
 use Rattle.strings.specs.declared.literal.Literal.{Literal}
-use Rattle.std.specs.Prelude.{ℕ, suc, ◌+◌, ◌-◌, List, [], ◌∷◌, Bool, false, cond, ◌&&◌, length, get_or, take, drop, eqb, ltb, leb}
 use Rattle.text.specs.declared.refusal.Refusal.{Refusal}
-use Rattle.text.specs.Refusals.{expected_string, expected_string_end, expected_byte_string}
 use Rattle.text.specs.Runs.{run}
 use Rattle.escapes.specs.declared.answers.Mode.{Mode}
 use Rattle.escapes.specs.declared.answers.Mode.TheVariants.{Str, Char, Bytes}

@@ -1,10 +1,8 @@
 -- Strings and byte strings, by their first bytes (document 01, module 9): "`b\"` `br\"` `br#` byte string; `r\"` `r#\"` `r##` string". 16: string
 -- expected. 18: byte string expected.
-use Rattle.std.specs.Prelude.{Err}
-use Rattle.text.specs.Refusals.{Told}
+use Rattle.std.specs.Prelude.{Err, ℕ, List, ◌++◌, Bool, cond, length, get_or, take, drop, eqb}
+use Rattle.text.specs.Refusals.{Told, expected_string, expected_byte_string}
 use Rattle.strings.specs.declared.literal.Literal.{Literal}
-use Rattle.std.specs.Prelude.{ℕ, List, ◌++◌, Bool, cond, length, get_or, take, drop, eqb}
-use Rattle.text.specs.Refusals.{expected_string, expected_byte_string}
 use Rattle.escapes.specs.declared.answers.Mode.{Mode}
 use Rattle.escapes.specs.declared.answers.Mode.TheVariants.{Str, Bytes}
 use Rattle.strings.specs.Pieces.{body_of, decoded_of}

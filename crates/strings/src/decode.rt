@@ -27,7 +27,7 @@ fn put(d: Decoded, out: &mut [u8])
             out[0] = b;
         }
         Decoded::Utf8(c) => {
-            utf8::encode(c, out);
+            let _ = utf8::encode(c, out);
         }
     }
 }

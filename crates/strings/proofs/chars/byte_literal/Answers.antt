@@ -1,6 +1,6 @@
 use Rattle.std.proofs.lemmas.Result.{err_from_is_err_and}
 use Rattle.std.proofs.Common.{Ok, Err}
-use Rattle.text.specs.Refusals.{Told}
+use Rattle.text.specs.Refusals.{Told, expected_byte_literal}
 use Prim.Native.Nat.{◌+◌, ◌<◌, ◌≤◌, ℕ}
 use native.Mathlib.Omega.{arith}
 use mathlib.Core.Bool.{false, true}
@@ -15,7 +15,6 @@ use Rattle.cursor.specs.inner.Chars.{consumed_of, next_of}
 use Rattle.strings.proofs.CursorLaws.{Narrow, byte_marked, byte-next, byte_unnamed, byte_unquoted, byte_wide, byte_next, narrow, wide_inside}
 use Rattle.strings.specs.Chars.{byte_of}
 use Rattle.text.proofs.Utf8Agree.{part_char}
-use Rattle.text.specs.Refusals.{expected_byte_literal}
 use Rattle.text.specs.Utf8.{char_len}
 use Rattle.strings.proofs.chars.byte_literal.Goals as goal
 

@@ -1,6 +1,6 @@
 use Rattle.std.proofs.lemmas.Result.{err_from_is_err_and}
 use Rattle.std.proofs.Common.{Ok, Err, ℕ}
-use Rattle.text.specs.Refusals.{Told}
+use Rattle.text.specs.Refusals.{Told, expected_char}
 use lib.Dec.{eqb}
 use lib.ListN.{get_or}
 use mathlib.Core.Bool.{true}
@@ -12,7 +12,6 @@ use Rattle.cursor.specs.declared.ParserCursor.{ParserCursor}
 use Rattle.cursor.specs.inner.Chars.{consumed_of, expected_of, next_of}
 use Rattle.strings.proofs.CursorLaws.{char_marked, char-next, char_none, char_next}
 use Rattle.strings.specs.Chars.{char_of}
-use Rattle.text.specs.Refusals.{expected_char}
 use Rattle.strings.proofs.chars.char_literal.Goals as goal
 
 pub returns-in_err-inside : goal.returns-in_err-inside
