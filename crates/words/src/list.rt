@@ -44,8 +44,5 @@ pub fn numbers(s: &[u8], tape: &mut [u32]) -> Option<usize>
 pub fn first(tape: &[u32], k: usize) -> &[u32]
     ensures { result.now ≡ take k tape.now }
 {
-    if k <= tape.len() {
-        return &tape[0..k];
-    }
-    tape
+    &tape[..k.min(tape.len())]
 }
