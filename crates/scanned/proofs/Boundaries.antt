@@ -53,7 +53,8 @@ ends_char : (s : List ℕ) (at code n c : ℕ) → Encoded s → char_ends s at 
 unfolding char_ends
 ends_char s at code n c e =
     cond_cases (λ (a : Told (ℕ × ℕ)). a ≡ Ok (n, c) → Encoded (drop n s)) (eqb (get_or s at 0) 0x27) _ _
-    (λ q f. let z : at + 1 ≡ n = cc in
+    (λ q f. let p : ◌≡◌ {A = ℕ × ℕ} (at + 1, code) (n, c) = cc in
+    let z : at + 1 ≡ n = ap (λ (x : ℕ × ℕ). x.0) p in
     subst (λ (k : ℕ). Encoded (drop k s)) z (cut_behind s at e (none_here s at 0x27 (omega arith) q) (omega (arith, eqb-true (get_or s at 0) 0x27 q))))
     (λ q f. let z : ◌≡◌ {A = ℕ} 0 1 = cc in absurd (omega arith))
 

@@ -1,6 +1,6 @@
 -- The scan by bytes is the scan by characters wherever the text is UTF-8 (`scan-characters`). Assumes nothing.
 use Rattle.std.proofs.Common.{Ok, Err}
-use Rattle.text.specs.Refusals.{Told}
+use Rattle.text.specs.Refusals.{Told, eof}
 use Rattle.structs.specs.declared.kinds.StructType.{StructType}
 use Prim.Native.Nat.{ℕ, zero, suc, pred, ◌+◌, ◌-◌, ◌/◌, ◌%◌, ◌<◌, ◌≤◌}
 use native.Mathlib.Nat.{add-zero, le_of_suc-le-suc, not-suc-le-zero}
@@ -16,7 +16,6 @@ use Rattle.text.proofs.Choices.{cond_cases, either, lt_or_le}
 use Rattle.text.proofs.Lists.{head_at}
 use Rattle.text.proofs.Utf8Agree.{char_encode, char_len_char, decode_encode, encode_1, encode_2, encode_3, encode_4}
 use Rattle.text.specs.Classes.{one_of}
-use Rattle.text.specs.Refusals.{eof}
 use Rattle.text.specs.Utf8.{Encoded, Tail, char_len, code_of, encode}
 use Rattle.text.specs.Utf8.Encoded.{ends, next}
 use Rattle.scanned.proofs.Spurious.{Cut, marked_wide, spurious_cut, tail_step}

@@ -1,7 +1,7 @@
 -- What is passed over before a step ends between two characters (`spurious-cut`), and at a byte inside a character nothing is passed over (`tail_step`).
 -- Assumes nothing.
 use Rattle.std.proofs.Common.{Ok, Err}
-use Rattle.text.specs.Refusals.{Told}
+use Rattle.text.specs.Refusals.{Told, expected_byte_string, expected_char, expected_string, placed_behind}
 use Prim.Native.Nat.{ℕ, ◌+◌, ◌≤◌}
 use native.Mathlib.Nat.{le_refl}
 use native.Mathlib.Omega.{arith}
@@ -14,7 +14,6 @@ use borrow.Author.Tests.{lt-ltb, ne_eqb}
 use Rattle.text.proofs.Choices.{cond_cases}
 use Rattle.text.proofs.ClassLaws.{blank_wide}
 use Rattle.text.specs.Classes.{blank2, blank3, blank_width}
-use Rattle.text.specs.Refusals.{expected_byte_string, expected_char, expected_string, placed_behind}
 use Rattle.text.specs.Utf8.{Encoded, Tail}
 use Rattle.comments.proofs.GapLaws.{comment_other, gap_ends, item_comment}
 use Rattle.comments.specs.Gaps.{gap_of}

@@ -1,8 +1,7 @@
 -- Struct kinds with the scan left open: `struct_type_of` is this with the scan by bytes, and the crate's `check_struct_type` is this with the scan by characters.
-use Rattle.std.specs.Prelude.{Ok}
+use Rattle.std.specs.Prelude.{Ok, ℕ, ◌+◌, cond, List, eqb, get_or, drop}
 use Rattle.text.specs.Refusals.{Told}
 use Rattle.structs.specs.declared.kinds.StructType.{StructType}
-use Rattle.std.specs.Prelude.{ℕ, ◌+◌, cond, List, eqb, get_or, drop}
 use Rattle.names.specs.Identifiers.{skip_identifier_of}
 use Rattle.names.specs.declared.Identifier.{Identifier}
 use Rattle.names.specs.declared.Identifier.TheVariants as name

@@ -1,9 +1,7 @@
 -- The scan as the crate has it, a whole character a step: what `scan_of` says is the same wherever the text is UTF-8 (proofs/ScanCharacters.antt).
-use Rattle.std.specs.Prelude.{Ok, Err}
-use Rattle.text.specs.Refusals.{Told}
+use Rattle.std.specs.Prelude.{Ok, Err, ℕ, zero, suc, pred, ◌+◌, cond, List, [], ◌∷◌, ltb, length, drop}
+use Rattle.text.specs.Refusals.{Told, eof}
 use Rattle.structs.specs.declared.kinds.StructType.{StructType}
-use Rattle.std.specs.Prelude.{ℕ, zero, suc, pred, ◌+◌, cond, List, [], ◌∷◌, ltb, length, drop}
-use Rattle.text.specs.Refusals.{eof}
 use Rattle.text.specs.Utf8.{char_len, code_of}
 use Rattle.structs.specs.Kinds.{placed_kind}
 use Rattle.structs.specs.Scan.{after_comma, by_step, marked_by, past_spurious}
