@@ -1,6 +1,6 @@
 -- Blanks in front of a part only move what is read there, and widen the first entry's gap. Assumes nothing.
 use Rattle.std.proofs.Common.{Ok, Err}
-use Rattle.text.specs.Refusals.{Told}
+use Rattle.text.specs.Refusals.{Told, at_place, placed_behind}
 use Rattle.tokens.specs.declared.lexeme.Lexeme.{Lexeme}
 use Prim.Native.Nat.{ℕ, suc, ◌+◌}
 use native.Mathlib.Omega.{arith}
@@ -11,7 +11,6 @@ use lib.ListN.{drop, get_or, length}
 use lib.Seq.{drop-drop}
 use Rattle.text.proofs.Choices.{either, lt_or_le}
 use Rattle.text.specs.Classes.{blank1, blank_width}
-use Rattle.text.specs.Refusals.{at_place, placed_behind}
 use Rattle.text.specs.Runs.{run}
 use Rattle.comments.proofs.GapLaws.{gap_moved, gap_behind, item_blank, on_blank}
 use Rattle.comments.specs.Gaps.{gap_of}

@@ -1,6 +1,6 @@
 -- A plain string is the token that the token reader reads there. Assumes nothing.
 use Rattle.std.proofs.Common.{Ok, Err}
-use Rattle.text.specs.Refusals.{Told}
+use Rattle.text.specs.Refusals.{Told, expected_string}
 use Rattle.strings.specs.declared.literal.Literal.{Literal}
 use Prim.Native.Nat.{ℕ, ◌+◌, ◌-◌, ◌<◌, ◌≤◌}
 use native.Mathlib.Omega.{arith}
@@ -21,7 +21,6 @@ use Rattle.strings.specs.Quoted.{literal, quoted_of}
 use Rattle.strings.specs.Strings.{string_of}
 use Rattle.strings.specs.Raw.{raw_of}
 use Rattle.strings.proofs.Wholes.{none_here}
-use Rattle.text.specs.Refusals.{expected_string}
 use Rattle.text.specs.Classes.{blank1, within}
 use Rattle.escapes.specs.declared.answers.Mode.TheVariants.{Str}
 use Rattle.reading.specs.Tokens.{token}
