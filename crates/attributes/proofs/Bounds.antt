@@ -1,12 +1,12 @@
 -- How far an attribute reaches: `attribute-bounded`, and the same of its steps. Assumes nothing.
 use Rattle.std.proofs.Common.{Ok, Err, Some, None, Option}
-use Rattle.text.specs.Refusals.{Told}
+use Rattle.text.specs.Refusals.{Told, expected_attribute, expected_attribute_end}
 use Rattle.strings.specs.declared.literal.Literal.{Literal}
 use Prim.Native.Nat.{◌+◌, ◌-◌, ◌<◌, ◌≤◌, pred, suc, zero, ℕ}
 use native.Mathlib.Omega.{arith}
 use mathlib.Core.Bool.{Bool, false, true}
 use mathlib.Core.List.{List, [], ◌∷◌}
-use mathlib.Core.Path.{◌≡◌, ap, refl, sym}
+use mathlib.Core.Path.{◌≡◌, refl}
 use lib.Dec.{eqb}
 use lib.ListN.{drop, get_or, length, length-drop}
 use Rattle.attributes.proofs.StepLaws.{added_small, word_le}
@@ -23,12 +23,10 @@ use Rattle.attributes.specs.declared.list.Item.TheVariants as items
 use Rattle.attributes.specs.declared.list.OtherChar.{OtherChar}
 use Rattle.attributes.specs.declared.list.OtherChar.TheVariants.{Ends, Goes}
 use Rattle.attributes.specs.declared.words.Keyword.{Keyword}
-use Rattle.comments.proofs.BlockLaws.{wider}
 use Rattle.comments.proofs.GapLaws.{EndsBy, gap_bounded}
 use Rattle.comments.specs.Gaps.{gap_of}
 use Rattle.comments.specs.declared.gap.Gap.{Gap}
 use Rattle.comments.specs.declared.gap.Gap.TheVariants.{Clear, InLine, Refused as NoGap}
-use Rattle.integers.proofs.WordStops.{fit}
 use Rattle.names.proofs.IdentifierLaws.{Within, identifier_within}
 use Rattle.names.specs.Identifiers.{identifier_of}
 use Rattle.names.specs.declared.Identifier.{Identifier}
@@ -37,8 +35,6 @@ use Rattle.strings.proofs.Bounds.{Bounded-string, string_bounded}
 use Rattle.strings.proofs.Wholes.{none_here}
 use Rattle.strings.specs.Strings.{string_of}
 use Rattle.text.proofs.Choices.{cond_cases}
-use Rattle.text.specs.Refusals.{expected_attribute, expected_attribute_end}
-use Rattle.text.specs.declared.refusal.Refusal.{Refusal}
 
 -- ---- steps
 

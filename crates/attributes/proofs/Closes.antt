@@ -1,15 +1,14 @@
 -- Accepted attributes are decided by their own bytes: `attribute-closed` says that nothing behind an attribute's `]` changes the answer. Assumes nothing.
 use Rattle.std.proofs.Common.{Ok, Err, Some, None, Option}
-use Rattle.text.specs.Refusals.{Told}
+use Rattle.text.specs.Refusals.{Told, expected_attribute_end}
 use Rattle.strings.specs.declared.literal.Literal.{Literal}
 use Prim.Native.Nat.{◌+◌, ◌-◌, ◌<◌, ◌≤◌, pred, suc, zero, ℕ}
 use native.Mathlib.DivMod.{small}
 use native.Mathlib.Omega.{arith}
 use mathlib.Core.Bool.{Bool, cond, false, true}
 use mathlib.Core.List.{List, [], ◌++◌, ◌∷◌, append_assoc}
-use mathlib.Core.Path.{◌∙◌, ◌≡◌, ap, ap₂, refl, subst, sym}
+use mathlib.Core.Path.{◌∙◌, ◌≡◌, ap, refl, subst, sym}
 use lib.Dec.{eqb}
-use lib.IntN.{pos}
 use lib.ListN.{get_or-append, drop, get_or, length, length-append, length-drop, take}
 use lib.Seq.{drop-append-le, get_or-drop}
 use borrow.Author.Tests.{eqb-true}
@@ -46,8 +45,6 @@ use Rattle.strings.specs.Strings.{string_of}
 use Rattle.text.proofs.Choices.{cond_cases}
 use Rattle.text.proofs.Lists.{head_at}
 use Rattle.text.proofs.Stops.{Stopped}
-use Rattle.text.specs.Refusals.{expected_attribute_end}
-use Rattle.text.specs.Utf8.Text.{none}
 
 -- ---- a `]` within the front
 

@@ -1,13 +1,13 @@
 -- Laws of the list of extensions, at an index of the text, as the loop asks for them. Assumes nothing.
 use Rattle.std.proofs.Common.{Err}
-use Rattle.text.specs.Refusals.{Told}
+use Rattle.text.specs.Refusals.{Told, eof}
 use Prim.Native.Nat.{◌+◌, ◌-◌, ◌<◌, ◌≤◌, pred, suc, zero, ℕ}
 use native.Mathlib.Nat.{add-zero}
 use native.Mathlib.Omega.{arith}
 use mathlib.Core.Bool.{Bool, true}
 use mathlib.Core.List.{List, [], ◌∷◌}
 use mathlib.Core.Path.{◌∙◌, ◌≡◌, ap, refl, subst, sym}
-use lib.ListN.{get_or-eq_default, drop, drop_of_length-le, get_or, length, take, length-drop}
+use lib.ListN.{drop, drop_of_length-le, get_or, length, take, length-drop}
 use lib.Seq.{drop-drop}
 use Rattle.attributes.proofs.Bounds.{ItemIn, item_in}
 use Rattle.attributes.specs.Extensions.{added_to}
@@ -23,7 +23,6 @@ use Rattle.names.specs.Identifiers.{identifier_of}
 use Rattle.names.specs.declared.Identifier.{Identifier}
 use Rattle.text.proofs.Lists.{front, tail_part}
 use Rattle.text.proofs.AheadLaws.{ahead_nil}
-use Rattle.text.specs.Refusals.{eof}
 
 -- ---- whether a name goes on
 

@@ -1,6 +1,6 @@
 -- Laws of steps, signs and words, as the functions ask for them. Assumes nothing.
 use Rattle.std.proofs.Common.{Ok, Err}
-use Rattle.text.specs.Refusals.{Told}
+use Rattle.text.specs.Refusals.{Told, expected_attribute, expected_attribute_end, expected_string}
 use Rattle.strings.specs.declared.literal.Literal.{Literal}
 use Prim.Native.Nat.{◌%◌, ◌+◌, ◌-◌, ◌/◌, ◌<◌, ◌≤◌, ℕ}
 use native.Mathlib.Nat.{add-zero}
@@ -28,7 +28,6 @@ use Rattle.strings.proofs.Wholes.{none_here}
 use Rattle.strings.specs.Strings.{string_of}
 use Rattle.text.proofs.Choices.{cond_cases}
 use Rattle.text.proofs.Lists.{tail_part}
-use Rattle.text.specs.Refusals.{expected_attribute, expected_attribute_end, expected_string}
 use Rattle.text.specs.Words.{starts_with}
 use Rattle.integers.proofs.Words.{first_le}
 

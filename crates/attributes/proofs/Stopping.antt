@@ -6,10 +6,10 @@ use Prim.Native.Nat.{◌+◌, ◌<◌, ℕ}
 use native.Mathlib.Omega.{arith}
 use mathlib.Core.Bool.{Bool, cond, false, not, true}
 use mathlib.Core.List.{List, [], ◌∷◌}
-use mathlib.Core.Path.{◌∙◌, ◌≡◌, ap, refl, sym}
+use mathlib.Core.Path.{◌∙◌, ◌≡◌, ap, refl}
 use lib.Dec.{eqb, ltb}
 use lib.ListN.{drop, get_or, length}
-use borrow.Author.Tests.{eqb-true, ne_eqb}
+use borrow.Author.Tests.{eqb-true}
 use Rattle.attributes.specs.Extensions.{extension_of, extensions, first_named, is_word, name_of}
 use Rattle.attributes.specs.Words.{by_word, keywords, keyword_of}
 use Rattle.attributes.specs.declared.extensions.Extension.{Extension}
@@ -25,7 +25,7 @@ use Rattle.names.specs.Starts.{begins_raw, begins_string}
 use Rattle.names.specs.declared.Identifier.{Identifier}
 use Rattle.names.specs.declared.Identifier.TheVariants.{Missing, Name, RawName}
 use Rattle.strings.specs.Strings.{string_of}
-use Rattle.text.proofs.Choices.{bool_cases, cond_cases, either, lt_or_le}
+use Rattle.text.proofs.Choices.{bool_cases, cond_cases, either}
 use Rattle.text.proofs.ClassLaws.{all_of}
 use Rattle.text.proofs.Stops.{Stopped, always, on, on₂}
 use Rattle.text.proofs.WordLaws.{starts_head, starts_stopped}

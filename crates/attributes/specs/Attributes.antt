@@ -1,10 +1,8 @@
 -- Attributes (document 01, module 7): "`enable` takes one or more of .. `type` and `schema` take a string. .. Exceptions to equality: place of 19 to 21,
 -- and the entry ends behind its `]`."
 -- 19, 20, 21: "attribute; its end; unknown extension; the `#`", which is place 0 of the part. The others stand where the crate's cursor stands.
-use Rattle.std.specs.Prelude.{Ok, Err, Bool}
-use Rattle.text.specs.Refusals.{Told}
-use Rattle.std.specs.Prelude.{ℕ, true, cond, List}
-use Rattle.text.specs.Refusals.{expected_attribute}
+use Rattle.std.specs.Prelude.{Ok, Err, Bool, ℕ, true, cond, List}
+use Rattle.text.specs.Refusals.{Told, expected_attribute}
 use Rattle.attributes.specs.Steps.{consume_of, sign_from}
 use Rattle.attributes.specs.Words.{keyword_at}
 use Rattle.attributes.specs.List.{list_of}

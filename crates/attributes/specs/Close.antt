@@ -1,9 +1,7 @@
 -- How an attribute ends (document 01, module 7): "`type` and `schema` take a string. .. the entry ends behind its `]`." 20: "its end; the `#`".
-use Rattle.std.specs.Prelude.{Ok, Err}
-use Rattle.text.specs.Refusals.{Told}
+use Rattle.std.specs.Prelude.{Ok, Err, ℕ, ◌+◌, Bool, true, cond, List, get_or, drop, eqb}
+use Rattle.text.specs.Refusals.{Told, placed_behind, expected_attribute_end}
 use Rattle.strings.specs.declared.literal.Literal.{Literal}
-use Rattle.std.specs.Prelude.{ℕ, ◌+◌, Bool, true, cond, List, get_or, drop, eqb}
-use Rattle.text.specs.Refusals.{placed_behind, expected_attribute_end}
 use Rattle.strings.specs.Strings.{string_of}
 use Rattle.attributes.specs.Steps.{skip_from, consume_from}
 

@@ -1,7 +1,6 @@
 -- The extensions (document 01, module 7): "`unwrap_newtypes`, `implicit_some`, `unwrap_variant_newtypes`, `explicit_struct_names` ..; detail adds 1, 2, 4,
 -- 8, each at most once."
-use Rattle.std.specs.Prelude.{Some, None, Option}
-use Rattle.std.specs.Prelude.{ℕ, ◌+◌, ◌/◌, ◌%◌, Bool, false, cond, List, [], ◌∷◌, length, eqb}
+use Rattle.std.specs.Prelude.{Some, None, Option, ℕ, ◌+◌, ◌/◌, ◌%◌, Bool, false, cond, List, [], ◌∷◌, length, eqb}
 use Rattle.attributes.specs.declared.extensions.Extension.{Extension}
 use Rattle.attributes.specs.declared.extensions.Extension.TheVariants.{UnwrapNewtypes, ImplicitSome, UnwrapVariantNewtypes, ExplicitStructNames}
 use Rattle.text.specs.Words.{starts_with}

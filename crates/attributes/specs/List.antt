@@ -1,10 +1,8 @@
 -- The list of extensions (document 01, module 7): "`enable` takes one or more of .., commas between, one allowed behind. In the list no name is 21 and a
 -- missing comma 20."
-use Rattle.std.specs.Prelude.{Ok, Err, Some, None, Option}
-use Rattle.text.specs.Refusals.{Told}
-use Rattle.std.specs.Prelude.{ℕ, zero, suc, pred, ◌+◌, ◌-◌, Bool, true, cond, List, [], ◌∷◌, drop}
+use Rattle.std.specs.Prelude.{Ok, Err, Some, None, Option, ℕ, zero, suc, pred, ◌+◌, ◌-◌, Bool, true, cond, List, [], ◌∷◌, drop}
+use Rattle.text.specs.Refusals.{Told, placed_behind, eof, no_such_extension, expected_attribute_end}
 use Rattle.text.specs.Ahead.{next_ahead}
-use Rattle.text.specs.Refusals.{placed_behind, eof, no_such_extension, expected_attribute_end}
 use Rattle.names.specs.Identifiers.{identifier_of}
 use Rattle.names.specs.declared.Identifier.{Identifier}
 use Rattle.names.specs.declared.Identifier.TheVariants.{Missing, Name, RawName}

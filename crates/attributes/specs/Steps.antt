@@ -1,9 +1,7 @@
 -- Steps through an attribute, at places of the part that begins with its `#`: whitespace and comments (document 01, module 2), and signs.
 -- 19: "attribute; the `#`". The crate's `consume_all` goes on where a sign is missing, so that a refusal behind a later sign comes first.
-use Rattle.std.specs.Prelude.{Ok, Err}
-use Rattle.text.specs.Refusals.{Told}
-use Rattle.std.specs.Prelude.{ℕ, ◌+◌, Bool, false, cond, List, get_or, drop, eqb}
-use Rattle.text.specs.Refusals.{placed_behind, expected_attribute}
+use Rattle.std.specs.Prelude.{Ok, Err, ℕ, ◌+◌, Bool, false, cond, List, get_or, drop, eqb}
+use Rattle.text.specs.Refusals.{Told, placed_behind, expected_attribute}
 use Rattle.comments.specs.Gaps.{gap_of}
 use Rattle.comments.specs.declared.gap.Gap.{Gap}
 use Rattle.comments.specs.declared.gap.Gap.TheVariants.{Clear, InLine, Refused as NoGap}

@@ -1,9 +1,9 @@
 -- The token reader of RON meets what the theory of readings asks of it. Assumes nothing.
 use Rattle.std.proofs.Common.{Ok, Err}
-use Rattle.text.specs.Refusals.{Told}
-use Prim.Native.Nat.{ℕ, ◌+◌, ◌-◌, ◌<◌, ◌≤◌}
+use Rattle.text.specs.Refusals.{Told, placed_behind}
+use Prim.Native.Nat.{ℕ, ◌-◌, ◌<◌, ◌≤◌}
 use native.Mathlib.Omega.{arith}
-use mathlib.Core.Bool.{Bool, true}
+use mathlib.Core.Bool.{true}
 use mathlib.Core.List.{List, [], ◌++◌, ◌∷◌}
 use mathlib.Core.Path.{◌≡◌, ap, refl, sym, subst, ◌∙◌}
 use lib.Dec.{ltb}
@@ -14,7 +14,6 @@ use Rattle.text.proofs.Choices.{either, lt_or_le}
 use Rattle.text.proofs.ClassLaws.{inside}
 use Rattle.text.proofs.Lists.{tail_part}
 use Rattle.text.specs.Classes.{within}
-use Rattle.text.specs.Refusals.{placed_behind}
 use Rattle.text.specs.declared.refusal.Refusal.{Refusal}
 use Rattle.comments.proofs.GapLaws.{EndsBy, gap_bounded, gap_restarts}
 use Rattle.comments.proofs.GapWindow.{gap_stop}
@@ -23,7 +22,7 @@ use Rattle.comments.specs.declared.gap.Gap.{Gap}
 use Rattle.comments.specs.declared.gap.Gap.TheVariants as gap
 use Rattle.reading.proofs.QuietLaws.{quiet_all}
 use Rattle.reading.specs.Owed.{Laws, quiet_byte}
-use Rattle.reading.specs.Tokens.{Answer, Token as Answered, reach, refuse, stop, token, ungapped}
+use Rattle.reading.specs.Tokens.{Token as Answered, reach, refuse, stop, token, ungapped}
 use Rattle.tokens.proofs.TokenLaws.{Fits, Lexed, token_bounded, token_window}
 use Rattle.tokens.specs.Lexemes.{lexeme, lexeme_of}
 use Rattle.tokens.specs.Ron.{lexeme_behind, by_gap, ron_token}

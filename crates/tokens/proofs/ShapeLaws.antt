@@ -1,9 +1,9 @@
 -- What a shape says of the first bytes. Assumes nothing.
 use Prim.Native.Nat.{ℕ, ◌<◌, ◌≤◌}
 use native.Mathlib.Omega.{arith}
-use mathlib.Core.Bool.{Bool, true, false, cond}
+use mathlib.Core.Bool.{true, false}
 use mathlib.Core.List.{List, [], ◌++◌, ◌∷◌}
-use mathlib.Core.Path.{◌≡◌, ap, refl, sym, ◌∙◌}
+use mathlib.Core.Path.{◌≡◌, refl}
 use lib.Dec.{eqb, ltb}
 use lib.ListN.{get_or, length}
 use borrow.Author.Tests.{ltb-true}
@@ -13,7 +13,6 @@ use Rattle.text.specs.Classes.{digit, ascii_next, ascii_raw, letter, within}
 use Rattle.tokens.specs.Shapes.{mark_kind, behind_b, behind_r, shape_of, starts_number}
 use Rattle.tokens.specs.declared.shape.Shape.{Shape}
 use Rattle.tokens.specs.declared.shape.Shape.TheVariants.{Mark, Attribute, Str, Char, Byte, ByteStr, Number, Word}
-use Rattle.tokens.specs.declared.token.Token.{Token}
 use Rattle.tokens.specs.Token.{by_shape, token_of}
 
 -- ---- the kinds of marks

@@ -5,9 +5,9 @@ use Rattle.strings.specs.declared.literal.Literal.{Literal}
 use Rattle.tokens.specs.declared.lexeme.Lexeme.{Lexeme}
 use Prim.Native.Nat.{ℕ, ◌+◌, ◌<◌, ◌≤◌}
 use native.Mathlib.Omega.{arith}
-use mathlib.Core.Bool.{Bool, true}
+use mathlib.Core.Bool.{true}
 use mathlib.Core.List.{List, ◌++◌, ◌∷◌}
-use mathlib.Core.Path.{◌≡◌, ap, refl, sym, subst, ◌∙◌}
+use mathlib.Core.Path.{◌≡◌, ap, refl, sym, ◌∙◌}
 use lib.ListN.{get_or, length}
 use Rattle.attributes.proofs.AttributeLaws.{Bounded-attribute, Within-attribute, attribute_bounded, attribute_closed}
 use Rattle.attributes.specs.Attributes.{attribute_of}

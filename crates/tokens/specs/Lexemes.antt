@@ -1,9 +1,8 @@
 -- Kinds and details (document 01, module 9): "9 name, 10 raw name, 11 integer, 12 float, 13 char, 14 string, 15 byte string, 16 attribute. Detail: width 1 to 8
 -- for i8, i16, i32, i64, u8, u16, u32, u64; 0, 32 or 64 for a float's suffix; code point; decoded length; extensions; else 0."
-use Rattle.std.specs.Prelude.{Ok, Err}
+use Rattle.std.specs.Prelude.{Ok, Err, ℕ}
 use Rattle.text.specs.Refusals.{Told}
 use Rattle.tokens.specs.declared.lexeme.Lexeme.{Lexeme}
-use Rattle.std.specs.Prelude.{ℕ}
 use Rattle.integers.specs.Width.{code_of}
 use Rattle.numbers.specs.declared.Number.{Number}
 use Rattle.numbers.specs.declared.Number.TheVariants as number

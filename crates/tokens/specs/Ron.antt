@@ -1,9 +1,7 @@
 -- The token reader of RON (document 01, module 9): "Whitespace and comments make no entry." It is the reader that the theory of readings is used with.
-use Rattle.std.specs.Prelude.{Ok, Err}
-use Rattle.text.specs.Refusals.{Told}
+use Rattle.std.specs.Prelude.{Ok, Err, ℕ, cond, List, ltb, length, drop}
+use Rattle.text.specs.Refusals.{Told, placed_behind}
 use Rattle.tokens.specs.declared.lexeme.Lexeme.{Lexeme}
-use Rattle.std.specs.Prelude.{ℕ, cond, List, ltb, length, drop}
-use Rattle.text.specs.Refusals.{placed_behind}
 use Rattle.comments.specs.Gaps.{gap_of}
 use Rattle.comments.specs.declared.gap.Gap.{Gap}
 use Rattle.comments.specs.declared.gap.Gap.TheVariants as gap

@@ -1,8 +1,7 @@
 -- The token at the front of a part (document 01, module 9): "A number's answer sits in the token's case." A byte literal is an integer of 8 bits.
-use Rattle.std.specs.Prelude.{Ok, Err}
+use Rattle.std.specs.Prelude.{Ok, Err, ℕ, List, get_or}
 use Rattle.text.specs.Refusals.{Told}
 use Rattle.strings.specs.declared.literal.Literal.{Literal}
-use Rattle.std.specs.Prelude.{ℕ, List, get_or}
 use Rattle.attributes.specs.Attributes.{attribute_of}
 use Rattle.integers.specs.declared.width.Width.TheVariants.{U8}
 use Rattle.names.specs.Classify.{word_of}

@@ -1,6 +1,5 @@
 use Rattle.std.proofs.Common.{Err}
 use mathlib.Core.Path.{◌∙◌, ap, sym}
-use borrow.Author.Rules.{rules}
 use Rattle.attributes.specs.Attributes.{by_keyword, keyword_from}
 use Rattle.attributes.proofs.keyword.Goals as goal
 

@@ -3,7 +3,6 @@ use Prim.Native.Nat.{◌+◌}
 use native.Mathlib.Omega.{arith}
 use mathlib.Core.Bool.{Bool, cond}
 use mathlib.Core.Path.{◌∙◌, ap, sym}
-use borrow.Author.Rules.{rules}
 use Rattle.attributes.proofs.StepLaws.{end_in, end_out, stands_fits}
 use Rattle.attributes.specs.Close.{no_end}
 use Rattle.attributes.proofs.close.list_end.Goals as goal

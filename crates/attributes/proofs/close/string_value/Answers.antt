@@ -2,7 +2,6 @@ use Rattle.std.proofs.Common.{Ok, Err}
 use native.Mathlib.Omega.{arith}
 use mathlib.Core.Path.{◌∙◌, ap, sym}
 use lib.ListN.{length-drop}
-use borrow.Author.Rules.{rules}
 use Rattle.attributes.proofs.StepLaws.{string_by, string_fits, string_out}
 use Rattle.attributes.proofs.close.string_value.Goals as goal
 

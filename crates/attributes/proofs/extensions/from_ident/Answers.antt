@@ -1,5 +1,4 @@
 use mathlib.Core.Path.{◌∙◌, sym}
-use borrow.Author.Rules.{rules}
 use Rattle.attributes.specs.Extensions.{extension_of, first_named}
 use Rattle.attributes.proofs.extensions.from_ident.Goals as goal
 

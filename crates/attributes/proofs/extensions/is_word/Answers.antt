@@ -1,4 +1,3 @@
-use borrow.Author.Rules.{rules}
 use borrow.Author.Tests.{eq-eqb, ne_eqb}
 use Rattle.attributes.specs.Extensions.{is_word}
 use Rattle.attributes.proofs.extensions.is_word.Goals as goal

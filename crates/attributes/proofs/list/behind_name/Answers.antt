@@ -1,7 +1,6 @@
 use Rattle.std.proofs.Common.{Ok, Err}
 use mathlib.Core.Bool.{true}
 use mathlib.Core.Path.{◌∙◌, ap, sym}
-use borrow.Author.Rules.{rules}
 use Rattle.attributes.proofs.ListLaws.{comma_by}
 use Rattle.attributes.specs.Steps.{all_at, consume_of}
 use Rattle.attributes.proofs.list.behind_name.Goals as goal

@@ -1,5 +1,4 @@
 use mathlib.Core.Path.{◌∙◌, ap, sym}
-use borrow.Author.Rules.{rules}
 use Rattle.attributes.specs.List.{by_extension_name}
 use Rattle.attributes.proofs.list.by_named.Goals as goal
 

@@ -1,5 +1,4 @@
 use mathlib.Core.Bool.{false, true}
-use borrow.Author.Rules.{rules}
 use Rattle.attributes.proofs.ListLaws.{other_out}
 use Rattle.attributes.specs.List.{other_char}
 use Rattle.text.specs.Ahead.{next_ahead}

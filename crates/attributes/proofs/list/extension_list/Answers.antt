@@ -1,14 +1,12 @@
 use Rattle.std.proofs.Common.{Ok, Err}
-use Prim.Native.Nat.{◌+◌, ◌-◌, ◌<◌, pred, ℕ}
+use Prim.Native.Nat.{◌+◌, ◌<◌, pred, ℕ}
 use native.Mathlib.Omega.{arith}
-use mathlib.Core.List.{List}
 use mathlib.Core.Path.{◌∙◌, ◌≡◌, ap, refl, subst, sym}
-use lib.ListN.{drop, length, length-drop}
-use borrow.Author.Rules.{rules}
+use lib.ListN.{drop, length-drop}
 use Rattle.attributes.proofs.Bounds.{ItemIn}
 use Rattle.attributes.proofs.ListLaws.{item_fits, list_last, list_on, list_out}
 use Rattle.attributes.proofs.StepLaws.{added_small}
-use Rattle.attributes.specs.Extensions.{added_to, extensions}
+use Rattle.attributes.specs.Extensions.{added_to}
 use Rattle.attributes.specs.List.{by_item, item_of, list_from, list_of}
 use Rattle.attributes.specs.declared.list.Item.{Item}
 use Rattle.attributes.specs.declared.list.Item.TheVariants.{Last, More, NoComma, NoName}

@@ -1,6 +1,5 @@
 use mathlib.Core.Bool.{Bool, cond}
 use mathlib.Core.Path.{◌∙◌, ap, sym}
-use borrow.Author.Rules.{rules}
 use Rattle.attributes.proofs.ListLaws.{other_by}
 use Rattle.attributes.specs.declared.list.Item.TheVariants.{More, NoComma}
 use Rattle.attributes.specs.declared.list.OtherChar.TheVariants.{Ends, Goes}

@@ -2,7 +2,6 @@ use mathlib.Core.List.{List}
 use Prim.Native.Nat.{◌-◌, ℕ}
 use native.Mathlib.Omega.{arith}
 use mathlib.Core.Path.{◌∙◌, ap, sym}
-use borrow.Author.Rules.{rules}
 use Rattle.attributes.proofs.ListLaws.{identifier_by, identifier_fits}
 use Rattle.attributes.specs.Extensions.{extension_of}
 use Rattle.attributes.specs.List.{by_extension_name}

@@ -1,7 +1,6 @@
 use Rattle.std.proofs.Common.{Err}
 use native.Mathlib.Omega.{arith}
 use mathlib.Core.Path.{◌∙◌, ap}
-use borrow.Author.Rules.{rules}
 use Rattle.attributes.proofs.StepLaws.{sign_in, sign_out, stands_fits}
 use Rattle.attributes.proofs.steps.sign_at.Goals as goal
 

@@ -1,7 +1,6 @@
 use Rattle.std.proofs.Common.{Err}
 use native.Mathlib.Omega.{arith}
 use mathlib.Core.Path.{◌∙◌, ap, sym}
-use borrow.Author.Rules.{rules}
 use Rattle.attributes.proofs.StepLaws.{gap_fits, skip_by, skip_out}
 use Rattle.comments.specs.declared.gap.Gap.TheVariants.{Clear, InLine, Refused as NoGap}
 use Rattle.attributes.proofs.steps.skip_ws.Goals as goal

@@ -1,12 +1,9 @@
 use native.Mathlib.Omega.{arith}
 use mathlib.Core.Bool.{false, true}
-use mathlib.Core.Path.{◌∙◌, ap, refl, sym}
-use lib.ListN.{drop, length-drop}
-use borrow.Author.Rules.{rules}
+use mathlib.Core.Path.{◌∙◌, sym}
 use borrow.Author.Tests.{eq-eqb, ne_eqb}
 use Rattle.attributes.proofs.StepLaws.{keyword_by, keyword_out, word_by, word_fits}
 use Rattle.attributes.specs.Words.{by_word}
-use Rattle.text.proofs.Lists.{tail_part, on_part}
 use Rattle.attributes.proofs.words.keyword_at.Goals as goal
 
 pub returns-then-s-at : goal.returns-then-s-at

@@ -1,5 +1,4 @@
 use mathlib.Core.Path.{◌∙◌, sym}
-use borrow.Author.Rules.{rules}
 use Rattle.attributes.specs.Words.{keyword_of}
 use Rattle.integers.proofs.Words.{ident_here, ident_none}
 use Rattle.integers.specs.Words.{first_of}

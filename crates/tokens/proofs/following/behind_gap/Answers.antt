@@ -1,7 +1,6 @@
 use native.Mathlib.Omega.{arith}
 use mathlib.Core.Path.{◌∙◌, ap, subst, sym}
 use lib.ListN.{drop, length, length-drop}
-use borrow.Author.Rules.{rules}
 use Rattle.reading.specs.Tokens.Answer.{refuse}
 use Rattle.tokens.proofs.RonLaws.{behind_said}
 use Rattle.tokens.proofs.TokenLaws.{Lexed, token_bounded}

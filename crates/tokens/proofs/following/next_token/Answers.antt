@@ -1,5 +1,4 @@
 use mathlib.Core.Path.{◌∙◌, ap, sym}
-use borrow.Author.Rules.{rules}
 use Rattle.tokens.proofs.RonLaws.{gap_end, gap_token}
 use Rattle.tokens.specs.Ron.{by_gap, ron_token}
 use Rattle.tokens.proofs.following.next_token.Goals as goal

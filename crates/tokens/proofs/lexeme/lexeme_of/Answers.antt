@@ -1,5 +1,4 @@
 use mathlib.Core.Path.{◌∙◌, ap, sym}
-use borrow.Author.Rules.{rules}
 use Rattle.tokens.specs.Lexemes.{lexeme_of}
 use Rattle.tokens.proofs.lexeme.lexeme_of.Goals as goal
 

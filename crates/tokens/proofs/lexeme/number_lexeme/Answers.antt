@@ -1,5 +1,4 @@
 use mathlib.Core.Path.{◌∙◌, ap, sym}
-use borrow.Author.Rules.{rules}
 use Rattle.tokens.specs.Lexemes.{lexeme, number_lexeme}
 use Rattle.tokens.proofs.lexeme.number_lexeme.Goals as goal
 

@@ -1,5 +1,4 @@
 use mathlib.Core.Path.{◌∙◌, sym}
-use borrow.Author.Rules.{rules}
 use borrow.Author.Tests.{eq-eqb, le-ltb, lt-ltb, ne_eqb}
 use Rattle.tokens.specs.Shapes.{shape_of}
 use Rattle.tokens.proofs.shape.shape_of.Goals as goal

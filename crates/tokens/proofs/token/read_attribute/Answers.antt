@@ -1,5 +1,4 @@
 use mathlib.Core.Path.{◌∙◌, ap, sym}
-use borrow.Author.Rules.{rules}
 use Rattle.tokens.specs.Token.{of_attribute}
 use Rattle.tokens.proofs.token.read_attribute.Goals as goal
 

@@ -1,5 +1,4 @@
 use mathlib.Core.Path.{◌∙◌, ap, sym}
-use borrow.Author.Rules.{rules}
 use Rattle.tokens.specs.Token.{of_string}
 use Rattle.tokens.proofs.token.read_string.Goals as goal
 

@@ -1,6 +1,4 @@
-use native.Mathlib.Omega.{shape}
 use mathlib.Core.Path.{◌∙◌, ap}
-use borrow.Author.Rules.{rules}
 use Rattle.tokens.proofs.ShapeLaws.{token_by}
 use Rattle.tokens.specs.declared.token.Token.TheVariants.{Number}
 use Rattle.tokens.specs.declared.shape.Shape.TheVariants as shape
