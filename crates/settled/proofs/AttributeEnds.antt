@@ -1,6 +1,5 @@
 -- A refused attribute, if a stop byte has come where its reading stood or behind it, stays refused so; 17 tells of the end. Assumes nothing.
 use Rattle.std.proofs.Common.{Ok, Err}
-use Rattle.text.specs.Refusals.{Told}
 use Rattle.strings.specs.declared.literal.Literal.{Literal}
 use Prim.Native.Nat.{◌+◌, ◌-◌, ◌≤◌, ℕ}
 use native.Mathlib.Omega.{arith}
@@ -23,7 +22,7 @@ use Rattle.strings.specs.Raw.{raw_of}
 use Rattle.strings.specs.Strings.{string_of}
 use Rattle.escapes.specs.declared.answers.Mode.TheVariants.{Str}
 use Rattle.text.proofs.Choices.{cond_cases}
-use Rattle.text.specs.Refusals.{expected_attribute_end, expected_string, placed_behind}
+use Rattle.text.specs.Refusals.{expected_attribute_end, expected_string, placed_behind, Told}
 use Rattle.text.specs.Classes.{ascii_next, ascii_raw, digit, letter, within}
 use Rattle.text.specs.declared.refusal.Refusal.{Refusal}
 use Rattle.settled.proofs.EscapeEnds.{Plain}

@@ -1,6 +1,5 @@
 -- What the functions of src/ say on each way out, over variables. Assumes nothing.
 use Rattle.std.proofs.Common.{Ok, Err}
-use Rattle.text.specs.Refusals.{Told}
 use Prim.Native.Nat.{ℕ, ◌+◌, ◌-◌, ◌<◌, ◌≤◌}
 use native.Mathlib.Omega.{arith}
 use mathlib.Core.Bool.{true, false, not}
@@ -19,7 +18,7 @@ use Rattle.text.proofs.Choices.{and_false, bool_cases, either}
 use Rattle.text.proofs.Lists.{front}
 use Rattle.text.specs.Ahead.{char_if}
 use Rattle.text.specs.Classes.{ascii_raw, ident_first, one_of}
-use Rattle.text.specs.Refusals.{unexpected_char}
+use Rattle.text.specs.Refusals.{unexpected_char, Told}
 use Rattle.text.specs.Utf8.{char_len}
 use Rattle.text.specs.declared.refusal.Refusal.{Refusal}
 use Rattle.tokens.specs.Lexemes.{lexeme_of}

@@ -95,7 +95,7 @@ list_ended (a ∷ t) zero at sum q n h = go (item_of (a ∷ t)) (item_at (a ∷ 
     go : (i : Item) → Ends-at (item_stood (a ∷ t)) i → ((k m : ℕ) → list_from t k (at + 1) m ≡ Ok (q, n) → list_stood t k (at + 1) ≡ q)
         → by_item i (λ k e. list_from t (pred k) (at + 1) (added_to e sum)) at sum ≡ Ok (q, n) → by_stood_item i (λ k. list_stood t (pred k) (at + 1)) (at + item_stood (a ∷ t)) ≡ q
     go (More k e) z rest h = rest (pred k) (added_to e sum) h
-    go (Last k e) z rest h = let f : at + k ≡ q = cc in omega arith
+    go (Last k e) z rest h = let f : ◌≡◌ {A = ℕ × ℕ} (at + k, added_to e sum) (q, n) = cc in let g = ap (λ (p : ℕ × ℕ). p.0) f in omega arith
     go NoName z rest h = let z : ◌≡◌ {A = ℕ} 0 1 = cc in absurd (omega arith)
     go NoComma z rest h = let z : ◌≡◌ {A = ℕ} 0 1 = cc in absurd (omega arith)
     go (Spoilt r) z rest h = let z : ◌≡◌ {A = ℕ} 0 1 = cc in absurd (omega arith)

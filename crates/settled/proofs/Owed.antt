@@ -1,6 +1,5 @@
 -- RON's token reader owes what crate arriving asks for: `ron`. Assumes nothing.
 use Rattle.std.proofs.Common.{Ok, Err}
-use Rattle.text.specs.Refusals.{Told}
 use Rattle.strings.specs.declared.literal.Literal.{Literal}
 use Rattle.tokens.specs.declared.lexeme.Lexeme.{Lexeme}
 use Prim.Native.Nat.{ℕ, ◌+◌, ◌-◌, ◌<◌, ◌≤◌, suc}
@@ -16,7 +15,7 @@ use borrow.Author.Tests.{eq-eqb, eqb-true, leb-true, ltb-true, not-true}
 use Rattle.text.proofs.Choices.{and_true, either, lt_or_le, or_cases, or_left}
 use Rattle.text.proofs.Utf8Laws.{char_len_ascii}
 use Rattle.text.specs.Classes.{ascii_next, ascii_raw, digit, hex_digit, int_char, letter, one_of, within}
-use Rattle.text.specs.Refusals.{placed_behind, unexpected_char}
+use Rattle.text.specs.Refusals.{placed_behind, unexpected_char, Told}
 use Rattle.text.specs.Utf8.{char_len}
 use Rattle.text.specs.declared.refusal.Refusal.{Refusal}
 use Rattle.attributes.specs.Attributes.{attribute_of}

@@ -1,6 +1,5 @@
 -- Refused raw strings, strings, byte strings, chars and byte literals whose place lies before a stop byte stay refused; 17 and 6 tell of the end. Assumes nothing.
 use Rattle.std.proofs.Common.{Ok, Err}
-use Rattle.text.specs.Refusals.{Told}
 use Rattle.strings.specs.declared.literal.Literal.{Literal}
 use Prim.Native.Nat.{◌+◌, ◌-◌, ◌<◌, ◌≤◌, suc, ℕ}
 use native.Mathlib.Omega.{arith}
@@ -23,7 +22,7 @@ use Rattle.strings.specs.Quoted.{literal, quoted_of}
 use Rattle.strings.specs.Raw.{hash, missing, raw_end, raw_of}
 use Rattle.strings.specs.Strings.{byte_string_of, string_of}
 use Rattle.text.proofs.Choices.{cond_cases}
-use Rattle.text.specs.Refusals.{expected_byte_literal, expected_byte_string, expected_char, expected_string, expected_string_end, invalid_escape, placed_behind}
+use Rattle.text.specs.Refusals.{expected_byte_literal, expected_byte_string, expected_char, expected_string, expected_string_end, invalid_escape, placed_behind, Told}
 use Rattle.text.specs.declared.reason.EscapeReason.TheVariants.{UnicodeInByteLiteral}
 use Rattle.text.specs.Runs.{run}
 use Rattle.text.specs.Utf8.{char_len, code_of}

@@ -1,6 +1,5 @@
 -- Steps through an attribute that end before a byte up to 0x7F do not depend on what comes behind it, whether they go on or are refused. Assumes nothing.
 use Rattle.std.proofs.Common.{Ok, Err}
-use Rattle.text.specs.Refusals.{Told}
 use Prim.Native.Nat.{◌+◌, ◌-◌, ◌<◌, ◌≤◌, ℕ}
 use native.Mathlib.Omega.{arith}
 use mathlib.Core.Bool.{Bool, cond, false, true}
@@ -14,7 +13,7 @@ use Rattle.comments.specs.declared.gap.Gap.{Gap}
 use Rattle.comments.specs.declared.gap.Gap.TheVariants.{Clear, InLine, Refused}
 use Rattle.text.proofs.Choices.{cond_cases}
 use Rattle.attributes.specs.Attributes.{opened_of}
-use Rattle.text.specs.Refusals.{expected_attribute}
+use Rattle.text.specs.Refusals.{expected_attribute, Told}
 use Rattle.attributes.specs.Steps.{all_at, and_then, step_behind, consume_from, consume_of, sign_at, sign_from, skip_from}
 use Rattle.settled.proofs.GapStays.{GapBy, gap_keeps}
 use Rattle.settled.specs.Stood.{all_end, sign_by, sign_here, sign_stood, step_end}

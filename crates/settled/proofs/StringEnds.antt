@@ -1,6 +1,5 @@
 -- A refused string whose place lies before a stop byte stays refused, unless it is refused for its missing end (17, 6). Assumes nothing.
 use Rattle.std.proofs.Common.{Ok, Err}
-use Rattle.text.specs.Refusals.{Told}
 use Rattle.strings.specs.declared.literal.Literal.{Literal}
 use Prim.Native.Nat.{◌+◌, ◌<◌, ◌≤◌, suc, zero, ℕ}
 use native.Mathlib.Omega.{arith}
@@ -24,7 +23,7 @@ use Rattle.strings.specs.declared.pieces.Decoded.TheVariants.{Nothing}
 use Rattle.strings.specs.declared.pieces.Piece.{Piece}
 use Rattle.strings.specs.declared.pieces.Piece.TheVariants.{Backslash, Plain, Quote, Refused as Spoilt}
 use Rattle.text.proofs.Choices.{cond_cases, either, lt_or_le}
-use Rattle.text.specs.Refusals.{expected_string_end, invalid_escape, placed_behind}
+use Rattle.text.specs.Refusals.{expected_string_end, invalid_escape, placed_behind, Told}
 use Rattle.text.specs.declared.reason.EscapeReason.TheVariants.{UnknownLetter}
 use Rattle.text.specs.Classes.{continuation_blank}
 use Rattle.text.specs.Runs.{run}

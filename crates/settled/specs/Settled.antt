@@ -2,10 +2,9 @@
 -- docs/"). One of a name or number, with a stop byte behind its start; one of a string, char or byte literal, with a stop byte at its place or behind; one of an
 -- attribute, with a stop byte where its reading stood or behind; none that is 4, 6 or 17, which say that the text has ended. At once, with its character: 5 behind a
 -- `/`, and 5 where no token starts.
-use Rattle.std.specs.Prelude.{Ok, Err}
 use Rattle.text.specs.Refusals.{Told}
 use Rattle.tokens.specs.declared.lexeme.Lexeme.{Lexeme}
-use Rattle.std.specs.Prelude.{ℕ, ◌-◌, Bool, true, false, not, ◌&&◌, ◌||◌, List, eqb, leb, ltb, drop, get_or}
+use Rattle.std.specs.Prelude.{ℕ, ◌-◌, Bool, true, false, not, ◌&&◌, ◌||◌, List, eqb, leb, ltb, drop, get_or, Ok, Err}
 use Rattle.text.specs.Ahead.{char_if}
 use Rattle.text.specs.Classes.{ident_first}
 use Rattle.text.specs.Utf8.{char_len}

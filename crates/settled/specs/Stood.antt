@@ -1,10 +1,9 @@
 -- Where the reading of an attribute stands when it ends or is refused (document 02, change request 3: "However the text is cut, .. the last answer [is that] of
 -- one reading"): what was refused stays refused once a stop byte has come there. It is the crate's cursor, and not the `#`, where document 01 puts 19, 20 and 21.
-use Rattle.std.specs.Prelude.{Ok, Err, Some, None, Option}
 use Rattle.text.specs.Refusals.{Told}
 use Rattle.attributes.specs.declared.extensions.Extension.{Extension}
 use Rattle.strings.specs.declared.literal.Literal.{Literal}
-use Rattle.std.specs.Prelude.{ℕ, zero, suc, pred, ◌+◌, ◌-◌, Bool, true, cond, List, [], ◌∷◌, eqb, drop, get_or}
+use Rattle.std.specs.Prelude.{ℕ, zero, suc, pred, ◌+◌, ◌-◌, Bool, true, cond, List, [], ◌∷◌, eqb, drop, get_or, Ok, Err, Some, None, Option}
 use Rattle.names.specs.Identifiers.{identifier_of}
 use Rattle.names.specs.declared.Identifier.{Identifier}
 use Rattle.names.specs.declared.Identifier.TheVariants.{Missing, Name, RawName}

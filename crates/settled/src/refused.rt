@@ -1,6 +1,5 @@
 // Which refusals stay, however the text goes on.
-ghost use Rattle.std.specs.Prelude.{Err};
-ghost use Rattle.std.specs.Prelude.{◌&&◌, ◌≡◌, ◌-◌};
+ghost use Rattle.std.specs.Prelude.{Err, ◌&&◌, ◌≡◌, ◌-◌};
 ghost use Rattle.arriving.specs.Owing.{tells_end};
 ghost use Rattle.settled.specs.Settled.{behind_slash, by_lexeme, quoted_stays, ron_settles, shape_in, spoilt_for, stays_by};
 

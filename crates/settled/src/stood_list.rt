@@ -3,7 +3,7 @@ ghost use Rattle.std.specs.Prelude.{◌≡◌, drop};
 ghost use Rattle.settled.specs.Stood.{named_stood, item_stood, by_stood_item, list_stood};
 
 use crate::stood_steps::all_end;
-use attributes::extensions::from_ident;
+use attributes::extensions::{Extension, from_ident};
 use attributes::list::{Item, next_item};
 use attributes::steps;
 use names::Identifier;
