@@ -1,17 +1,11 @@
 -- Read (document 01): "text into a tape, a lent slice of 32-bit numbers. Whitespace and comments make no entry. Order: 1, 2, .. then the refusals of
 -- reading in text order, .. and 22 last. A refused call writes nothing. An accepted read leaves the slice behind what it writes as it found it."
-use Rattle.std.specs.Prelude.{Ok, Err}
-use Rattle.std.specs.Prelude.{ℕ, cond, List, ltb, length}
+use Rattle.std.specs.Prelude.{Ok, Err, ℕ, cond, List, ltb, length}
 use Rattle.text.specs.Refusals.{Told, no_room}
 use Rattle.text.specs.Judged.{judged_of, behind_judged}
 use Rattle.rows.specs.Rows.{room_of, laid}
 use Rattle.reading.specs.Readings.{Reading, read_from, counted, entries}
 use Rattle.tokens.specs.Ron.{ron_token}
-
--- The code's answer in the paper's words.
-abbrev pub told_read : Told ℕ → Told ℕ
-told_read (Ok n) = Ok n
-told_read (Err r) = Err r
 
 -- The reading of a text.
 abbrev pub reading_of : List ℕ → Reading

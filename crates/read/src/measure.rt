@@ -22,11 +22,8 @@ pub fn scan(text: &[u8]) -> Scanned
 fn answer(s: Scanned) -> Result<usize, Refusal>
     ensures { result ≡ told_by s.ending s.count }
 {
-    let ending = s.ending;
-    match ending {
-        Ok(()) => Ok(s.count),
-        Err(refusal) => Err(refusal),
-    }
+    s.ending?;
+    Ok(s.count)
 }
 
 // How many entries a text has, or its refusal.

@@ -1,7 +1,6 @@
 -- A pass over a text. Read (document 01) makes two with one loop: "a refused call writes nothing", so the first only counts, and the second lays the
 -- entries on the tape. Repair lays so many entries from a place on.
-use Rattle.std.specs.Prelude.{Ok, Err}
-use Rattle.std.specs.Prelude.{ℕ, zero, suc, ◌+◌, Bool, cond, List}
+use Rattle.std.specs.Prelude.{Ok, Err, ℕ, zero, suc, ◌+◌, Bool, cond, List}
 use Rattle.rows.specs.Rows.{laid}
 use Rattle.text.specs.Refusals.{Told}
 use Rattle.reading.specs.Readings.{Reading, complete, broken, entry, entries}
