@@ -1,5 +1,5 @@
 -- The refusals that the readers inside the calls give (document 01, "Refusal numbers"): 4 to 21. CR 1: of 13 "a reason, 1 to 8", "0 for every other number".
-use Rattle.std.specs.Prelude.{ℕ, ◌≡◌, Bool, true, cond, ◌&&◌, eqb}
+use Rattle.std.specs.Prelude.{◌≡◌, Bool, true, cond, ◌&&◌, eqb}
 unfoldable pub use Rattle.text.specs.Classes.{within}
 use Rattle.text.specs.declared.refusal.Refusal.{Refusal}
 
