@@ -1,6 +1,6 @@
 -- Something is found: a comment that is not closed in the gap behind the last entry, and a string that is not closed behind that gap. Assumes nothing.
 use Rattle.std.proofs.Common.{Err}
-use Rattle.text.specs.Refusals.{Told}
+use Rattle.text.specs.Refusals.{Told, eof, expected_byte_string, expected_string, unexpected_char}
 use Rattle.strings.specs.declared.literal.Literal.{Literal}
 use Prim.Native.Nat.{ℕ, zero, suc, pred, ◌+◌, ◌<◌}
 use native.Mathlib.Omega.{arith}
@@ -19,7 +19,6 @@ use Rattle.comments.specs.declared.gap.Item.TheVariants.{Blank, LineOpen, BlockO
 use Rattle.strings.specs.Pieces.{unquoted}
 use Rattle.strings.specs.Strings.{string_of, byte_string_of}
 use Rattle.text.proofs.Choices.{cond_cases}
-use Rattle.text.specs.Refusals.{eof, expected_byte_string, expected_string, unexpected_char}
 use Rattle.text.specs.Runs.{run}
 use Rattle.text.specs.declared.refusal.Refusal.{Refusal}
 use Rattle.opened.specs.Fronts.{by_item, by_literal, front_of, literal_front}

@@ -1,6 +1,6 @@
 -- What is found begins where it is said to: a comment or a string that is not closed, or an opening bracket. Assumes nothing.
 use Rattle.std.proofs.Common.{Ok, Err, Some, None, Option}
-use Rattle.text.specs.Refusals.{Told}
+use Rattle.text.specs.Refusals.{Told, expected_string, expected_byte_string}
 use Rattle.strings.specs.declared.literal.Literal.{Literal}
 use Prim.Native.Nat.{ℕ, zero, suc, pred, ◌+◌, ◌<◌}
 use native.Mathlib.Omega.{arith}
@@ -26,7 +26,6 @@ use Rattle.strings.specs.Raw.{hash, missing, raw_of}
 use Rattle.strings.specs.Strings.{string_of, byte_string_of}
 use Rattle.text.proofs.Choices.{cond_cases}
 use Rattle.text.specs.Classes.{blank_width}
-use Rattle.text.specs.Refusals.{expected_string, expected_byte_string}
 use Rattle.text.specs.Runs.{run}
 use Rattle.text.specs.declared.refusal.Refusal.{Refusal}
 use Rattle.opened.specs.Fronts.{by_item, by_literal, front_of, literal_front}

@@ -1,9 +1,8 @@
 -- What a part begins with, told as the search for what is not closed goes on: a whole comment or string is passed, so that no mark inside one is taken for
 -- an open comment, and no quote inside one for an open string.
-use Rattle.std.specs.Prelude.{Ok, Err}
+use Rattle.std.specs.Prelude.{Ok, Err, ℕ, cond, List, eqb, length, get_or}
 use Rattle.text.specs.Refusals.{Told}
 use Rattle.strings.specs.declared.literal.Literal.{Literal}
-use Rattle.std.specs.Prelude.{ℕ, cond, List, eqb, length, get_or}
 use Rattle.text.specs.Runs.{run}
 use Rattle.comments.specs.declared.gap.Item.{Item}
 use Rattle.comments.specs.declared.gap.Item.TheVariants.{Blank, LineOpen, BlockOpen, Unexpected, Ended, Other}

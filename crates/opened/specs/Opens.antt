@@ -1,6 +1,5 @@
 -- What it means that something that is not closed begins at a place, or that a field is named before, said without the search that finds it.
-use Rattle.std.specs.Prelude.{Err}
-use Rattle.std.specs.Prelude.{ℕ, ◌<◌, ◌≤◌, true, List, ◌∷◌, ◌⊎◌, ◌≡◌, drop}
+use Rattle.std.specs.Prelude.{Err, ℕ, ◌<◌, ◌≤◌, true, List, ◌∷◌, ◌⊎◌, ◌≡◌, drop}
 use Rattle.comments.specs.Blocks.{Body}
 use Rattle.strings.specs.Strings.{string_of, byte_string_of}
 use Rattle.text.specs.declared.refusal.Refusal.{Refusal}

@@ -6,6 +6,7 @@ ghost use Rattle.comments.specs.Lines.{line_end};
 ghost use Rattle.opened.specs.Fronts.{by_literal, literal_front, by_item, front_of};
 
 use comments::{block_comment, line_comment};
+use strings::Literal;
 use strings::runs::find_quote;
 use text::Refusal;
 use text::bytes::peek;
