@@ -1,6 +1,5 @@
 -- What the last byte of a part decides, by what the part holds. Assumes nothing.
 use Rattle.std.proofs.Common.{Ok, Err}
-use Rattle.text.specs.Refusals.{Told}
 use Prim.Native.Nat.{ℕ, ◌+◌, ◌-◌, ◌<◌, ◌≤◌}
 use native.Mathlib.Nat.{sub_self}
 use native.Mathlib.Omega.{arith}
@@ -11,7 +10,7 @@ use lib.Dec.{eqb}
 use lib.ListN.{drop, drop_of_length-le, get_or, length, length-append, take}
 use borrow.Author.Tests.{eq-eqb, le-leb, lt-leb, ne_eqb}
 use Rattle.text.proofs.Choices.{bool_cases, cond_same, either, lt_or_le}
-use Rattle.text.specs.Refusals.{placed_behind}
+use Rattle.text.specs.Refusals.{placed_behind, Told}
 use Rattle.text.specs.declared.refusal.Refusal.{Refusal}
 use Rattle.rows.specs.declared.Entry.{Entry}
 use Rattle.reading.proofs.Entries.{▸-append}

@@ -1,7 +1,6 @@
 -- A text and what is kept of it have the same tokens to come, whatever follows: `ron_alike`, `ron_alike_clear`. And 30 moves with the place: `bar_moves`.
 -- Assumes nothing.
 use Rattle.std.proofs.Common.{Ok, Err, Some, None, Option}
-use Rattle.text.specs.Refusals.{Told}
 use Rattle.tokens.specs.declared.lexeme.Lexeme.{Lexeme}
 use Prim.Native.Nat.{ℕ, suc, zero, pred, ◌*◌, ◌+◌, ◌-◌, ◌<◌}
 use native.Mathlib.Omega.{arith}
@@ -12,7 +11,7 @@ use lib.ListN.{drop, get_or, length, length-append, length-drop, take, take-appe
 use lib.Seq.{drop-drop, get_or-append-add, length-take-le}
 use borrow.Author.Tests.{eqb-true, le-leb, lt-leb}
 use Rattle.text.proofs.Choices.{bool_cases, either, lt_or_le}
-use Rattle.text.specs.Refusals.{at_place, entry_too_long, eof, unclosed_block_comment, unexpected_char}
+use Rattle.text.specs.Refusals.{at_place, entry_too_long, eof, unclosed_block_comment, unexpected_char, Told}
 use Rattle.text.specs.Utf8.{char_len}
 use Rattle.text.specs.declared.refusal.Refusal.{Refusal}
 use Rattle.comments.proofs.GapLaws.{gap_step}

@@ -1,6 +1,5 @@
 -- Many decisions at once: where no byte was refused, what the last deciding byte says of all that has come is what the bytes gave one by one. Assumes nothing.
 use Rattle.std.proofs.Common.{Err}
-use Rattle.text.specs.Refusals.{Told}
 use Prim.Native.Nat.{ℕ, suc, zero, ◌+◌, ◌-◌, ◌<◌, ◌≤◌}
 use native.Mathlib.Omega.{arith}
 use mathlib.Core.Bool.{Bool, true, false, cond, ◌&&◌, true≢false}
@@ -12,7 +11,7 @@ use lib.ListN.{drop, get_or, length, length-append, length-drop, length-take, ta
 use lib.Seq.{drop-append-le, length-take-le, take-append-le, take-append_seam}
 use borrow.Author.Tests.{le-leb, le-ltb, lt-leb, lt-ltb, ltb-true}
 use Rattle.text.proofs.Choices.{and_true, bool_cases, cond_cases, either}
-use Rattle.text.specs.Refusals.{placed_behind}
+use Rattle.text.specs.Refusals.{placed_behind, Told}
 use Rattle.text.specs.declared.refusal.Refusal.{Refusal}
 use Rattle.rows.specs.declared.Entry.{Entry}
 use Rattle.comments.specs.Gaps.{gap_of}

@@ -1,8 +1,7 @@
 -- The call `finish` (document 02, change request 3): "An entry is decided once .. the text has ended", so the rest is read as it stands; a character cut off is 2. The
 -- state stays as it was: after 22 the end may be asked again.
-use Rattle.std.specs.Prelude.{Ok, Err}
-use Rattle.std.specs.Prelude.{ℕ, ◌-◌, Bool, cond, ◌&&◌, List, [], ◌++◌, map, eqb, leb, ltb, drop, length, take}
-use Rattle.text.specs.Refusals.{Told, no_room, not_in_order, not_utf8, placed_behind}
+use Rattle.std.specs.Prelude.{ℕ, ◌-◌, Bool, cond, ◌&&◌, List, [], ◌++◌, map, eqb, leb, ltb, drop, length, take, Ok, Err}
+use Rattle.text.specs.Refusals.{Told, no_room, not_in_order, not_utf8, placed_behind, eof, unclosed_block_comment, unexpected_char}
 use Rattle.text.specs.declared.refusal.Refusal.{Refusal}
 use Rattle.rows.specs.Rows.{laid}
 use Rattle.rows.specs.declared.Entry.{Entry}
@@ -11,7 +10,6 @@ use Rattle.gaps.specs.declared.pass.Passed.{Passed}
 use Rattle.gaps.specs.declared.pass.Passed.TheVariants.{Begins, Within, Unexpected}
 use Rattle.gaps.specs.declared.state.Open.{Open}
 use Rattle.gaps.specs.declared.state.Open.TheVariants.{Clear, Slash, Line, Block}
-use Rattle.text.specs.Refusals.{eof, unclosed_block_comment, unexpected_char}
 use Rattle.reading.specs.Readings.{Reading, complete, broken, entry, entries, read_from}
 use Rattle.tokens.specs.Ron.{ron_token}
 use Rattle.pieces.specs.Orders.{in_order}

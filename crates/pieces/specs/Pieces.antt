@@ -2,8 +2,7 @@
 -- 65,536th are told when met, after the entries decided before, and a long entry has its own refusal. .. One answer may carry entries with a refusal behind them
 -- .. After a refusal every later piece gets the same one, but for 22: then nothing of the piece was taken, and it may be given again. Refusals: 23, a state out of
 -- order, first ..; 30 ..; 22, the piece's entries don't fit, ahead of the rest."
-use Rattle.std.specs.Prelude.{Ok, Err}
-use Rattle.std.specs.Prelude.{ℕ, ◌+◌, ◌-◌, Bool, cond, ◌&&◌, List, [], ◌∷◌, ◌++◌, map, eqb, leb, ltb, drop, length, take}
+use Rattle.std.specs.Prelude.{ℕ, ◌+◌, ◌-◌, Bool, cond, ◌&&◌, List, [], ◌∷◌, ◌++◌, map, eqb, leb, ltb, drop, length, take, Ok, Err}
 use Rattle.text.specs.Refusals.{Told, no_room, not_in_order, not_utf8, placed_behind, refusal, too_long}
 use Rattle.text.specs.declared.refusal.Refusal.{Refusal}
 use Rattle.rows.specs.Rows.{laid, room_of}

@@ -1,7 +1,6 @@
 -- What a byte decides, told as numbers: over the theory of crate arriving.
-use Rattle.std.specs.Prelude.{Ok, Err}
 use Rattle.text.specs.Refusals.{Told}
-use Rattle.std.specs.Prelude.{ℕ, ◌-◌, cond, List, eqb, drop, get_or, length}
+use Rattle.std.specs.Prelude.{ℕ, ◌-◌, cond, List, eqb, drop, get_or, length, Ok, Err}
 use Rattle.rows.specs.declared.Entry.{Entry}
 use Rattle.reading.specs.Readings.{end_of}
 use Rattle.arriving.specs.Arrivals.{Coming, Given, behind, decided, going, halted, shut}

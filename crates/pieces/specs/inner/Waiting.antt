@@ -1,7 +1,6 @@
 -- The first byte that decides something of what has begun.
-use Rattle.std.specs.Prelude.{Ok, Err}
 use Rattle.text.specs.Refusals.{Told}
-use Rattle.std.specs.Prelude.{ℕ, ◌+◌, ◌-◌, Bool, true, false, cond, not, ◌&&◌, List, [], ◌∷◌, ◌++◌, eqb, leb, ltb, drop, length, take}
+use Rattle.std.specs.Prelude.{ℕ, ◌+◌, ◌-◌, Bool, true, false, cond, not, ◌&&◌, List, [], ◌∷◌, ◌++◌, eqb, leb, ltb, drop, length, take, Ok, Err}
 use Rattle.text.specs.Runs.{run}
 use Rattle.reading.specs.Kept.{last_quiet}
 use Rattle.reading.specs.Tokens.{Answer, token, stop, refuse, reach}
