@@ -98,8 +98,9 @@ joins_true old b e g x k h =
 pub found_bounds : (old : List Entry) (b e : ℕ) (r : Reading) (n m k : ℕ) → scan_of old b e n r ≡ Ok (m, k) → Bounds old b (n + length (entries r)) m k
 unfolding scan_of entries
 found_bounds old b e complete n m k h =
-    let u : n ≡ m = cc in
-    let v : length old ≡ k = cc in
+    let w : ◌≡◌ {A = ℕ × ℕ} (n, length old) (m, k) = cc in
+    let u : n ≡ m = ap (λ (p : ℕ × ℕ). p.0) w in
+    let v : length old ≡ k = ap (λ (p : ℕ × ℕ). p.1) w in
     record { few = omega arith; in_old = omega arith; late = λ l. absurd (omega arith) }
 found_bounds old b e (broken d) n m k h = let z : ◌≡◌ {A = ℕ} 0 1 = cc in absurd (omega arith)
 found_bounds old b e (entry x r) n m k h = go (joins old b e x.gap x.start (seek_of old b e x.start)) refl h (λ p. found_bounds old b e r (n + 1) m k p)
@@ -108,8 +109,9 @@ found_bounds old b e (entry x r) n m k h = go (joins old b e x.gap x.start (seek
         → ◌≡◌ {A = Told (ℕ × ℕ)} (cond t (Ok (n, seek_of old b e x.start)) (scan_of old b e (n + 1) r)) (Ok (m, k))
         → (scan_of old b e (n + 1) r ≡ Ok (m, k) → Bounds old b (n + 1 + length (entries r)) m k) → Bounds old b (n + suc (length (entries r))) m k
     go true j h f =
-        let u : n ≡ m = cc in
-        let v : seek_of old b e x.start ≡ k = cc in
+        let z : ◌≡◌ {A = ℕ × ℕ} (n, seek_of old b e x.start) (m, k) = cc in
+        let u : n ≡ m = ap (λ (p : ℕ × ℕ). p.0) z in
+        let v : seek_of old b e x.start ≡ k = ap (λ (p : ℕ × ℕ). p.1) z in
         let w = joins_true old b e x.gap x.start (seek_of old b e x.start) j in
         record { few = omega arith; in_old = omega (arith, w.in_old); late = λ l. subst (λ (i : ℕ). b ≤ (get_or old i no_entry).start) v (omega (arith, w.late, w.starts)) }
     go false j h f = let w = f h in record { few = omega (arith, w.few); in_old = w.in_old; late = w.late }

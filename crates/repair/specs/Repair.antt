@@ -2,8 +2,7 @@
 -- entries of any tape in order; that these steps come to a fresh reading, where the tape is the old text's, is a theorem. "23: unless a ≤ b ≤ old length, new
 -- length + b ≥ old length + a, the count fits the slice, .." and the tape is in order. "Accepted, the slice holds the new entries, zeros up to the old
 -- count, and beyond it what stood there." Throughout, o is the old length, n the new one, and e the end of the new bytes.
-use Rattle.std.specs.Prelude.{Ok, Err}
-use Rattle.std.specs.Prelude.{ℕ, suc, ◌+◌, ◌-◌, ◌*◌, Bool, cond, ◌&&◌, List, [], ◌∷◌, ◌++◌, map, ltb, leb, eqb, length, take, drop, get_or, replicate}
+use Rattle.std.specs.Prelude.{Ok, Err, ℕ, suc, ◌+◌, ◌-◌, ◌*◌, Bool, cond, ◌&&◌, List, [], ◌∷◌, ◌++◌, map, ltb, leb, eqb, length, take, drop, get_or, replicate}
 use Rattle.text.specs.Refusals.{Told, no_room, not_in_order}
 use Rattle.text.specs.Judged.{judged_of, behind_judged}
 use Rattle.rows.specs.Rows.{width, room_of, entries_of, laid}

@@ -11,7 +11,8 @@ use text::Refusal;
 use text::refusal::placed_behind;
 use tokens::following::{Following, next_token};
 
-// The new reading from a place on, up to the entry where it joins; the search over the old entries only goes forward, and it begins
+// The new reading from a place on, up to the entry where it joins: how many new entries stand before it, and the number of the old entry there; or what the
+// new text is refused with before. The search over the old entries only goes forward, and it begins
 // behind the first j, none of which can be joined: they start before b.
 pub fn find_join(
     text: &[u8],

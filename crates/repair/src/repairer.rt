@@ -35,7 +35,8 @@ fn finish(
     Ok((total, j, rest.m))
 }
 
-// The tape of an old text, in which the bytes from a to b were replaced, made that of the new text, which has at most 65,536 bytes.
+// The tape of an old text, in which the bytes from a to b were replaced, made that of the new text, which has at most 65,536 bytes: how many entries it holds
+// now, and how many were kept before and behind; refused, it leaves the tape as it was.
 pub fn repair_text(
     tape: &mut [u32],
     count: usize,
@@ -55,21 +56,16 @@ pub fn repair_text(
     let q = last_quiet(&text[0..a]);
     let j = ends_before(&tape[..], count, q);
     let from = resume_at(&tape[..], j);
-    let found = find_join(text, from, &tape[..], count, j, b, e);
-    match found {
-        Err(refusal) => Err(refusal),
-        Ok((n, i)) => {
-            let f = i - j;
-            let m = count - i;
-            let rest = Rest {
-                from,
-                n,
-                f,
-                m,
-                b,
-                e,
-            };
-            finish(tape, j, text, rest)
-        }
-    }
+    let (n, i) = find_join(text, from, &tape[..], count, j, b, e)?;
+    let f = i - j;
+    let m = count - i;
+    let rest = Rest {
+        from,
+        n,
+        f,
+        m,
+        b,
+        e,
+    };
+    finish(tape, j, text, rest)
 }

@@ -1,6 +1,5 @@
 -- What the inner steps of a repair come to: the search over the old entries, which only goes forward, and the rows that are moved and cleared.
-use Rattle.std.specs.Prelude.{Ok, Err}
-use Rattle.std.specs.Prelude.{ℕ, ◌+◌, ◌-◌, ◌*◌, ◌<◌, ◌≤◌, min, Bool, true, cond, ◌≡◌, List, ◌++◌, map, ltb, leb, length, take, drop, get_or, replicate}
+use Rattle.std.specs.Prelude.{Ok, Err, ℕ, ◌+◌, ◌-◌, ◌*◌, ◌<◌, ◌≤◌, min, Bool, true, cond, ◌≡◌, List, ◌++◌, map, ltb, leb, length, take, drop, get_or, replicate}
 use Rattle.rows.specs.Rows.{width, room_of, entries_of, flat, laid}
 use Rattle.rows.specs.Order.{in_order}
 use Rattle.text.specs.Refusals.{Told, no_room}

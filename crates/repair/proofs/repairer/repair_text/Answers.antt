@@ -1,6 +1,7 @@
 use Rattle.std.proofs.Common.{Err}
 use native.Mathlib.Omega.{arith}
-use mathlib.Core.Path.{◌∙◌, ap, sym}
+use mathlib.Core.Path.{◌≡◌, ◌∙◌, ap, sym}
+use borrow.Author.Rules.{rules}
 use lib.ListN.{length}
 use Rattle.repair.proofs.Checks.{fits_true}
 use Rattle.repair.proofs.Finding.{behind_movable, cut_inside, few_new, found_is, from_is, join_behind, join_le, kept_early, kept_is, kept_le, resume_inside}
@@ -26,20 +27,20 @@ ends_before-j-requires c = let fit = fits_true c.args.tape.now c.args.count c.ar
 pub resume_at-from-requires : goal.resume_at-from-requires
 resume_at-from-requires c = let fit = fits_true c.args.tape.now c.args.count c.args.old_len c.args.a c.args.b (length c.args.text.now) (sym c.repair_fits.ensures ∙ c.if-not-repair_fits.false) in let ej = kept_is c.args.tape.now c.args.count c.args.old_len c.args.a c.args.b c.args.text.now fit _ _ c.last_quiet-q.ensures c.ends_before-j.ensures in omega (arith, ej, kept_le c.args.tape.now c.args.count c.args.old_len c.args.a c.args.b c.args.text.now fit, fit.room)
 
-pub find_join-found-requires : goal.find_join-found-requires
-find_join-found-requires c = let fit = fits_true c.args.tape.now c.args.count c.args.old_len c.args.a c.args.b (length c.args.text.now) (sym c.repair_fits.ensures ∙ c.if-not-repair_fits.false) in let ej = kept_is c.args.tape.now c.args.count c.args.old_len c.args.a c.args.b c.args.text.now fit _ _ c.last_quiet-q.ensures c.ends_before-j.ensures in let ep = from_is c.args.tape.now c.args.count c.args.old_len c.args.a c.args.b c.args.text.now fit _ _ ej c.resume_at-from.ensures in (c.requires, omega (arith, ep, resume_inside c.args.tape.now c.args.count c.args.old_len c.args.a c.args.b c.args.text.now fit), fit.room, omega (arith, fit.cuts.in_old, fit.cuts.lengths), kept_early c.args.tape.now c.args.count c.args.old_len c.args.a c.args.b c.args.text.now fit _ ej)
+pub find_join-requires : goal.find_join-requires
+find_join-requires c = let fit = fits_true c.args.tape.now c.args.count c.args.old_len c.args.a c.args.b (length c.args.text.now) (sym c.repair_fits.ensures ∙ c.if-not-repair_fits.false) in let ej = kept_is c.args.tape.now c.args.count c.args.old_len c.args.a c.args.b c.args.text.now fit _ _ c.last_quiet-q.ensures c.ends_before-j.ensures in let ep = from_is c.args.tape.now c.args.count c.args.old_len c.args.a c.args.b c.args.text.now fit _ _ ej c.resume_at-from.ensures in (c.requires, omega (arith, ep, resume_inside c.args.tape.now c.args.count c.args.old_len c.args.a c.args.b c.args.text.now fit), fit.room, omega (arith, fit.cuts.in_old, fit.cuts.lengths), kept_early c.args.tape.now c.args.count c.args.old_len c.args.a c.args.b c.args.text.now fit _ ej)
 
 pub overflow_sub-f : goal.overflow_sub-f
-overflow_sub-f c = let fit = fits_true c.args.tape.now c.args.count c.args.old_len c.args.a c.args.b (length c.args.text.now) (sym c.repair_fits.ensures ∙ c.if-not-repair_fits.false) in let ej = kept_is c.args.tape.now c.args.count c.args.old_len c.args.a c.args.b c.args.text.now fit _ _ c.last_quiet-q.ensures c.ends_before-j.ensures in let ep = from_is c.args.tape.now c.args.count c.args.old_len c.args.a c.args.b c.args.text.now fit _ _ ej c.resume_at-from.ensures in let es = sym (found_is c.args.tape.now c.args.count c.args.old_len c.args.a c.args.b c.args.text.now fit _ _ ep c.find_join-found.ensures) ∙ c.in-Ok.is in omega (arith, ej, join_behind c.args.tape.now c.args.count c.args.old_len c.args.a c.args.b c.args.text.now fit _ _ es)
+overflow_sub-f c = let fit = fits_true c.args.tape.now c.args.count c.args.old_len c.args.a c.args.b (length c.args.text.now) (sym c.repair_fits.ensures ∙ c.if-not-repair_fits.false) in let ej = kept_is c.args.tape.now c.args.count c.args.old_len c.args.a c.args.b c.args.text.now fit _ _ c.last_quiet-q.ensures c.ends_before-j.ensures in let ep = from_is c.args.tape.now c.args.count c.args.old_len c.args.a c.args.b c.args.text.now fit _ _ ej c.resume_at-from.ensures in let es = sym (found_is c.args.tape.now c.args.count c.args.old_len c.args.a c.args.b c.args.text.now fit _ _ ep c.find_join.ensures) ∙ c.in_ok-n.was in omega (arith, ej, join_behind c.args.tape.now c.args.count c.args.old_len c.args.a c.args.b c.args.text.now fit _ _ es)
 
 pub overflow_sub-m : goal.overflow_sub-m
-overflow_sub-m c = let fit = fits_true c.args.tape.now c.args.count c.args.old_len c.args.a c.args.b (length c.args.text.now) (sym c.repair_fits.ensures ∙ c.if-not-repair_fits.false) in let ej = kept_is c.args.tape.now c.args.count c.args.old_len c.args.a c.args.b c.args.text.now fit _ _ c.last_quiet-q.ensures c.ends_before-j.ensures in let ep = from_is c.args.tape.now c.args.count c.args.old_len c.args.a c.args.b c.args.text.now fit _ _ ej c.resume_at-from.ensures in let es = sym (found_is c.args.tape.now c.args.count c.args.old_len c.args.a c.args.b c.args.text.now fit _ _ ep c.find_join-found.ensures) ∙ c.in-Ok.is in join_le c.args.tape.now c.args.count c.args.old_len c.args.a c.args.b c.args.text.now fit _ _ es
+overflow_sub-m c = let fit = fits_true c.args.tape.now c.args.count c.args.old_len c.args.a c.args.b (length c.args.text.now) (sym c.repair_fits.ensures ∙ c.if-not-repair_fits.false) in let ej = kept_is c.args.tape.now c.args.count c.args.old_len c.args.a c.args.b c.args.text.now fit _ _ c.last_quiet-q.ensures c.ends_before-j.ensures in let ep = from_is c.args.tape.now c.args.count c.args.old_len c.args.a c.args.b c.args.text.now fit _ _ ej c.resume_at-from.ensures in let es = sym (found_is c.args.tape.now c.args.count c.args.old_len c.args.a c.args.b c.args.text.now fit _ _ ep c.find_join.ensures) ∙ c.in_ok-n.was in join_le c.args.tape.now c.args.count c.args.old_len c.args.a c.args.b c.args.text.now fit _ _ es
 
 pub finish-requires : goal.finish-requires
-finish-requires c = let fit = fits_true c.args.tape.now c.args.count c.args.old_len c.args.a c.args.b (length c.args.text.now) (sym c.repair_fits.ensures ∙ c.if-not-repair_fits.false) in let ej = kept_is c.args.tape.now c.args.count c.args.old_len c.args.a c.args.b c.args.text.now fit _ _ c.last_quiet-q.ensures c.ends_before-j.ensures in let ep = from_is c.args.tape.now c.args.count c.args.old_len c.args.a c.args.b c.args.text.now fit _ _ ej c.resume_at-from.ensures in let es = sym (found_is c.args.tape.now c.args.count c.args.old_len c.args.a c.args.b c.args.text.now fit _ _ ep c.find_join-found.ensures) ∙ c.in-Ok.is in let few = few_new c.args.tape.now c.args.count c.args.old_len c.args.a c.args.b c.args.text.now fit _ _ es _ ep in let less = few_entries c.args.text.now c.resume_at-from.result in (c.requires, omega (arith, ep, resume_inside c.args.tape.now c.args.count c.args.old_len c.args.a c.args.b c.args.text.now fit), few, omega (arith, ej, fit.room, join_behind c.args.tape.now c.args.count c.args.old_len c.args.a c.args.b c.args.text.now fit _ _ es, join_le c.args.tape.now c.args.count c.args.old_len c.args.a c.args.b c.args.text.now fit _ _ es), omega (arith, few, less, c.requires), behind_movable c.args.tape.now c.args.count c.args.old_len c.args.a c.args.b c.args.text.now fit _ _ es c.requires _ ej)
+finish-requires c = let fit = fits_true c.args.tape.now c.args.count c.args.old_len c.args.a c.args.b (length c.args.text.now) (sym c.repair_fits.ensures ∙ c.if-not-repair_fits.false) in let ej = kept_is c.args.tape.now c.args.count c.args.old_len c.args.a c.args.b c.args.text.now fit _ _ c.last_quiet-q.ensures c.ends_before-j.ensures in let ep = from_is c.args.tape.now c.args.count c.args.old_len c.args.a c.args.b c.args.text.now fit _ _ ej c.resume_at-from.ensures in let es = sym (found_is c.args.tape.now c.args.count c.args.old_len c.args.a c.args.b c.args.text.now fit _ _ ep c.find_join.ensures) ∙ c.in_ok-n.was in let few = few_new c.args.tape.now c.args.count c.args.old_len c.args.a c.args.b c.args.text.now fit _ _ es _ ep in let less = few_entries c.args.text.now c.resume_at-from.result in (c.requires, omega (arith, ep, resume_inside c.args.tape.now c.args.count c.args.old_len c.args.a c.args.b c.args.text.now fit), few, omega (arith, ej, fit.room, join_behind c.args.tape.now c.args.count c.args.old_len c.args.a c.args.b c.args.text.now fit _ _ es, join_le c.args.tape.now c.args.count c.args.old_len c.args.a c.args.b c.args.text.now fit _ _ es), omega (arith, few, less, c.requires), behind_movable c.args.tape.now c.args.count c.args.old_len c.args.a c.args.b c.args.text.now fit _ _ es c.requires _ ej)
 
-pub returns-in-Err : goal.returns-in-Err
-returns-in-Err c = let fit = fits_true c.args.tape.now c.args.count c.args.old_len c.args.a c.args.b (length c.args.text.now) (sym c.repair_fits.ensures ∙ c.if-not-repair_fits.false) in let ej = kept_is c.args.tape.now c.args.count c.args.old_len c.args.a c.args.b c.args.text.now fit _ _ c.last_quiet-q.ensures c.ends_before-j.ensures in let ep = from_is c.args.tape.now c.args.count c.args.old_len c.args.a c.args.b c.args.text.now fit _ _ ej c.resume_at-from.ensures in let es = sym (found_is c.args.tape.now c.args.count c.args.old_len c.args.a c.args.b c.args.text.now fit _ _ ep c.find_join-found.ensures) ∙ c.in-Err.is in out_refused c.args.tape.now c.args.count c.args.old_len c.args.a c.args.b c.args.text.now (sym c.repair_fits.ensures ∙ c.if-not-repair_fits.false) _ es
+pub returns-in_err-n : goal.returns-in_err-n
+returns-in_err-n c = let fit = fits_true c.args.tape.now c.args.count c.args.old_len c.args.a c.args.b (length c.args.text.now) (sym c.repair_fits.ensures ∙ c.if-not-repair_fits.false) in let ej = kept_is c.args.tape.now c.args.count c.args.old_len c.args.a c.args.b c.args.text.now fit _ _ c.last_quiet-q.ensures c.ends_before-j.ensures in let ep = from_is c.args.tape.now c.args.count c.args.old_len c.args.a c.args.b c.args.text.now fit _ _ ej c.resume_at-from.ensures in let es = sym (found_is c.args.tape.now c.args.count c.args.old_len c.args.a c.args.b c.args.text.now fit _ _ ep c.find_join.ensures) ∙ c.in_err-n.was in let x : c.from_residual.result ≡ Err c.in_err-n.field-0.0 = search rules in rw x (out_refused c.args.tape.now c.args.count c.args.old_len c.args.a c.args.b c.args.text.now (sym c.repair_fits.ensures ∙ c.if-not-repair_fits.false) _ es)
 
-pub returns-in-Ok : goal.returns-in-Ok
-returns-in-Ok c = let fit = fits_true c.args.tape.now c.args.count c.args.old_len c.args.a c.args.b (length c.args.text.now) (sym c.repair_fits.ensures ∙ c.if-not-repair_fits.false) in let ej = kept_is c.args.tape.now c.args.count c.args.old_len c.args.a c.args.b c.args.text.now fit _ _ c.last_quiet-q.ensures c.ends_before-j.ensures in let ep = from_is c.args.tape.now c.args.count c.args.old_len c.args.a c.args.b c.args.text.now fit _ _ ej c.resume_at-from.ensures in let es = sym (found_is c.args.tape.now c.args.count c.args.old_len c.args.a c.args.b c.args.text.now fit _ _ ep c.find_join-found.ensures) ∙ c.in-Ok.is in out_done c.args.tape.now c.args.count c.args.old_len c.args.a c.args.b c.args.text.now (sym c.repair_fits.ensures ∙ c.if-not-repair_fits.false) _ _ es c.requires _ _ ej ep _ _ c.finish.ensures
+pub returns : goal.returns
+returns c = let fit = fits_true c.args.tape.now c.args.count c.args.old_len c.args.a c.args.b (length c.args.text.now) (sym c.repair_fits.ensures ∙ c.if-not-repair_fits.false) in let ej = kept_is c.args.tape.now c.args.count c.args.old_len c.args.a c.args.b c.args.text.now fit _ _ c.last_quiet-q.ensures c.ends_before-j.ensures in let ep = from_is c.args.tape.now c.args.count c.args.old_len c.args.a c.args.b c.args.text.now fit _ _ ej c.resume_at-from.ensures in let es = sym (found_is c.args.tape.now c.args.count c.args.old_len c.args.a c.args.b c.args.text.now fit _ _ ep c.find_join.ensures) ∙ c.in_ok-n.was in out_done c.args.tape.now c.args.count c.args.old_len c.args.a c.args.b c.args.text.now (sym c.repair_fits.ensures ∙ c.if-not-repair_fits.false) _ _ es c.requires _ _ ej ep _ _ c.finish.ensures
