@@ -1,36 +1,34 @@
 -- A gap and the fronts of a text: what a front of it says of the gap. Assumes nothing.
 use Rattle.std.proofs.Common.{Some, None, Option}
-use Prim.Native.Nat.{ℕ, suc, zero, ◌+◌, ◌-◌, ◌<◌, ◌≤◌}
+use Prim.Native.Nat.{ℕ, ◌+◌, ◌<◌, ◌≤◌}
 use native.Mathlib.Omega.{arith}
-use mathlib.Core.Bool.{Bool, true, false, cond}
-use mathlib.Core.Logic.{◌⊎◌, inl, inr}
+use mathlib.Core.Bool.{true, false}
+use mathlib.Core.Logic.{inl}
 use mathlib.Core.List.{List, [], ◌++◌, ◌∷◌, append_assoc, append-nil}
 use mathlib.Core.Path.{◌≡◌, ap, ap₂, refl, subst, sym, ◌∙◌}
-use lib.Dec.{eqb, ltb, leb}
-use lib.ListN.{drop, get_or, length, length-append, length-drop, length-take, take, take-append-drop}
-use lib.Seq.{drop-append-le, length-take-le}
-use Rattle.comments.specs.Blocks.{Body, Mark, mark_of, Neither}
+use lib.Dec.{eqb}
+use lib.ListN.{drop, get_or, length, length-append, length-drop, take, take-append-drop}
+use lib.Seq.{drop-append-le}
+use Rattle.comments.specs.Blocks.{Body, mark_of, Neither}
 use Rattle.comments.specs.Blocks.Body.{closes, nests, passes}
 use Rattle.comments.specs.Gaps.{behind_slash, block_item, comment_of, gap_of, item_of, line_item}
 use Rattle.comments.specs.Blocks.{block_end}
 use Rattle.comments.specs.Lines.{line_end}
-use Rattle.comments.specs.declared.gap.Item.{Item}
 use Rattle.comments.specs.declared.gap.Item.TheVariants.{Blank, Other, Unexpected}
 use Rattle.comments.proofs.GapWindow.{gap_window_by}
 use Rattle.comments.specs.declared.gap.Gap.{Gap as Answer}
 use Rattle.comments.specs.declared.gap.Gap.TheVariants as answer
 use Rattle.gapped.proofs.Exactly.{clear_exactly}
-use Rattle.gapped.specs.Gap.{Clear, Gap, Whole}
+use Rattle.gapped.specs.Gap.{Clear, Gap}
 use Rattle.gapped.specs.Gap.Gap.{none, space, line, block}
-use borrow.Author.Tests.{lt-ltb, ne_eqb, le-leb, lt-leb}
+use borrow.Author.Tests.{lt-ltb, ne_eqb, lt-leb}
 use Rattle.text.proofs.BlankLaws.{width_at}
 use Rattle.text.proofs.Choices.{and_false, bool_cases, either, lt_or_le}
-use Rattle.arriving.specs.Arrivals.{Passing}
-use Rattle.arriving.specs.Arrivals.Passing.{halt, pass}
+use Rattle.arriving.specs.Arrivals.Passing.{pass}
 use Rattle.pieces.specs.Bars.{bar_by, bar_of}
 use Rattle.xid.proofs.Ranges.{above}
 use Rattle.text.specs.Classes.{blank, blank1, blank2, blank3, blank_width, within}
-use Rattle.text.specs.Utf8.{Scalar, char_len, encode}
+use Rattle.text.specs.Utf8.{char_len, encode}
 
 -- ---- what stands behind a gap may be exchanged
 

@@ -2,9 +2,7 @@
 use Prim.Native.Nat.{ℕ, ◌≤◌, max, min}
 use native.Mathlib.Nat.{max-eq_left, max-eq_right, min-eq_left, min-eq_right}
 use native.Mathlib.Omega.{arith}
-use mathlib.Core.Bool.{cond}
 use mathlib.Core.Path.{◌≡◌, sym, ◌∙◌}
-use lib.Dec.{leb}
 use borrow.Author.Tests.{le-leb, lt-leb}
 use Rattle.text.proofs.Choices.{either, lt_or_le}
 use Rattle.pieces.specs.Come.{later, sooner}

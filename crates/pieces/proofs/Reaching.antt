@@ -7,7 +7,7 @@ use Rattle.comments.specs.Gaps.{gap_of}
 use Rattle.comments.specs.declared.gap.Gap.TheVariants as gap
 use Rattle.text.specs.Refusals.{eof, unclosed_block_comment}
 use Rattle.gaps.specs.Opens.{open_of, unpaired}
-use Rattle.gaps.specs.declared.state.Open.TheVariants.{Clear, Slash, Line, Block}
+use Rattle.gaps.specs.declared.state.Open.TheVariants.{Slash, Line, Block}
 
 -- whitespace and comments reach to the end of y, and this is open there
 pub data Reaches (y : List ℕ) : Type 0 where

@@ -3,7 +3,7 @@ use Prim.Native.Nat.{ℕ, ◌+◌}
 use mathlib.Core.List.{List, [], ◌∷◌}
 use mathlib.Core.Path.{◌≡◌, ap, refl}
 use Rattle.text.specs.declared.refusal.Refusal.{Refusal}
-use Rattle.arriving.specs.Arrivals.{Coming, Given, piece}
+use Rattle.arriving.specs.Arrivals.{Given, piece}
 use Rattle.arriving.specs.Arrivals.Coming.{halted, shut}
 use Rattle.pieces.specs.Bars.{bytes_give}
 

@@ -2,7 +2,7 @@
 use Prim.Native.Nat.{ℕ, ◌+◌, ◌-◌, ◌<◌, ◌≤◌}
 use native.Mathlib.Nat.{sub_self}
 use native.Mathlib.Omega.{arith}
-use mathlib.Core.List.{List, [], ◌++◌, ◌∷◌}
+use mathlib.Core.List.{List, [], ◌++◌}
 use mathlib.Core.Path.{◌≡◌, ap, ap₂, refl, subst, sym, ◌∙◌}
 use lib.ListN.{drop, drop_of_length-le, length, length-append, length-drop, length-take, take}
 use Rattle.text.proofs.Choices.{either, lt_or_le}
@@ -13,10 +13,10 @@ use Rattle.reading.specs.Owed.{quiet_byte}
 use Rattle.reading.specs.Readings.{end_of}
 use Rattle.tokens.proofs.RonLaws.{kinds, laws}
 use Rattle.tokens.specs.Ron.{ron_token}
-use Rattle.arriving.proofs.Came.{Begins, given_read}
+use Rattle.arriving.proofs.Came.{given_read}
 use Rattle.arriving.proofs.Keeps.{end_append}
 use Rattle.arriving.proofs.Whole.{both, cut}
-use Rattle.arriving.specs.Arrivals.{Coming, Given, piece}
+use Rattle.arriving.specs.Arrivals.{Given, piece}
 use Rattle.arriving.specs.Arrivals.Coming.{going}
 use Rattle.settled.proofs.Owed.{ron}
 use Rattle.settled.specs.Settled.{ron_reader}
@@ -28,7 +28,7 @@ use Rattle.pieces.specs.declared.run.Ran.{Ran}
 use Rattle.pieces.specs.declared.turn.Stands.{Stands}
 use Rattle.pieces.specs.declared.turn.Turned.{Turned}
 use Rattle.pieces.specs.declared.turn.Turned.TheVariants.{On, Over}
-use Rattle.pieces.proofs.TurnLaws.{Goes, Means, Stops, between_all, between_join, between_length, between_rest, between_take}
+use Rattle.pieces.proofs.TurnLaws.{Goes, Means, Stops, between_join, between_length, between_rest, between_take}
 use Rattle.pieces.proofs.PlaceLaws.{later_left, later_right}
 
 -- what was given up to a place, from where a token began

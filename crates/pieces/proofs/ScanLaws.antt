@@ -1,6 +1,6 @@
 -- A scan: the entries counted so far, and what is left to read. Assumes nothing.
 use Rattle.text.specs.Refusals.{Told}
-use Prim.Native.Nat.{ℕ, ◌+◌, ◌-◌}
+use Prim.Native.Nat.{ℕ, ◌-◌}
 use native.Mathlib.Omega.{arith}
 use mathlib.Core.List.{List, [], ◌++◌, ◌∷◌, append-nil}
 use mathlib.Core.Path.{◌≡◌, ap, ap₂, refl, ◌∙◌}

@@ -23,7 +23,6 @@ use Rattle.octets.specs.Octets.{Cut}
 use Rattle.gaps.specs.Opens.{kept_of, open_of}
 use Rattle.gaps.specs.Passes.{passed_of}
 use Rattle.gaps.specs.declared.pass.Passed.{Passed}
-use Rattle.gaps.specs.declared.pass.Passed.TheVariants.{Within}
 use Rattle.gaps.specs.declared.state.Open.{Open}
 use Rattle.gaps.specs.declared.state.Open.TheVariants.{Clear}
 use Rattle.arriving.specs.Arrivals.{Passing, halt, pass}

@@ -26,8 +26,8 @@ use Rattle.reading.specs.Tokens.Answer.{refuse, stop, token}
 use Rattle.tokens.specs.Ron.{ron_token}
 use Rattle.arriving.proofs.Fronts.{entries_front}
 use Rattle.arriving.proofs.Keeps.{byte_keeps, end_append, piece_keeps}
-use Rattle.arriving.proofs.Whole.{Taken, both, cut, front, meant, one_reading}
-use Rattle.arriving.specs.Arrivals.{Coming, Given, Passing, behind, by_answer, by_passing, decided, decided_of, ended, left_at, looks, piece, spoilt, step, taken, up_to}
+use Rattle.arriving.proofs.Whole.{Taken, both, cut, front, one_reading}
+use Rattle.arriving.specs.Arrivals.{Coming, Given, Passing, behind, by_answer, by_passing, decided, decided_of, ended, left_at, looks, piece, step, taken}
 use Rattle.arriving.specs.Arrivals.Coming.{going, halted, shut}
 use Rattle.arriving.specs.Arrivals.Passing.{halt, pass}
 use Rattle.arriving.specs.Owing.{tells_end}

@@ -2,13 +2,13 @@
 use Prim.Native.Nat.{ℕ, suc, zero, ◌+◌, ◌-◌, ◌<◌, ◌≤◌}
 use native.Mathlib.Nat.{sub_self}
 use native.Mathlib.Omega.{arith}
-use mathlib.Core.Bool.{Bool, true, false, cond}
+use mathlib.Core.Bool.{true, false, cond}
 use mathlib.Core.List.{List, [], ◌++◌, ◌∷◌, append_assoc, append-nil}
 use mathlib.Core.Path.{◌≡◌, ap, ap₂, refl, subst, sym, ◌∙◌}
 use lib.Dec.{eqb, leb, ltb}
-use lib.ListN.{drop, drop_of_length-le, get_or, length, length-append, length-drop, length-take, take, take-append-drop}
+use lib.ListN.{drop, drop_of_length-le, get_or, length, length-append, length-drop, take, take-append-drop}
 use lib.Seq.{drop-append-le, get_or-drop, get_or-take, length-take-le}
-use borrow.Author.Tests.{eq-eqb, ne_eqb, le-leb, lt-leb, lt-ltb, le-ltb, leb-true, ltb-true, eqb-true}
+use borrow.Author.Tests.{eq-eqb, ne_eqb, le-leb, lt-leb, lt-ltb, le-ltb, eqb-true}
 use Rattle.text.proofs.Choices.{bool_cases, either, lt_or_le}
 use Rattle.text.specs.Refusals.{entry_too_long, placed_behind, unexpected_char}
 use Rattle.text.specs.declared.refusal.Refusal.{Refusal}
@@ -28,16 +28,16 @@ use Rattle.gaps.specs.declared.state.Open.{Open}
 use Rattle.gaps.specs.declared.state.Open.TheVariants.{Clear}
 use Rattle.octets.specs.Octets.{Cut}
 use Rattle.reading.proofs.Steps.{drop_on}
-use Rattle.reading.specs.Kept.{AllThere, MovedThere}
+use Rattle.reading.specs.Kept.{AllThere}
 use Rattle.reading.specs.Kept.AllThere.{none, more}
 use Rattle.reading.specs.Readings.{end_of}
-use Rattle.arriving.proofs.Keeps.{Keeps, piece_keeps}
+use Rattle.arriving.proofs.Keeps.{piece_keeps}
 use Rattle.arriving.proofs.Meets.{Alike, ComingThere, GivenThere, RefusalThere, goes, piece_there, shuts, stays_halted}
-use Rattle.arriving.proofs.Waits.{Free, keeping}
+use Rattle.arriving.proofs.Waits.{keeping}
 use Rattle.arriving.proofs.Whole.{both, cut}
-use Rattle.arriving.specs.Arrivals.{Coming, Given, Passing, by_passing, piece, step, taken}
+use Rattle.arriving.specs.Arrivals.{Coming, Given, Passing, by_passing, piece, taken}
 use Rattle.arriving.specs.Arrivals.Coming.{going, halted, shut}
-use Rattle.arriving.specs.Arrivals.Passing.{halt, pass}
+use Rattle.arriving.specs.Arrivals.Passing.{halt}
 use Rattle.settled.proofs.Owed.{ron}
 use Rattle.settled.specs.Settled.{ron_reader}
 use Rattle.pieces.specs.Bars.{bar_by, bar_of, bytes_give, most_held}
@@ -60,7 +60,7 @@ use Rattle.pieces.proofs.OddGaps.{odd_keeps, odd_shuts}
 use Rattle.pieces.proofs.PlaceLaws.{later_left, later_right, sooner_left, sooner_right}
 use Rattle.pieces.proofs.Rests.{halted_rest, shut_rest}
 use Rattle.pieces.proofs.RonAlike.{bar_moves, ron_alike_clear}
-use Rattle.pieces.proofs.WaitedRuns.{Decided, Gave, Stopping, gives, short_free, shuts as shut_by, waited_gives, waits}
+use Rattle.pieces.proofs.WaitedRuns.{Decided, Gave, Stopping, gives, shuts as shut_by, waits}
 
 -- ---- bytes between two places
 

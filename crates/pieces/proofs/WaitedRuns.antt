@@ -1,12 +1,12 @@
 -- What is decided first, as bytes give it: `waited_of` over the bytes one by one. Assumes nothing.
-use Prim.Native.Nat.{ℕ, suc, zero, ◌+◌, ◌-◌, ◌<◌, ◌≤◌}
+use Prim.Native.Nat.{ℕ, suc, ◌+◌, ◌-◌, ◌<◌, ◌≤◌}
 use native.Mathlib.Omega.{arith}
-use mathlib.Core.Bool.{Bool, true, false, cond}
+use mathlib.Core.Bool.{true, false, cond}
 use mathlib.Core.List.{List, [], ◌++◌, ◌∷◌, append_assoc, append-nil}
 use mathlib.Core.Path.{◌≡◌, ap, ap₂, refl, subst, sym, ◌∙◌}
 use lib.Dec.{eqb}
 use lib.ListN.{drop, length, length-append, length-drop}
-use borrow.Author.Tests.{eq-eqb, ne_eqb, eqb-true, lt-leb}
+use borrow.Author.Tests.{eqb-true, lt-leb}
 use Rattle.text.proofs.Choices.{bool_cases, either}
 use Rattle.text.specs.Refusals.{placed_behind}
 use Rattle.text.specs.declared.refusal.Refusal.{Refusal}
@@ -17,11 +17,11 @@ use Rattle.reading.specs.Tokens.{Answer}
 use Rattle.reading.specs.Tokens.Answer.{refuse, stop, token}
 use Rattle.tokens.specs.Ron.{ron_token}
 use Rattle.arriving.proofs.Decides.{none_decided}
-use Rattle.arriving.proofs.Keeps.{Keeps, byte_keeps, piece_keeps}
+use Rattle.arriving.proofs.Keeps.{byte_keeps, piece_keeps}
 use Rattle.arriving.proofs.Waits.{Free, free_first, free_rest, keeping, none_kept}
-use Rattle.arriving.specs.Arrivals.{Coming, Given, Passing, behind, by_answer, by_passing, decided, left_at, looks, piece, step, taken}
+use Rattle.arriving.specs.Arrivals.{Coming, Given, Passing, by_answer, by_passing, decided, left_at, looks, piece, step, taken}
 use Rattle.arriving.specs.Arrivals.Coming.{going, halted, shut}
-use Rattle.arriving.specs.Arrivals.Passing.{halt, pass}
+use Rattle.arriving.specs.Arrivals.Passing.{pass}
 use Rattle.settled.proofs.Owed.{ron}
 use Rattle.settled.specs.Bytes.{stops_byte}
 use Rattle.settled.specs.Settled.{ron_reader, ron_settles}
@@ -29,9 +29,8 @@ use Rattle.comments.specs.Gaps.{gap_of}
 use Rattle.comments.specs.declared.gap.Gap.{Gap}
 use Rattle.comments.specs.declared.gap.Gap.TheVariants as gap
 use Rattle.pieces.specs.Bars.{bar_by, bar_of, bytes_give}
-use Rattle.pieces.specs.inner.Judges.{gives_of, verdict_by, verdict_of}
+use Rattle.pieces.specs.inner.Judges.{gives_of, verdict_by}
 use Rattle.pieces.specs.inner.Waiting.{decides, waited_from}
-use Rattle.pieces.specs.declared.verdict.Verdict.{Verdict}
 use Rattle.pieces.specs.declared.verdict.Verdict.TheVariants.{Nothing, Gives, Shuts}
 use Rattle.pieces.specs.declared.waiting.Waited.{Waited}
 

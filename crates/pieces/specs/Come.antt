@@ -1,6 +1,6 @@
 -- What the bytes that are taken of a piece give (document 02, change request 3): first the whitespace and comments that the state stands in are passed; from where a
 -- token begins on, the bytes are taken one by one (crate arriving). Places are counted from the front of what was kept.
-use Rattle.std.specs.Prelude.{ℕ, ◌+◌, ◌-◌, Bool, cond, List, [], ◌++◌, leb, drop, length, take}
+use Rattle.std.specs.Prelude.{ℕ, ◌+◌, ◌-◌, cond, List, [], ◌++◌, leb, drop, length, take}
 use Rattle.text.specs.Refusals.{unexpected_char}
 use Rattle.text.specs.declared.refusal.Refusal.{Refusal}
 use Rattle.rows.specs.declared.Entry.{Entry}

@@ -1,6 +1,6 @@
 -- The call `finish` (document 02, change request 3): "An entry is decided once .. the text has ended", so the rest is read as it stands; a character cut off is 2. The
 -- state stays as it was: after 22 the end may be asked again.
-use Rattle.std.specs.Prelude.{ℕ, ◌-◌, Bool, cond, ◌&&◌, List, [], ◌++◌, map, eqb, leb, ltb, drop, length, take, Ok, Err}
+use Rattle.std.specs.Prelude.{ℕ, ◌-◌, cond, ◌&&◌, List, [], map, eqb, leb, ltb, length, take, Ok, Err}
 use Rattle.text.specs.Refusals.{Told, no_room, not_in_order, not_utf8, placed_behind, eof, unclosed_block_comment, unexpected_char}
 use Rattle.text.specs.declared.refusal.Refusal.{Refusal}
 use Rattle.rows.specs.Rows.{laid}

@@ -1,5 +1,5 @@
 -- A state in order (document 02, change request 3): "23, a state out of order, first and never for one that these calls made". Numbers only: no byte is looked at.
-use Rattle.std.specs.Prelude.{ℕ, ◌+◌, Bool, true, false, not, ◌&&◌, ◌||◌, List, [], ◌∷◌, eqb, leb}
+use Rattle.std.specs.Prelude.{ℕ, ◌+◌, Bool, true, false, not, ◌&&◌, ◌||◌, [], ◌∷◌, eqb, leb}
 use Rattle.text.specs.Classes.{one_of, within}
 use Rattle.text.specs.declared.refusal.Refusal.{Refusal}
 use Rattle.gaps.specs.declared.state.Open.{Open}

@@ -5,7 +5,7 @@
 use Rattle.std.specs.Prelude.{ℕ, ◌+◌, ◌-◌, Bool, cond, ◌&&◌, List, [], ◌∷◌, ◌++◌, map, eqb, leb, ltb, drop, length, take, Ok, Err}
 use Rattle.text.specs.Refusals.{Told, no_room, not_in_order, not_utf8, placed_behind, refusal, too_long}
 use Rattle.text.specs.declared.refusal.Refusal.{Refusal}
-use Rattle.rows.specs.Rows.{laid, room_of}
+use Rattle.rows.specs.Rows.{laid}
 use Rattle.rows.specs.declared.Entry.{Entry}
 use Rattle.octets.specs.Octets.{allowed_of}
 use Rattle.octets.specs.declared.answer.Allowed.{Allowed}

@@ -1,17 +1,14 @@
 -- What the code goes through at the end of a text.
-use Rattle.std.specs.Prelude.{ℕ, ◌+◌, ◌-◌, ◌≤◌, Bool, true, cond, List, [], map, ◌≡◌, eqb, ltb, length}
-use Rattle.text.specs.Refusals.{eof, not_utf8, unclosed_block_comment, unexpected_char}
+use Rattle.std.specs.Prelude.{ℕ, ◌-◌, ◌≤◌, true, cond, List, map, ◌≡◌, eqb}
+use Rattle.text.specs.Refusals.{eof, unclosed_block_comment}
 use Rattle.text.specs.declared.refusal.Refusal.{Refusal}
-use Rattle.gaps.specs.Passes.{passed_of}
-use Rattle.gaps.specs.declared.pass.Passed.{Passed}
-use Rattle.gaps.specs.declared.pass.Passed.TheVariants.{Begins, Within, Unexpected}
 use Rattle.gaps.specs.declared.state.Open.{Open}
 use Rattle.gaps.specs.declared.state.Open.TheVariants.{Clear, Slash, Line, Block}
-use Rattle.reading.specs.Readings.{Reading, entries, read_from}
+use Rattle.reading.specs.Readings.{entries, read_from}
 use Rattle.tokens.specs.Ron.{ron_token}
 use Rattle.pieces.specs.Ends.{Rest, ending_of, last_of, placed_last}
 use Rattle.pieces.specs.Orders.{in_order}
-use Rattle.pieces.specs.Pieces.{gapped, moved_to, no_refusal}
+use Rattle.pieces.specs.Pieces.{gapped, moved_to}
 use Rattle.pieces.specs.declared.state.Arrival.{Arrival}
 use Rattle.pieces.specs.declared.state.Ended.{Ended}
 use Rattle.pieces.specs.declared.state.Ended.TheVariants as ended

@@ -2,7 +2,7 @@
 use Rattle.text.specs.Refusals.{Told}
 use Rattle.std.specs.Prelude.{ℕ, ◌-◌, List, length, take}
 use Rattle.rows.specs.declared.Entry.{Entry}
-use Rattle.reading.specs.Readings.{Reading, complete, broken, entry, end_of, entries, read_part}
+use Rattle.reading.specs.Readings.{end_of, entries, read_part}
 use Rattle.tokens.specs.Ron.{ron_token}
 use Rattle.read.specs.declared.scanned.Scanned.{Scanned}
 unfoldable pub use Rattle.read.specs.inner.Pass.{ending_of}

@@ -1,5 +1,5 @@
 -- What the code goes through behind a run of bytes.
-use Rattle.std.specs.Prelude.{ℕ, ◌+◌, ◌-◌, ◌≤◌, ◌<◌, ◌^◌, Bool, true, cond, List, ◌≡◌, eqb, leb, ltb, drop, length, take}
+use Rattle.std.specs.Prelude.{ℕ, ◌+◌, ◌-◌, ◌≤◌, ◌<◌, ◌^◌, Bool, true, cond, List, ◌≡◌, eqb, ltb, drop, take}
 use Rattle.text.specs.Refusals.{entry_too_long, placed_behind}
 use Rattle.text.specs.declared.refusal.Refusal.{Refusal}
 use Rattle.gaps.specs.declared.state.Open.{Open}

@@ -10,7 +10,6 @@ use Rattle.pieces.specs.Come.{later, sooner}
 use Rattle.pieces.specs.inner.Waiting.{stridden}
 use Rattle.pieces.specs.declared.verdict.Verdict.{Verdict}
 use Rattle.pieces.specs.declared.verdict.Verdict.TheVariants.{Nothing, Gives, Shuts}
-use Rattle.pieces.specs.declared.waiting.Waited.{Waited}
 use Rattle.pieces.specs.declared.turn.Turned.{Turned}
 use Rattle.pieces.specs.declared.turn.Turned.TheVariants.{On, Over}
 use Rattle.pieces.specs.declared.turn.Stands.TheVariants as stands

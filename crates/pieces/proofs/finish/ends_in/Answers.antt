@@ -1,4 +1,3 @@
-use borrow.Author.Rules.{rules}
 use Rattle.pieces.proofs.finish.ends_in.Goals as goal
 
 pub returns-in-Slash : goal.returns-in-Slash

@@ -3,12 +3,11 @@ use Rattle.pieces.specs.Ends.{Rest, ended_of, rest_laid}
 use Rattle.pieces.proofs.LastLaws.{finish_own, finish_rest, finish_unfit, fit_order, fit_there}
 use Rattle.text.specs.Refusals.{Told}
 use Rattle.rows.specs.Rows.{room_of}
-use borrow.Author.Tests.{eq-eqb, not-false, not-true}
+use borrow.Author.Tests.{eq-eqb}
 use lib.Seq.{length-take-le}
 use lib.ListN.{length}
 use mathlib.Core.Path.{ap, sym, ◌∙◌}
 use native.Mathlib.Omega.{arith}
-use borrow.Author.Rules.{rules}
 use Rattle.pieces.proofs.finish.finish.Goals as goal
 
 pub returns-then-not-fits : goal.returns-then-not-fits

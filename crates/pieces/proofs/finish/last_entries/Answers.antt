@@ -3,7 +3,6 @@ use Rattle.pieces.proofs.OrderLaws.{numbers}
 use Rattle.text.proofs.Lists.{tail_part}
 use lib.ListN.{length-drop}
 use native.Mathlib.Omega.{arith}
-use borrow.Author.Rules.{rules}
 use Rattle.pieces.proofs.finish.last_entries.Goals as goal
 
 pub scan-all-requires : goal.scan-all-requires

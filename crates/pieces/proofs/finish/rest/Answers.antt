@@ -9,7 +9,6 @@ use Rattle.rows.specs.Rows.{room_of}
 use lib.ListN.{length}
 use mathlib.Core.Path.{◌≡◌, ap, subst, sym, ◌∙◌}
 use native.Mathlib.Omega.{arith}
-use borrow.Author.Rules.{rules}
 use Rattle.pieces.proofs.finish.rest.Goals as goal
 
 pub overflow_sub-state : goal.overflow_sub-state

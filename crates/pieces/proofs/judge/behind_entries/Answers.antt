@@ -2,7 +2,6 @@ use mathlib.Core.Path.{◌∙◌, sym}
 use Rattle.settled.specs.Settled.{ron_settles}
 use Rattle.text.proofs.Lists.{on_part}
 use Rattle.pieces.proofs.JudgeLaws.{broken_gives, broken_keeps, broken_shuts, whole_gives, whole_keeps}
-use borrow.Author.Rules.{rules}
 use Rattle.pieces.proofs.judge.behind_entries.Goals as goal
 
 pub returns-then-is_decider : goal.returns-then-is_decider

@@ -1,6 +1,5 @@
 use mathlib.Core.Path.{◌∙◌, sym}
 use Rattle.pieces.proofs.JudgeLaws.{judge_before, judge_behind, judge_closed, judge_nothing, judge_some, judge_within}
-use borrow.Author.Rules.{rules}
 use Rattle.pieces.proofs.judge.judge_scanned.Goals as goal
 
 pub returns-then-is_closer : goal.returns-then-is_closer

@@ -1,6 +1,5 @@
 use mathlib.Core.Path.{◌∙◌}
 use Rattle.pieces.proofs.LayLaws.{copied_front, nothing_moves}
-use borrow.Author.Rules.{rules}
 use Rattle.pieces.proofs.keep.keep.Goals as goal
 
 pub returns-then-from-eq0 : goal.returns-then-from-eq0

@@ -1,6 +1,5 @@
 use Rattle.pieces.proofs.LayLaws.{laid_in_order, laid_placed}
 use native.Mathlib.Omega.{arith}
-use borrow.Author.Rules.{rules}
 use Rattle.pieces.proofs.lay.lay.Goals as goal
 
 pub place_rows-requires : goal.place_rows-requires

@@ -1,12 +1,6 @@
-use Rattle.pieces.proofs.LayLaws.{Left, place_ends, place_goes, place_starts, row_behind, row_end, row_start}
-use Rattle.pieces.specs.Pieces.{gapped, moved_to}
-use Rattle.rows.specs.Rows.{entries_of, laid}
-use lib.ListN.{length}
-use mathlib.Core.Path.{◌≡◌, refl, ◌∙◌}
-use mathlib.Core.List.{map}
+use Rattle.pieces.proofs.LayLaws.{place_ends, place_goes, place_starts, row_behind, row_end, row_start}
+use mathlib.Core.Path.{refl, ◌∙◌}
 use native.Mathlib.Omega.{arith}
-use Prim.Native.Nat.{◌-◌, ◌≤◌}
-use borrow.Author.Rules.{rules}
 use Rattle.pieces.proofs.lay.place_rows.Goals as goal
 
 pub loop-i-init : goal.loop-i-init

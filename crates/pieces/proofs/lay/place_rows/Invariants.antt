@@ -1,12 +1,9 @@
-use Rattle.pieces.proofs.LayLaws.{Left, place_ends, place_goes, place_starts, row_behind, row_end, row_start}
+use Rattle.pieces.proofs.LayLaws.{Left}
 use Rattle.pieces.specs.Pieces.{gapped, moved_to}
 use Rattle.rows.specs.Rows.{entries_of, laid}
 use lib.ListN.{length}
-use mathlib.Core.Path.{◌≡◌, refl, ◌∙◌}
+use mathlib.Core.Path.{◌≡◌}
 use mathlib.Core.List.{map}
-use native.Mathlib.Omega.{arith}
-use Prim.Native.Nat.{◌-◌, ◌≤◌}
-use borrow.Author.Rules.{rules}
 use Rattle.pieces.proofs.lay.place_rows.Given as goal
 
 abbrev pub invariant-loop-i : goal.invariant-loop-i

@@ -1,6 +1,5 @@
 use mathlib.Core.Path.{refl}
 use native.Mathlib.Omega.{arith}
-use borrow.Author.Rules.{rules}
 use Rattle.pieces.proofs.limit.bad_at.Goals as goal
 
 pub returns-then-k-part : goal.returns-then-k-part

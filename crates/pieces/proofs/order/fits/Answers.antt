@@ -1,7 +1,5 @@
 use Rattle.pieces.proofs.OrderLaws.{buffer_over, buffer_holds}
-use borrow.Author.Tests.{not-true, not-false}
 use mathlib.Core.Path.{sym, ◌∙◌}
-use borrow.Author.Rules.{rules}
 use Rattle.pieces.proofs.order.fits.Goals as goal
 
 pub returns-then-not-in_order : goal.returns-then-not-in_order

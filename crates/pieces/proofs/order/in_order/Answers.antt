@@ -1,7 +1,6 @@
 use Rattle.pieces.specs.Orders.{in_order}
-use borrow.Author.Tests.{le-leb, lt-leb, not-true, not-false}
+use borrow.Author.Tests.{le-leb, lt-leb}
 use mathlib.Core.Path.{sym, ◌∙◌}
-use borrow.Author.Rules.{rules}
 use Rattle.pieces.proofs.order.in_order.Goals as goal
 
 pub returns-then-a-gt-MOST_TAKEN : goal.returns-then-a-gt-MOST_TAKEN

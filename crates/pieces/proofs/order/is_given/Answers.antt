@@ -3,10 +3,8 @@ use lib.Dec.{eqb}
 use mathlib.Core.Bool.{true, not, ◌||◌}
 use Rattle.pieces.specs.Orders.{is_given}
 use Rattle.pieces.proofs.OrderLaws.{given_thirty, given_within}
-use Rattle.text.proofs.Choices.{either}
-use borrow.Author.Tests.{le-leb, lt-leb, ne_eqb, not-true}
+use borrow.Author.Tests.{le-leb, lt-leb, ne_eqb}
 use mathlib.Core.Path.{◌≡◌, ap, sym, ◌∙◌}
-use borrow.Author.Rules.{rules}
 use Rattle.pieces.proofs.order.is_given.Goals as goal
 use Rattle.pieces.proofs.order.is_given.Goals.{then-not-is_within+else-r-ne-ENTRY_TOO_LONG, else-not-is_within}
 

@@ -3,7 +3,6 @@ use Rattle.pieces.specs.Orders.{kept_fits}
 use Rattle.pieces.proofs.OrderLaws.{kept_over, former_over, former_within}
 use borrow.Author.Tests.{le-leb, lt-leb}
 use mathlib.Core.Path.{sym, ◌∙◌}
-use borrow.Author.Rules.{rules}
 use Rattle.pieces.proofs.order.kept_fits.Goals as goal
 
 pub returns-then-a-gt3 : goal.returns-then-a-gt3

@@ -1,5 +1,4 @@
 use borrow.Author.Tests.{le-leb, lt-leb, eq-eqb, ne_eqb}
-use borrow.Author.Rules.{rules}
 use Rattle.pieces.proofs.order.open_fits.Goals as goal
 
 pub returns-then-taken-level : goal.returns-then-taken-level

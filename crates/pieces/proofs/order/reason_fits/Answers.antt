@@ -2,7 +2,6 @@ use Rattle.pieces.specs.Orders.{reason_fits}
 use borrow.Author.Tests.{eq-eqb, ne_eqb}
 use Rattle.text.proofs.Choices.{or_false}
 use mathlib.Core.Path.{sym, ◌∙◌}
-use borrow.Author.Rules.{rules}
 use Rattle.pieces.proofs.order.reason_fits.Goals as goal
 
 pub returns-then-r-eq-INVALID_ESCAPE : goal.returns-then-r-eq-INVALID_ESCAPE

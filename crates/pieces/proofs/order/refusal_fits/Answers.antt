@@ -1,7 +1,6 @@
 use Rattle.pieces.specs.Orders.{refusal_fits}
-use borrow.Author.Tests.{eq-eqb, ne_eqb, not-true, not-false}
+use borrow.Author.Tests.{eq-eqb, ne_eqb}
 use mathlib.Core.Path.{sym, ◌∙◌}
-use borrow.Author.Rules.{rules}
 use Rattle.pieces.proofs.order.refusal_fits.Goals as goal
 
 pub returns-then-is_none : goal.returns-then-is_none

@@ -1,6 +1,5 @@
 use mathlib.Core.Bool.{not}
 use mathlib.Core.Path.{ap}
-use borrow.Author.Rules.{rules}
 use Rattle.pieces.proofs.AnswerLaws.{fit_there, not_ordered, nothing_there, piece_there, state_refused}
 use Rattle.pieces.proofs.piece.piece.Goals as goal
 

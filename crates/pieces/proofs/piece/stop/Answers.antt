@@ -3,7 +3,6 @@ use Rattle.pieces.specs.declared.turn.Stands.{Stands}
 use Rattle.pieces.specs.inner.Steps.{StopFits}
 use native.Mathlib.Omega.{arith}
 use mathlib.Core.Path.{subst, sym, ◌∙◌}
-use borrow.Author.Rules.{rules}
 use Rattle.pieces.proofs.piece.stop.Goals as goal
 
 pub placed_behind-requires : goal.placed_behind-requires

@@ -2,7 +2,6 @@ use Prim.Native.Nat.{◌+◌}
 use native.Mathlib.Omega.{arith}
 use mathlib.Core.Path.{sym}
 use lib.Seq.{length-take-le}
-use borrow.Author.Rules.{rules}
 use Rattle.pieces.proofs.AnswerLaws.{found, given_there, kept_inside, limited, no-room, stopped_there}
 use Rattle.pieces.proofs.TakenLaws.{open_more, ordered}
 use Rattle.pieces.proofs.piece.take_piece.Goals as goal

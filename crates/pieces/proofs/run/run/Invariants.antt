@@ -1,10 +1,6 @@
-use Prim.Native.Nat.{◌+◌, ◌-◌, ◌≤◌}
-use native.Mathlib.Omega.{arith}
-use mathlib.Core.Path.{◌∙◌, sym}
+use Prim.Native.Nat.{◌-◌, ◌≤◌}
 use lib.ListN.{length}
-use Rattle.pieces.proofs.RunLaws.{SoFar, run_few, run_first, run_goes, run_starts, run_stops, stop_few, turn_goes, turn_stops}
-use Rattle.pieces.proofs.TurnLaws.{turn_means}
-use borrow.Author.Rules.{rules}
+use Rattle.pieces.proofs.RunLaws.{SoFar}
 use Rattle.pieces.proofs.run.run.Given as goal
 
 abbrev pub invariant-loop-n : goal.invariant-loop-n

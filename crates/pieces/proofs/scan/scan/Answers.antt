@@ -1,6 +1,5 @@
 use mathlib.Core.Path.{◌∙◌}
 use Rattle.pieces.proofs.ScanLaws.{scanned_pass}
-use borrow.Author.Rules.{rules}
 use Rattle.pieces.proofs.scan.scan.Goals as goal
 
 pub returns : goal.returns

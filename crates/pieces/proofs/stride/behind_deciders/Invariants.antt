@@ -1,11 +1,8 @@
 use Prim.Native.Nat.{◌≤◌}
-use native.Mathlib.Omega.{arith}
-use mathlib.Core.Path.{◌∙◌, ◌≡◌, sym}
-use lib.ListN.{drop, length}
+use mathlib.Core.Path.{◌≡◌}
+use lib.ListN.{drop}
 use Rattle.reading.specs.Kept.{last_quiet}
 use Rattle.settled.specs.Bytes.{decides_byte}
-use Rattle.pieces.proofs.StopLaws.{last_end, last_here, last_none, last_on}
-use borrow.Author.Rules.{rules}
 use Rattle.pieces.proofs.stride.behind_deciders.Given as goal
 
 abbrev pub invariant-loop-i : goal.invariant-loop-i

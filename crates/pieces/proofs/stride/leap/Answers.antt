@@ -1,10 +1,8 @@
 use native.Mathlib.Omega.{arith}
 use mathlib.Core.Path.{◌∙◌, sym}
 use lib.ListN.{length-take}
-use borrow.Author.Tests.{not-false, not-true}
 use lib.Seq.{length-take-le}
 use Rattle.pieces.proofs.StrideLaws.{leap_broken, leap_far, leap_inside, leap_none, leap_stops_byte}
-use borrow.Author.Rules.{rules}
 use Rattle.pieces.proofs.stride.leap.Goals as goal
 
 pub returns-then-bytes-seen : goal.returns-then-bytes-seen

@@ -1,6 +1,5 @@
 use mathlib.Core.Path.{◌∙◌, ap, sym}
 use Rattle.pieces.specs.inner.Waiting.{opens_end}
-use borrow.Author.Rules.{rules}
 use Rattle.pieces.proofs.stride.opens_end.Goals as goal
 
 pub returns-in-Err : goal.returns-in-Err

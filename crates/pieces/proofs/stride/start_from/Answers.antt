@@ -1,5 +1,4 @@
 use Rattle.pieces.proofs.StrideLaws.{start_long, start_short}
-use borrow.Author.Rules.{rules}
 use Rattle.pieces.proofs.stride.start_from.Goals as goal
 
 pub returns-then-part-le-SHORT : goal.returns-then-part-le-SHORT

@@ -3,7 +3,6 @@ use mathlib.Core.Path.{◌∙◌, sym}
 use lib.ListN.{length-take}
 use lib.Seq.{length-take-le}
 use Rattle.pieces.proofs.StrideLaws.{far_end, from_inside, stride_far, stride_last, stride_near, stride_waits}
-use borrow.Author.Rules.{rules}
 use Rattle.pieces.proofs.stride.stride.Goals as goal
 
 pub leap-far-requires : goal.leap-far-requires

@@ -1,5 +1,4 @@
 use Rattle.pieces.proofs.StrideLaws.{wait_none}
-use borrow.Author.Rules.{rules}
 use Rattle.pieces.proofs.stride.wait_from.Goals as goal
 
 pub returns-then-part-from : goal.returns-then-part-from

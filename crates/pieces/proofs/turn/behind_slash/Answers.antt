@@ -1,6 +1,5 @@
 use Rattle.pieces.specs.inner.Turns.{behind_slash_at}
 use borrow.Author.Tests.{eq-eqb, ne_eqb}
-use borrow.Author.Rules.{rules}
 use Rattle.pieces.proofs.turn.behind_slash.Goals as goal
 
 pub returns-then-s-place-eq47 : goal.returns-then-s-place-eq47

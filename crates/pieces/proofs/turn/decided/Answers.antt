@@ -4,7 +4,6 @@ use mathlib.Core.Path.{◌∙◌}
 use lib.ListN.{drop}
 use Rattle.pieces.proofs.FrontLaws.{gap_take}
 use Rattle.pieces.proofs.TurnLaws.{by_gives, by_nothing, by_shuts, by_shuts_none, decided_past, decided_waits, small_gives, small_shuts, waited_fits, window_fits}
-use borrow.Author.Rules.{rules}
 use Rattle.pieces.proofs.turn.decided.Goals as goal
 
 pub returns-then-to-here : goal.returns-then-to-here

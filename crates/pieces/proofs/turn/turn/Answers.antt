@@ -1,7 +1,6 @@
 use native.Mathlib.Omega.{arith}
 use mathlib.Core.Path.{◌∙◌}
 use Rattle.pieces.proofs.TurnLaws.{begins_at, odd_at, turn_is}
-use borrow.Author.Rules.{rules}
 use Rattle.pieces.proofs.turn.turn.Goals as goal
 
 pub overflow_add-at : goal.overflow_add-at

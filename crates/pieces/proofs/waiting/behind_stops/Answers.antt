@@ -1,11 +1,8 @@
-use Prim.Native.Nat.{◌+◌, ◌-◌, ◌≤◌}
+use Prim.Native.Nat.{◌+◌, ◌-◌}
 use native.Mathlib.Omega.{arith}
 use mathlib.Core.Path.{◌∙◌, ◌≡◌, sym}
-use lib.ListN.{drop, length}
-use Rattle.reading.specs.Kept.{last_quiet}
 use Rattle.settled.specs.Bytes.{stops_byte}
 use Rattle.pieces.proofs.StopLaws.{last_end, last_here, last_none, last_on}
-use borrow.Author.Rules.{rules}
 use Rattle.pieces.proofs.waiting.behind_stops.Goals as goal
 
 pub loop-i-init : goal.loop-i-init

@@ -4,7 +4,6 @@ use lib.Seq.{length-take-le}
 use Rattle.settled.specs.Bytes.{stops_byte}
 use Rattle.pieces.proofs.StopLaws.{behind_bounds}
 use Rattle.pieces.proofs.WaitLaws.{beyond_here, beyond_idle, beyond_later, beyond_none, beyond_open, beyond_refused, token_fits}
-use borrow.Author.Rules.{rules}
 use Rattle.pieces.proofs.waiting.beyond.Goals as goal
 
 pub returns-then-end-from : goal.returns-then-end-from

@@ -1,10 +1,7 @@
-use Prim.Native.Nat.{◌+◌, ◌-◌, ◌≤◌}
 use native.Mathlib.Omega.{arith}
 use mathlib.Core.Path.{◌∙◌, ◌≡◌, refl, sym}
-use lib.ListN.{drop, length}
-use Rattle.text.specs.Runs.{run}
-use Rattle.pieces.proofs.StopLaws.{next_here, next_none, next_on, plain_byte}
-use borrow.Author.Rules.{rules}
+use lib.ListN.{length}
+use Rattle.pieces.proofs.StopLaws.{next_here, next_none, next_on}
 use Rattle.pieces.proofs.waiting.next_stop.Goals as goal
 
 pub loop-i-init : goal.loop-i-init

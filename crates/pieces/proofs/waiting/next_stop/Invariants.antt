@@ -1,10 +1,8 @@
-use Prim.Native.Nat.{◌+◌, ◌-◌, ◌≤◌}
-use native.Mathlib.Omega.{arith}
-use mathlib.Core.Path.{◌∙◌, ◌≡◌, refl, sym}
-use lib.ListN.{drop, length}
+use Prim.Native.Nat.{◌+◌}
+use mathlib.Core.Path.{◌≡◌}
+use lib.ListN.{drop}
 use Rattle.text.specs.Runs.{run}
-use Rattle.pieces.proofs.StopLaws.{next_here, next_none, next_on, plain_byte}
-use borrow.Author.Rules.{rules}
+use Rattle.pieces.proofs.StopLaws.{plain_byte}
 use Rattle.pieces.proofs.waiting.next_stop.Given as goal
 
 abbrev pub invariant-loop-i : goal.invariant-loop-i
