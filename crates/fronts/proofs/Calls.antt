@@ -1,4 +1,4 @@
--- The front of each call with a text: 1 and 2 exactly where they are told_skip, and past both exactly where the text is sound. Assumes nothing.
+-- The front of each call with a text: 1 and 2 exactly where they are told, and past both exactly where the text is sound. Assumes nothing.
 use Rattle.std.proofs.Common.{Err}
 use Prim.Native.Nat.{ℕ}
 use mathlib.Core.Bool.{cond}

@@ -37,7 +37,7 @@ module _ (text tape : List ℕ) (q : Asked) (links before left : List ℕ) (m : 
   links-left = e ∙ ap (links_after text tape q.count q.limit) m
 
   module _ (out mid end : List ℕ × ℕ) (clean : Bool) (z : end ≡ put mid (clean_text clean)) where
-    -- what was told_walk is the walk's answer
+    -- what was told is the walk's answer
     by_told : (a : Told Unit) → a ≡ walk_of text tape q.count q.limit (length before) → end ≡ put out (walked_text a q.count left)
         → end ≡ put out (walks_text text tape q links)
     unfolding walks_text
