@@ -3,7 +3,7 @@ use Rattle.std.proofs.Common.{Ok}
 use Prim.Native.Nat.{ℕ, ◌*◌, ◌≤◌}
 use native.Mathlib.Omega.{arith}
 use mathlib.Core.List.{List}
-use mathlib.Core.Path.{◌≡◌, ap, refl, sym, ◌∙◌, subst}
+use mathlib.Core.Path.{◌≡◌, ap, sym, ◌∙◌, subst}
 use lib.ListN.{length, drop, replicate, length-append, length-drop, length-replicate}
 use Rattle.text.specs.Refusals.{Told}
 use Rattle.rows.proofs.RowLaws.{entries_flat, length_flat}

@@ -112,8 +112,9 @@ module _ (old : List Entry) (o n b e : ℕ) (sorted : in_order_from old 0 o ≡ 
   pub scan_found : (r : Reading) (c m k : ℕ) → scan_of old b e c r ≡ Ok (m, k) → Joined r c m k
   unfolding scan_of
   scan_found complete c m k f =
-      let u : c ≡ m = cc in
-      let v : length old ≡ k = cc in
+      let w : ◌≡◌ {A = ℕ × ℕ} (c, length old) (m, k) = cc in
+      let u : c ≡ m = ap (λ (p : ℕ × ℕ). p.0) w in
+      let v : length old ≡ k = ap (λ (p : ℕ × ℕ). p.1) w in
       ends [] refl (omega arith) (sym v) tt
   scan_found (broken d) c m k f = let z : ◌≡◌ {A = ℕ} 0 1 = cc in absurd (omega arith)
   scan_found (entry x r) c m k f = go (joins old b e x.gap x.start (seek_of old b e x.start)) refl f (λ h. scan_found r (c + 1) m k h)
@@ -122,8 +123,9 @@ module _ (old : List Entry) (o n b e : ℕ) (sorted : in_order_from old 0 o ≡ 
           → ◌≡◌ {A = Told (ℕ × ℕ)} (cond t (Ok (c, seek_of old b e x.start)) (scan_of old b e (c + 1) r)) (Ok (m, k))
           → (scan_of old b e (c + 1) r ≡ Ok (m, k) → Joined r (c + 1) m k) → Joined (entry x r) c m k
       go true j h rec =
-          let u : c ≡ m = cc in
-          let v : seek_of old b e x.start ≡ k = cc in
+          let z : ◌≡◌ {A = ℕ × ℕ} (c, seek_of old b e x.start) (m, k) = cc in
+          let u : c ≡ m = ap (λ (p : ℕ × ℕ). p.0) z in
+          let v : seek_of old b e x.start ≡ k = ap (λ (p : ℕ × ℕ). p.1) z in
           let w = joins_true old b e x.gap x.start (seek_of old b e x.start) j in
           meets [] x r refl (omega arith) tt w.late
           (subst (λ (i : ℕ). i < length old) v w.in_old)

@@ -2,8 +2,7 @@
 -- answers as a fresh reading of the new text with the same room does. Document 01: "Shown with it: k reaches from the first new entry, at or behind the
 -- new bytes' end, that starts where a moved old entry starts, to the last; if none does, k is 0." Document 02, CR 6: "the first new entry is then the
 -- first whose gap agrees too".
-use Rattle.std.specs.Prelude.{Ok, Err}
-use Rattle.std.specs.Prelude.{ℕ, ◌+◌, ◌-◌, ◌≤◌, ◌≡◌, Bool, false, not, ◌&&◌, ◌||◌, List, [], ◌∷◌, leb, eqb, length}
+use Rattle.std.specs.Prelude.{Ok, Err, ℕ, ◌+◌, ◌-◌, ◌≤◌, ◌≡◌, Bool, false, not, ◌&&◌, ◌||◌, List, [], ◌∷◌, leb, eqb, length}
 use Rattle.text.specs.Refusals.{Told}
 use Rattle.rows.specs.Rows.{room_of, entries_of, laid}
 use Rattle.rows.specs.declared.Entry.{Entry}
