@@ -2,12 +2,11 @@
 --     round_trip        from the numbers themselves
 --     round_trip_in     from a slice, whatever stands behind them
 -- They hold of every state in order, so of every state that the calls make. Assumes nothing.
-use Rattle.std.proofs.Common.{None}
 use Prim.Native.Nat.{ℕ, ◌≤◌}
 use native.Mathlib.Omega.{arith}
 use mathlib.Core.Bool.{true, cond, ◌||◌}
 use mathlib.Core.List.{List, ◌++◌}
-use Rattle.std.proofs.Common.{Option, Some}
+use Rattle.std.proofs.Common.{Option, Some, None}
 use mathlib.Core.Path.{◌≡◌, ap, refl, ◌∙◌}
 use lib.Dec.{ltb}
 use lib.ListN.{drop, get_or, length, take}

@@ -14,13 +14,12 @@ fn number(s: &[u32], i: usize) -> u32
 }
 
 // What is open, by three numbers, if they say that.
+#[tactic(auto, unfolding(crate::specs::Numbers::gap_of))]
 fn gap_of(gap: u32, level: u32, last: u32) -> Option<Open>
     ensures { result ≡ gap_of gap level last }
 {
     if gap == 3 {
-        let Ok(last) = u8::try_from(last) else {
-            return None;
-        };
+        let last = u8::try_from(last).ok()?;
         return Some(Open::Block(level, last));
     }
     if level != 0 {
@@ -41,19 +40,14 @@ fn gap_of(gap: u32, level: u32, last: u32) -> Option<Open>
     None
 }
 
-// The state that nine numbers say, with so many bytes kept.
+// The state that nine numbers say, with so many bytes kept; none where no state has them.
+#[tactic(auto, unfolding(crate::specs::Numbers::state_of))]
 pub fn state_of(s: &[u32], kept: usize) -> Option<Arrival>
     ensures { result ≡ state_of s.now kept }
 {
-    let Some(open) = gap_of(number(s, 2), number(s, 3), number(s, 4)) else {
-        return None;
-    };
-    let Ok(refused) = u8::try_from(number(s, 5)) else {
-        return None;
-    };
-    let Ok(reason) = u8::try_from(number(s, 7)) else {
-        return None;
-    };
+    let open = gap_of(number(s, 2), number(s, 3), number(s, 4))?;
+    let refused = u8::try_from(number(s, 5)).ok()?;
+    let reason = u8::try_from(number(s, 7)).ok()?;
     let refusal = Refusal {
         number: refused,
         reason,
