@@ -17,15 +17,6 @@ unfolding meant
 meant_told (Ok (start, end)) = refl
 meant_told (Err r) = refl
 
-meant_decoded : Told ℕ → Told ℕ
-meant_decoded (Ok n) = Ok n
-meant_decoded (Err r) = Err r
-
-meant_told_decoded : (a : Told ℕ) → meant_decoded (a) ≡ a
-unfolding meant_decoded
-meant_told_decoded (Ok n) = refl
-meant_told_decoded (Err r) = refl
-
 module _ (text tape : List ℕ) (count entry : ℕ) where
   pub contents_determined : (a b : Told (ℕ × ℕ)) → told_contents a ≡ contents_of text tape count entry → told_contents b ≡ contents_of text tape count entry → a ≡ b
   contents_determined a b p q = sym (meant_told a) ∙ ap meant (p ∙ sym q) ∙ meant_told b
@@ -38,5 +29,4 @@ module _ (text tape : List ℕ) (count entry : ℕ) where
   Meets out a exit = (a ≡ decoded_answer text tape count entry (length out)) × (exit ≡ decoded_out text tape count entry out)
 
   pub decoded_determined : (out : List ℕ) (a b : Told ℕ) (x y : List ℕ) → Meets out a x → Meets out b y → (a ≡ b) × (x ≡ y)
-  decoded_determined out a b x y p q =
-      (sym (meant_told_decoded a) ∙ ap meant_decoded (p.0 ∙ sym q.0) ∙ meant_told_decoded b, p.1 ∙ sym q.1)
+  decoded_determined out a b x y p q = (p.0 ∙ sym q.0, p.1 ∙ sym q.1)

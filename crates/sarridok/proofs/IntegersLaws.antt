@@ -1,7 +1,6 @@
 -- The call `integers`, way by way: what its front and its items make of the whole answer and of the buffers. Assumes nothing.
 use Rattle.std.proofs.Common.{Ok, Err}
 use Prim.Native.Nat.{ℕ, ◌≤◌, ◌<◌}
-use mathlib.Core.Bool.{◌||◌}
 use mathlib.Core.List.{List}
 use mathlib.Core.Path.{◌≡◌, ap, refl, sym, ◌∙◌}
 use lib.Dec.{ltb}

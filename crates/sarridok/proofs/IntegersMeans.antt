@@ -3,16 +3,16 @@ use Rattle.std.proofs.Common.{Ok, Err}
 use Prim.Native.Nat.{ℕ, zero, suc, ◌+◌, ◌≤◌, ◌<◌}
 use native.Mathlib.Nat.{add-zero, lt_irrefl, zero-add}
 use native.Mathlib.Omega.{arith}
-use mathlib.Core.Bool.{Bool, true, false, cond, not, ◌||◌}
+use mathlib.Core.Bool.{Bool, true, false, cond, not}
 use mathlib.Core.List.{List, [], ◌∷◌, ◌++◌, map}
 use mathlib.Core.Logic.{◌↔◌, ◌⊎◌, inl, inr}
 use mathlib.Core.Path.{◌≡◌, ap, refl, subst, sym, ◌∙◌}
 use lib.Dec.{eqb, le→leb, ltb}
-use lib.IntN.{ℤ, pos, neg_ℤ}
+use lib.IntN.{ℤ}
 use lib.ListN.{length, drop, get_or}
-use lib.Signed.{◌≤ℤ◌, ◌<ℤ◌, clash_ℤ}
+use lib.Signed.{clash_ℤ}
 use borrow.Author.Tests.{eqb-false, le-ltb, lt-ltb, ltb-false, ltb-true}
-use Rattle.text.proofs.Choices.{bool_cases, cond_cases, either, lt_or_le, or_cases}
+use Rattle.text.proofs.Choices.{bool_cases, cond_cases, either, lt_or_le}
 use Rattle.text.proofs.JudgeLaws.{front_fit, front_unfit}
 use Rattle.text.specs.Judged.{judged_of, place_fits}
 use Rattle.text.specs.Refusals.{Told, at_place, no_room, not_in_order, other_kind, unfit}
@@ -34,7 +34,7 @@ use Rattle.sarridok.specs.Integers.{Coded, before, coded_as, code_for, codes_aft
 use Rattle.sarridok.specs.Listed.{Entered, FirstRefused, ItemReads, ItemRefused, ListReads, ListRefused, Tells, Written, by_count, by_item, by_room, by_text, no_entry, no_integer, no_place, single, unread}
 use Rattle.sarridok.specs.inner.Items.{verdict_of}
 use Rattle.sarridok.proofs.IntegersLaws as laws
-use Rattle.sarridok.proofs.ItemLaws.{all_read, apart, each_read, no_item, values_of}
+use Rattle.sarridok.proofs.ItemLaws.{apart, each_read, no_item}
 
 -- ---- below zero is what has a minus
 

@@ -2,9 +2,7 @@
 use Prim.Native.Nat.{ℕ}
 use mathlib.Core.Bool.{false}
 use mathlib.Core.List.{List}
-use mathlib.Core.Path.{◌≡◌, ap, sym, ◌∙◌}
-use Rattle.text.specs.Classes.{digit}
-use Rattle.text.specs.Runs.{run}
+use mathlib.Core.Path.{◌≡◌}
 use Rattle.integers.specs.Width.{code_of, limit_at}
 use Rattle.integers.specs.declared.integer.Integer.TheVariants as integer
 use Rattle.integers.specs.declared.width.Width.{Width}

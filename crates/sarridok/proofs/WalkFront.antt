@@ -15,7 +15,7 @@ use Rattle.grammar.specs.Kinds.{kinds_of}
 use Rattle.grammar.specs.Walk.{linked_of}
 use Rattle.fields.specs.Names.{name_at, raws_fit}
 use Rattle.fields.specs.Fields.{named_walk}
-use Rattle.sarridok.specs.Walked.{judged, behind_walk_front, walk_of, left_by, links_after}
+use Rattle.sarridok.specs.Walked.{behind_walk_front, walk_of, left_by, links_after}
 
 module _ (text tape : List ℕ) (count limit links : ℕ) where
   pub walk_unread : (r : Refusal) → judged_of text ≡ Err r → walk_of text tape count limit links ≡ Err r
@@ -47,9 +47,9 @@ module _ (text tape : List ℕ) (count limit links : ℕ) where
             unfolding walk_of behind_walk_front
             walk_22 h = simp (fit, le-ltb _ _ a, le-ltb _ _ b, c, d, lt-ltb _ _ h)
 
-            pub walk_judged : count ≤ links → (v : Told Unit) → v ≡ named_walk (name_at text tape) (kinds_of (entries_of count tape)) limit → walk_of text tape count limit links ≡ judged v
+            pub walk_judged : count ≤ links → (v : Told Unit) → v ≡ named_walk (name_at text tape) (kinds_of (entries_of count tape)) limit → walk_of text tape count limit links ≡ v
             unfolding walk_of behind_walk_front
-            walk_judged h v e = simp (fit, le-ltb _ _ a, le-ltb _ _ b, c, d, le-ltb _ _ h) (ap judged (sym e))
+            walk_judged h v e = simp (fit, le-ltb _ _ a, le-ltb _ _ b, c, d, le-ltb _ _ h) (sym e)
 
 -- what a refused call promises, and what an accepted one does
 module _ (text tape : List ℕ) (count limit : ℕ) (out : List ℕ) where

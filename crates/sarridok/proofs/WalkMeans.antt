@@ -20,13 +20,10 @@ use Rattle.rows.specs.Rows.{room_of, entries_of}
 use Rattle.rows.specs.Order.{in_order}
 use Rattle.rows.proofs.RowLaws.{length_entries}
 use Rattle.rows.specs.declared.Entry.{Entry}
-use Rattle.grammar.specs.Grammar.{Document}
 use Rattle.grammar.specs.Kinds.{kinds_of}
 use Rattle.grammar.specs.Links.{links_of}
 use Rattle.sarridok.specs.Passed.{Links, Passed}
-use Rattle.grammar.specs.Nested.{Nested}
 use Rattle.grammar.specs.Refused.{NotAllowed, TooDeep, OpensOver, EndsEarly, open_after}
-use Rattle.grammar.specs.Walk.{linked_of}
 use Rattle.grammar.specs.declared.kinds.Kind.{Kind}
 use Rattle.grammar.proofs.Depth.{accepted_within}
 use Rattle.fields.specs.Apart.{Distinct, BeginsApart, Repeated}
@@ -38,7 +35,7 @@ use Rattle.fields.proofs.NamedHigher.{named_higher}
 use Rattle.fields.proofs.NamedRefused.{named_25, gives_named_25, named_24, gives_named_24, named_26, gives_named_26}
 use Rattle.grammar.proofs.Stored.{linked}
 use Rattle.grammar.proofs.Nesting.{links_nested}
-use Rattle.sarridok.specs.Walked.{judged, behind_walk_front, walk_of, left_by, links_after}
+use Rattle.sarridok.specs.Walked.{behind_walk_front, walk_of, left_by, links_after}
 use Rattle.sarridok.proofs.WalkFront.{walk_judged}
 
 -- ---- the two ends of an answer
@@ -51,14 +48,6 @@ same_refusal q r e = cc
 
 same_number : (q r : Refusal) → ◌≡◌ {A = Told Unit} (Err q) (Err r) → q.number ≡ r.number
 same_number q r e = ap (λ (x : Refusal). x.number) (same_refusal q r e)
-
-judged_accepted : (v : Told Unit) → judged v ≡ Ok tt → v ≡ Ok tt
-judged_accepted (Ok tt) e = refl
-judged_accepted (Err r) e = not_accepted r e
-
-judged_refused : (v : Told Unit) (r : Refusal) → judged v ≡ Err r → v ≡ Err r
-judged_refused (Ok tt) r e = not_accepted r (sym e)
-judged_refused (Err q) r e = ap Err (same_refusal q r e)
 
 kinds_size : (es : List Entry) → length (kinds_of es) ≡ length es
 unfolding kinds_of
@@ -98,16 +87,16 @@ module _ (text tape : List ℕ) (count limit links : ℕ) where
   -- a refusal in front of the entries is none of 24 to 26, and not 31
   pub data Way (x : Told Unit) : Type 0 where
     in_front : (r : Refusal) → x ≡ Err r → (r.number < 24) ⊎ ((26 < r.number) × (r.number < 31)) → Way x
-    behind-front : Passed text tape count limit links → judged own ≡ x → Way x
+    behind-front : Passed text tape count limit links → own ≡ x → Way x
 
   -- a text that is read
   way_read : judged_of text ≡ Ok tt → (x : Told Unit)
       → cond (ltb 128 limit) (Err unfit) (cond (ltb (room_of (length tape)) count) (Err not_in_order)
-      (cond (in_order (entries_of count tape) (length text) && raws_fit text (entries_of count tape)) (cond (ltb links count) (Err no_room) (judged own)) (Err not_in_order))) ≡ x → Way x
+      (cond (in_order (entries_of count tape) (length text) && raws_fit text (entries_of count tape)) (cond (ltb links count) (Err no_room) own) (Err not_in_order))) ≡ x → Way x
   way_read fit x e = go (ltb 128 limit) (ltb (room_of (length tape)) count) (in_order (entries_of count tape) (length text)) (raws_fit text (entries_of count tape)) (ltb links count) refl refl refl refl refl e
     where
       go : (a b c d f : Bool) → ltb 128 limit ≡ a → ltb (room_of (length tape)) count ≡ b → in_order (entries_of count tape) (length text) ≡ c → raws_fit text (entries_of count tape) ≡ d → ltb links count ≡ f
-          → cond a (Err unfit) (cond b (Err not_in_order) (cond (c && d) (cond f (Err no_room) (judged own)) (Err not_in_order))) ≡ x → Way x
+          → cond a (Err unfit) (cond b (Err not_in_order) (cond (c && d) (cond f (Err no_room) own) (Err not_in_order))) ≡ x → Way x
       go true b c d f p q r s t e = in_front unfit (sym e) (inr (omega arith, omega arith))
       go false true c d f p q r s t e = in_front not_in_order (sym e) (inl (omega arith))
       go false false false d f p q r s t e = in_front not_in_order (sym e) (inl (omega arith))
@@ -122,12 +111,12 @@ module _ (text tape : List ℕ) (count limit links : ℕ) where
     where
       go : (j : Told Unit) → judged_of text ≡ j
           → behind_judged j (cond (ltb 128 limit) (Err unfit) (cond (ltb (room_of (length tape)) count) (Err not_in_order)
-          (cond (in_order (entries_of count tape) (length text) && raws_fit text (entries_of count tape)) (cond (ltb links count) (Err no_room) (judged own)) (Err not_in_order)))) ≡ x → Way x
+          (cond (in_order (entries_of count tape) (length text) && raws_fit text (entries_of count tape)) (cond (ltb links count) (Err no_room) own) (Err not_in_order)))) ≡ x → Way x
       go (Ok tt) p e = way_read p x e
       go (Err r) p e = in_front r (sym e) (inl (unread_number text r p))
 
   -- behind the front the verdict decides
-  pub passed_judged : Passed text tape count limit links → (v : Told Unit) → v ≡ own → walk_of text tape count limit links ≡ judged v
+  pub passed_judged : Passed text tape count limit links → (v : Told Unit) → v ≡ own → walk_of text tape count limit links ≡ v
   passed_judged p v e = walk_judged text tape count limit links p.fit p.shallow p.fits p.ordered p.raws p.room v e
 
   -- ---- accepted, exactly where the entries are a document no field of which is named again
@@ -137,7 +126,7 @@ module _ (text tape : List ℕ) (count limit links : ℕ) where
     where
       go : Way (Ok tt) → Passed text tape count limit links × (own ≡ Ok tt)
       go (in_front r q n) = not_accepted r (sym q)
-      go (behind-front p q) = (p, judged_accepted own q)
+      go (behind-front p q) = (p, q)
 
   pub accepted_distinct : walk_of text tape count limit links ≡ Ok tt → Distinct names limit kinds_at
   accepted_distinct e = named_accepted names kinds_at limit (accepted_passed e).1
@@ -160,7 +149,7 @@ module _ (text tape : List ℕ) (count limit links : ℕ) where
 
       go : Way (Err (refusal n j)) → Passed text tape count limit links × (own ≡ Err (refusal n j))
       go (in_front r q m) = absurd (clash r.number (same_number (refusal n j) r q) m)
-      go (behind-front p q) = (p, judged_refused own (refusal n j) q)
+      go (behind-front p q) = (p, q)
 
   pub says_25 : (j : ℕ) → walk_of text tape count limit links ≡ Err (not_allowed_here j)
       → Passed text tape count limit links × NotAllowed kinds_at limit j × BeginsApart names limit (take j kinds_at)
@@ -249,10 +238,10 @@ module _ (text tape : List ℕ) (count limit more links : ℕ) where
   higher_same le top other =
       let ks : List Kind = kinds_of (entries_of count tape) in
       let nm : ℕ → List ℕ = name_at text tape in
-      let same = front_same (judged (named_walk nm ks more)) (omega arith) top in
-      either (front_either (judged (named_walk nm ks limit)) (judged (named_walk nm ks more)))
+      let same = front_same (named_walk nm ks more) (omega arith) top in
+      either (front_either (named_walk nm ks limit) (named_walk nm ks more))
       (λ e. same ∙ sym e)
-      (λ e. same ∙ ap (λ (v : Told Unit). behind_walk_front text tape count limit links (judged v)) (named_higher nm ks limit more le (λ j z. other j (e ∙ ap judged z))))
+      (λ e. same ∙ ap (behind_walk_front text tape count limit links) (named_higher nm ks limit more le (λ j z. other j (e ∙ z))))
 
 -- and the same links
 pub higher_links : (text tape : List ℕ) (count limit more : ℕ) (out : List ℕ) → limit ≤ more → more ≤ 128

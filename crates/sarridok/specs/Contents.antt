@@ -1,8 +1,7 @@
 -- The calls `contents` and `decoded` (document 01): "Contents of a string or byte string entry: the bytes inside as a part of the caller's text where
 -- nothing was escaped; decoded into a lent buffer in every case." Order of refusals: 1, 2, 28, 23, 27, then those of reading, then 29 (contents only), and
 -- 22 last (decoded only).
-use Rattle.std.specs.Prelude.{Ok, Err, Bool}
-use Rattle.std.specs.Prelude.{ℕ, ◌-◌, List, [], length, take, drop}
+use Rattle.std.specs.Prelude.{Ok, Err, Bool, ℕ, ◌-◌, List, [], length, take, drop}
 use Rattle.text.specs.Refusals.{Told}
 use Rattle.text.specs.Judged.{judged_of, behind_judged}
 use Rattle.entries.specs.Named.{named_of, literal_of, literal_decoded}

@@ -2,8 +2,7 @@
 -- value is below zero. Each is read in its entry's width; a width outside 1 to 8 is 27. The answers are those of single calls in list order. The first item refused
 -- refuses the whole call, with the item's number as the place. Refusals: 1, 2; 23 where the count doesn't fit the tape; 28, 27 and those of reading by item; then
 -- 22 if either buffer is shorter than the list." Document 01: "27: entry or suffix of another kind."
-use Rattle.std.specs.Prelude.{Ok, Err}
-use Rattle.std.specs.Prelude.{ℕ, ◌+◌, Bool, cond, ◌&&◌, ◌||◌, List, [], ◌∷◌, ◌++◌, map, ltb, eqb, length, drop}
+use Rattle.std.specs.Prelude.{Ok, Err, ℕ, ◌+◌, Bool, cond, ◌&&◌, ◌||◌, List, [], ◌∷◌, ◌++◌, map, ltb, eqb, length, drop}
 use Rattle.text.specs.Classes.{within}
 use Rattle.text.specs.Judged.{judged_of, behind_judged, place_fits}
 use Rattle.text.specs.Refusals.{Told, at_place, unfit, other_kind, not_in_order, no_room}
@@ -69,11 +68,6 @@ integers_of text tape count items magnitudes codes =
 abbrev pub done : Told (List Coded) → Told Unit
 done (Ok cs) = Ok tt
 done (Err r) = Err r
-
--- The paper's answer for each case of the code's.
-abbrev pub told_integers : Told Unit → Told Unit
-told_integers (Ok tt) = Ok tt
-told_integers (Err r) = Err r
 
 -- A buffer behind such an answer: one number of each item at its front, and behind them what stood there; as it was on a refusal.
 abbrev pub filled : (Coded → ℕ) → Told (List Coded) → List ℕ → List ℕ

@@ -1,7 +1,6 @@
 -- What an answer of `integers` means (document 02, CR 7), item by item: "Each is read in its entry's width .. The answers are those of single calls in list order.
 -- The first item refused refuses the whole call, with the item's number as the place."
-use Rattle.std.specs.Prelude.{Ok, Err}
-use Rattle.std.specs.Prelude.{ℕ, ◌+◌, ◌≤◌, ◌<◌, true, false, List, ◌⊎◌, ◌≡◌, ℤ, pos, length, get_or, ◌≤ℤ◌, ◌<ℤ◌}
+use Rattle.std.specs.Prelude.{Ok, Err, ℕ, ◌+◌, ◌≤◌, ◌<◌, true, false, List, ◌⊎◌, ◌≡◌, ℤ, pos, length, get_or, ◌≤ℤ◌, ◌<ℤ◌}
 use Rattle.text.specs.Judged.{judged_of, place_fits}
 use Rattle.text.specs.Refusals.{Told, at_place, unfit, other_kind, not_in_order, no_room}
 use Rattle.text.specs.declared.refusal.Refusal.{Refusal}

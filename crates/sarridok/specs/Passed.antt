@@ -1,6 +1,5 @@
 -- What an accepted walk means (document 01, module 10; document 02, CR 2; refusals 1, 2, 28, 23 and 22): "Links join opening and closing bracket; any other entry links to itself."
-use Rattle.std.specs.Prelude.{Ok}
-use Rattle.std.specs.Prelude.{ℕ, ◌≤◌, true, List, ◌++◌, ◌≡◌, drop, length}
+use Rattle.std.specs.Prelude.{Ok, ℕ, ◌≤◌, true, List, ◌++◌, ◌≡◌, drop, length}
 use Rattle.text.specs.Judged.{judged_of}
 use Rattle.rows.specs.Order.{in_order}
 use Rattle.rows.specs.Rows.{entries_of, room_of}

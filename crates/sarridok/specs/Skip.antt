@@ -1,16 +1,10 @@
 -- The call `skip` (document 01): "Skip from a `ParserCursor` of three numbers (`skip_ws`)." Order of refusals: 1, 2, 28, then those of reading, 4 to 6.
-use Rattle.std.specs.Prelude.{Ok, Err}
 use Rattle.std.specs.Prelude.{List, ℕ}
 use Rattle.text.specs.Refusals.{Told}
 use Rattle.text.specs.Judged.{behind_front}
 use Rattle.cursor.specs.declared.ParserCursor.{ParserCursor}
 use Rattle.cursor.specs.Skip.{cursor_fits, skip_ws_of}
 
--- The paper's answer for each case of the code's.
-abbrev pub told_skip : Told ParserCursor → Told ParserCursor
-told_skip (Ok c) = Ok c
-told_skip (Err r) = Err r
-
 -- The whole answer.
 unfoldable pub skip_of : List ℕ → ParserCursor → Told ParserCursor
-skip_of text c = behind_front text (cursor_fits text c) (told_skip (skip_ws_of text c))
+skip_of text c = behind_front text (cursor_fits text c) (skip_ws_of text c)

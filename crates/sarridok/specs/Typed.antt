@@ -1,8 +1,7 @@
 -- The call `integer` (document 01): "Typed integer at a place, in one of eight widths." Order of refusals: 1, 2, 28, then those of reading, then 27 for a
 -- suffix once the digits have read. "A typed read answers the value and the place behind it; with another suffix it is 27 (its place 0 is an exception to
 -- equality), and a byte literal is u8."
-use Rattle.std.specs.Prelude.{Ok, Err}
-use Rattle.std.specs.Prelude.{ℕ, ◌+◌, ◌^◌, ◌<◌, List, [], ◌∷◌, false, cond, not, drop, eqb, ℤ}
+use Rattle.std.specs.Prelude.{Ok, Err, ℕ, ◌+◌, ◌^◌, ◌<◌, List, [], ◌∷◌, false, cond, not, drop, eqb, ℤ}
 use Rattle.text.specs.Refusals.{Told, placed_behind, other_kind}
 use Rattle.text.specs.Judged.{place_fits, behind_front}
 use Rattle.text.specs.Words.{starts_with}

@@ -3,8 +3,7 @@
 -- Order of refusals: 1 and 2; 28 for a limit above 128; 23 "unless .. the count fits the slice, kinds are 1 to 16, each start is below its end, no entry starts
 -- before the former's end, and the last ends within" the text, and its raw names are; 22 where the links are fewer than the entries; then 24, 25, 26 and 31.
 -- "A refused call writes nothing .. An accepted .. walk .. leaves the slice behind what it writes as it found it."
-use Rattle.std.specs.Prelude.{Ok, Err}
-use Rattle.std.specs.Prelude.{ℕ, cond, ◌&&◌, List, ltb, length}
+use Rattle.std.specs.Prelude.{Ok, Err, ℕ, cond, ◌&&◌, List, ltb, length}
 use Rattle.text.specs.Judged.{judged_of, behind_judged}
 use Rattle.text.specs.Refusals.{Told, unfit, not_in_order, no_room}
 use Rattle.rows.specs.Rows.{room_of, entries_of}
@@ -14,16 +13,6 @@ use Rattle.grammar.specs.Kinds.{kinds_of}
 use Rattle.grammar.specs.Walk.{linked_of}
 use Rattle.fields.specs.Names.{name_at, raws_fit}
 use Rattle.fields.specs.Fields.{named_walk}
-
--- The paper's answer for each case of the code's.
-abbrev pub told_walk : Told Unit → Told Unit
-told_walk (Ok tt) = Ok tt
-told_walk (Err r) = Err r
-
--- The grammar's verdict as an answer.
-abbrev pub judged : Told Unit → Told Unit
-judged (Ok tt) = Ok tt
-judged (Err r) = Err r
 
 -- What is asked before any entry is judged, in its order; behind it stands the walk's own answer.
 unfoldable pub behind_walk_front : List ℕ → List ℕ → ℕ → ℕ → ℕ → Told Unit → Told Unit
@@ -38,7 +27,7 @@ behind_walk_front text tape count limit links on =
 -- The whole answer, for so many links.
 unfoldable pub walk_of : List ℕ → List ℕ → ℕ → ℕ → ℕ → Told Unit
 walk_of text tape count limit links =
-    behind_walk_front text tape count limit links (judged (named_walk (name_at text tape) (kinds_of (entries_of count tape)) limit))
+    behind_walk_front text tape count limit links (named_walk (name_at text tape) (kinds_of (entries_of count tape)) limit)
 
 -- The links behind such an answer: those of the entries, or what stood there.
 abbrev pub left_by : Told Unit → List Entry → List ℕ → List ℕ

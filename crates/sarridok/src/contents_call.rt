@@ -8,7 +8,7 @@ use entries::view::contents_at;
 use text::Refusal;
 use text::judge::judge;
 
-// Where the bytes inside stand in the text, if nothing was escaped: else 29.
+// Where the bytes inside begin and end in the text, if nothing was escaped: else 29.
 pub fn contents(
     text: &[u8],
     tape: &[u32],
@@ -17,15 +17,9 @@ pub fn contents(
 ) -> Result<(usize, usize), Refusal>
     ensures { told_contents result ≡ contents_of text.now tape.now count entry }
 {
-    let judged = judge(text);
-    if let Err(refusal) = judged {
-        return Err(refusal);
-    }
-    let named = find_named(text, tape, count, entry);
-    match named {
-        Ok((bytes, place)) => contents_at(text, bytes, place),
-        Err(refusal) => Err(refusal),
-    }
+    judge(text)?;
+    let (bytes, place) = find_named(text, tape, count, entry)?;
+    contents_at(text, bytes, place)
 }
 
 // The bytes inside, none on a refusal.

@@ -7,7 +7,7 @@ use entries::named::find_named;
 use text::Refusal;
 use text::judge::judge;
 
-// What the string decodes to, at the front of `out`; refused, it writes nothing.
+// What the string decodes to, at the front of `out`: how many bytes were written; refused, it writes nothing.
 pub fn decoded(
     text: &[u8],
     tape: &[u32],
@@ -18,13 +18,7 @@ pub fn decoded(
     ensures result_value { result ≡ decoded_answer text.now tape.now count entry (length out.old) }
     ensures out_after { out.new ≡ decoded_out text.now tape.now count entry out.old }
 {
-    let judged = judge(text);
-    if let Err(refusal) = judged {
-        return Err(refusal);
-    }
-    let named = find_named(text, tape, count, entry);
-    match named {
-        Ok((bytes, place)) => decoded_at(text, bytes, place, out),
-        Err(refusal) => Err(refusal),
-    }
+    judge(text)?;
+    let (bytes, place) = find_named(text, tape, count, entry)?;
+    decoded_at(text, bytes, place, out)
 }

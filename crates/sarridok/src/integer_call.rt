@@ -58,7 +58,7 @@ fn number_at(s: &[u8], width: Width) -> Integer
     }
 }
 
-// The same, seen from the front of the text; 27 stands at 0.
+// The number and the place behind it, seen from the front of the text, or the refusal; 27 stands at 0.
 fn placed(read: Integer, place: usize) -> Result<(Value, usize), Refusal>
     requires { Fitting place read }
     ensures { result ≡ placed_at place read }
@@ -70,14 +70,11 @@ fn placed(read: Integer, place: usize) -> Result<(Value, usize), Refusal>
     }
 }
 
-// The integer at the place, in the width asked for; 27 where its suffix names another.
+// The integer at the place, in the width asked for, and the place behind it; 27 where its suffix names another.
 pub fn integer(text: &[u8], place: usize, width: Width) -> Result<(Value, usize), Refusal>
     ensures { told_integer result ≡ integer_of text.now place width }
 {
-    let judged = judge(text);
-    if let Err(refusal) = judged {
-        return Err(refusal);
-    }
+    judge(text)?;
     if !place_fits(text, place) {
         return Err(Refusal::unfit());
     }

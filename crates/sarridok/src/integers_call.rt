@@ -23,17 +23,11 @@ pub fn integers(
     ensures codes { codes.new ≡
         codes_after text.now tape.now count items.now magnitudes.old codes.old }
 {
-    let judged = judge(text);
-    if let Err(refusal) = judged {
-        return Err(refusal);
-    }
+    judge(text)?;
     if room(tape) < count {
         return Err(Refusal::not_in_order());
     }
-    let read = judge_items(text, tape, count, items);
-    if let Err(refusal) = read {
-        return Err(refusal);
-    }
+    judge_items(text, tape, count, items)?;
     if magnitudes.len() < items.len() {
         return Err(Refusal::no_room());
     }

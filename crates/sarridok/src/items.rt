@@ -1,6 +1,5 @@
 // The items of a list of integers: one of them, and all, first judged and then written.
-ghost use Rattle.std.specs.Prelude.{Ok};
-ghost use Rattle.std.specs.Prelude.{cond, ◌≡◌, ◌+◌, ◌≤◌, drop, length};
+ghost use Rattle.std.specs.Prelude.{Ok, cond, ◌≡◌, ◌+◌, ◌≤◌, drop, length};
 ghost use Rattle.text.specs.Judged.{judged_of};
 ghost use Rattle.text.specs.Refusals.{at_place};
 ghost use Rattle.integers.specs.Width.{width_at};
@@ -39,7 +38,7 @@ fn code_for(width: u8, minus: bool) -> u8
     width
 }
 
-// What was read, as item k.
+// What is written for a number that was read, its magnitude and code; or the refusal, at the number k of its item.
 fn coded(read: Integer, width: u8, k: usize) -> Result<(u64, u8), Refusal>
     requires { width ≤ 8 }
     ensures { told_item result ≡ at_item k (coded_in width read) }
@@ -121,10 +120,7 @@ pub fn judge_items(text: &[u8], tape: &[u32], count: usize, items: &[u32]) -> Re
     ensures { result ≡ verdict_of (items_from text.now tape.now count items.now 0) }
 {
     for (k, number) in items.iter().enumerate() {
-        let judged = item_at(text, tape, count, *number, k);
-        if let Err(refusal) = judged {
-            return Err(refusal);
-        }
+        item_at(text, tape, count, *number, k)?;
     }
     Ok(())
 }

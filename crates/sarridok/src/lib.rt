@@ -5,8 +5,6 @@
 // answers which meet a promise are equal. One page with all promises is proofs/Promises.antt of crate promises; docs/PROMISES.md has them in words.
 #![tactic(auto)]
 
-use text::Refusal;
-
 mod contents_call;
 mod decoded_call;
 mod integer_call;

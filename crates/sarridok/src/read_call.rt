@@ -6,14 +6,11 @@ use read::reader::read_text;
 use text::Refusal;
 use text::judge::judge;
 
-// Five numbers an entry, from the front of the tape on; refused, it writes nothing.
+// How many entries there are, five numbers each, from the front of the tape on; refused, it writes nothing.
 pub fn read(text: &[u8], tape: &mut [u32]) -> Result<usize, Refusal>
     ensures { (result ≡ read_answer text.now (length tape.old))
         × (tape.new ≡ read_tape text.now tape.old) }
 {
-    let judged = judge(text);
-    if let Err(refusal) = judged {
-        return Err(refusal);
-    }
+    judge(text)?;
     read_text(text, tape)
 }

@@ -6,7 +6,7 @@ use repair::repairer::repair_text;
 use text::Refusal;
 use text::judge::judge;
 
-// The old text had `old_len` bytes, and its bytes from a to b were replaced.
+// How many entries there are now, and how many were kept before and behind; the old text had `old_len` bytes, and its bytes from a to b were replaced.
 pub fn repair(
     tape: &mut [u32],
     count: usize,
@@ -18,9 +18,6 @@ pub fn repair(
     ensures { (told_repair result ≡ repair_of tape.old count old_len a b text.now)
         × (tape.new ≡ repaired_tape tape.old count old_len a b text.now) }
 {
-    let judged = judge(text);
-    if let Err(refusal) = judged {
-        return Err(refusal);
-    }
+    judge(text)?;
     repair_text(tape, count, old_len, a, b, text)
 }

@@ -6,14 +6,11 @@ use cursor::ParserCursor;
 use text::Refusal;
 use text::judge::judge;
 
-// 28 for a cursor that is unfit for the text.
+// The cursor there; 28 for a cursor that is unfit for the text.
 pub fn skip(text: &[u8], c: ParserCursor) -> Result<ParserCursor, Refusal>
     ensures { result ≡ skip_of text.now c }
 {
-    let judged = judge(text);
-    if let Err(r) = judged {
-        return Err(r);
-    }
+    judge(text)?;
     if !c.fits(text) {
         return Err(Refusal::unfit());
     }

@@ -2,7 +2,7 @@
 ghost use Rattle.std.specs.Prelude.{◌≡◌};
 ghost use Rattle.sarridok.specs.StructKind.{struct_kind_of};
 
-use structs::{NewtypeMode, TupleMode, check_struct_type, placed};
+use structs::{NewtypeMode, StructType, TupleMode, check_struct_type, placed};
 use text::Refusal;
 use text::judge::{judge, place_fits};
 
@@ -15,10 +15,7 @@ pub fn struct_kind(
 ) -> Result<StructType, Refusal>
     ensures { result ≡ struct_kind_of text.now place newtype tuple }
 {
-    let judged = judge(text);
-    if let Err(refusal) = judged {
-        return Err(refusal);
-    }
+    judge(text)?;
     if !place_fits(text, place) {
         return Err(Refusal::unfit());
     }

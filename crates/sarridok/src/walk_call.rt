@@ -21,10 +21,7 @@ pub fn walk(
     ensures answer { result ≡ walk_of text.now tape.now count limit (length links.old) }
     ensures left { links.new ≡ links_after text.now tape.now count limit links.old }
 {
-    let judged = judge_text(text);
-    if let Err(refusal) = judged {
-        return Err(refusal);
-    }
+    judge_text(text)?;
     if 128 < limit {
         return Err(Refusal::unfit());
     }
@@ -40,10 +37,7 @@ pub fn walk(
     if links.len() < count {
         return Err(Refusal::no_room());
     }
-    let verdict = judge(text, tape, count, limit);
-    if let Err(refusal) = verdict {
-        return Err(refusal);
-    }
+    judge(text, tape, count, limit)?;
     join(tape, count, links);
     Ok(())
 }

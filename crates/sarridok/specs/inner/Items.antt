@@ -1,6 +1,5 @@
 -- The items of `integers` as its inner functions have them: one item with its refusal at the item's number, and the verdict over all.
-use Rattle.std.specs.Prelude.{Ok, Err}
-use Rattle.std.specs.Prelude.{ℕ, List}
+use Rattle.std.specs.Prelude.{Ok, Err, ℕ, List}
 use Rattle.text.specs.Refusals.{Told, at_place, other_kind}
 use Rattle.integers.specs.declared.integer.Integer.{Integer}
 use Rattle.integers.specs.declared.integer.Integer.TheVariants as integer

@@ -1,6 +1,5 @@
 use native.Mathlib.Omega.{arith}
 use mathlib.Core.Path.{◌∙◌, ap, sym}
-use borrow.Author.Rules.{rules}
 use Rattle.entries.specs.Contents.{told_contents}
 use Rattle.sarridok.proofs.ContentsLaws.{part_inside}
 use Rattle.sarridok.specs.Contents.{part_of}

@@ -1,5 +1,4 @@
 use mathlib.Core.Path.{◌∙◌, ap, sym}
-use borrow.Author.Rules.{rules}
 use Rattle.sarridok.specs.Typed.{byte_as, integer_at}
 use Rattle.sarridok.proofs.integer_call.integer_at.Goals as goal
 

@@ -3,7 +3,6 @@ use mathlib.Core.Bool.{false}
 use mathlib.Core.Path.{◌∙◌, ap, sym}
 use Rattle.integers.specs.Width.{limit_at}
 use Rattle.sarridok.proofs.ShortReads.{short_read}
-use borrow.Author.Rules.{rules}
 use Rattle.sarridok.proofs.integer_call.number_at.Goals as goal
 
 pub returns-in-Value : goal.returns-in-Value

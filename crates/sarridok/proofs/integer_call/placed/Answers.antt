@@ -1,7 +1,6 @@
 use Rattle.std.proofs.Common.{Err}
 use native.Mathlib.Omega.{arith}
 use mathlib.Core.Path.{ap}
-use borrow.Author.Rules.{rules}
 use Rattle.sarridok.proofs.integer_call.placed.Goals as goal
 
 pub overflow_add-result : goal.overflow_add-result

@@ -1,6 +1,5 @@
 use native.Mathlib.Nat.{add-zero}
 use mathlib.Core.Path.{sym}
-use borrow.Author.Rules.{rules}
 use Rattle.sarridok.proofs.items.code_for.Goals as goal
 
 pub returns-then-minus : goal.returns-then-minus

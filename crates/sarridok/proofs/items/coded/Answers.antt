@@ -1,5 +1,3 @@
-use mathlib.Core.Path.{◌∙◌, ap}
-use borrow.Author.Rules.{rules}
 use Rattle.sarridok.proofs.items.coded.Goals as goal
 
 pub returns-in-Read : goal.returns-in-Read

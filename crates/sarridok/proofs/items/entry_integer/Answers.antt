@@ -3,7 +3,6 @@ use native.Mathlib.Omega.{arith}
 use mathlib.Core.Path.{◌∙◌, ap, sym}
 use mathlib.Core.List.{List}
 use Prim.Native.Nat.{ℕ}
-use borrow.Author.Tests.{not-false, not-true}
 use Rattle.text.proofs.JudgeLaws.{place_within}
 use Rattle.text.proofs.Lists.{tail_part}
 use Rattle.text.specs.Refusals.{at_place}
@@ -12,7 +11,6 @@ use Rattle.integers.specs.Width.{width_at}
 use Rattle.sarridok.specs.Typed.{integer_at}
 use Rattle.sarridok.specs.inner.Items.{at_item, coded_in}
 use Rattle.sarridok.proofs.ItemLaws.{entry_other, entry_reads, entry_unfit, names_width}
-use borrow.Author.Rules.{rules}
 use Rattle.sarridok.proofs.items.entry_integer.Goals as goal
 
 pub returns-then-not-place_fits : goal.returns-then-not-place_fits

@@ -4,7 +4,6 @@ use Rattle.integers.specs.declared.width.Width.{Width}
 use Rattle.sarridok.specs.Typed.{integer_at}
 use Rattle.sarridok.specs.inner.Items.{at_item, coded_in}
 use Rattle.sarridok.proofs.ItemLaws.{short_item}
-use borrow.Author.Rules.{rules}
 use Rattle.sarridok.proofs.items.integer_in.Goals as goal
 
 pub returns-in-Value : goal.returns-in-Value

@@ -6,7 +6,6 @@ use Rattle.rows.specs.declared.Entry.{Entry}
 use Rattle.sarridok.specs.Integers.{entry_integer}
 use Rattle.sarridok.specs.inner.Items.{at_item}
 use Rattle.sarridok.proofs.ItemLaws.{item_inside, item_unfit}
-use borrow.Author.Rules.{rules}
 use Rattle.sarridok.proofs.items.item_at.Goals as goal
 
 pub returns-then-count-i : goal.returns-then-count-i

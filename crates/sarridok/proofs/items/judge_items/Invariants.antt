@@ -1,10 +1,7 @@
-use Prim.Native.Nat.{◌-◌, ◌≤◌}
-use mathlib.Core.Path.{◌≡◌, ◌∙◌, ap, refl, sym}
-use lib.ListN.{drop, length}
+use mathlib.Core.Path.{◌≡◌}
+use lib.ListN.{drop}
 use Rattle.sarridok.specs.Integers.{items_from}
-use Rattle.sarridok.specs.inner.Items.{told_item, verdict_of}
-use Rattle.sarridok.proofs.ItemLaws.{items_end, judge_passes, judge_stops}
-use borrow.Author.Rules.{rules}
+use Rattle.sarridok.specs.inner.Items.{verdict_of}
 use Rattle.sarridok.proofs.items.judge_items.Given as goal
 
 abbrev pub invariant-loop-k : goal.invariant-loop-k

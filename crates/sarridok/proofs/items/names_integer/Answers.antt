@@ -1,6 +1,4 @@
-use mathlib.Core.Path.{◌∙◌}
 use borrow.Author.Tests.{eq-eqb, ne_eqb}
-use Rattle.text.proofs.Choices.{and_false}
 use Rattle.text.proofs.ClassLaws.{above, below, inside}
 use Rattle.sarridok.proofs.items.names_integer.Goals as goal
 

@@ -1,11 +1,8 @@
-use Prim.Native.Nat.{◌-◌, ◌≤◌}
 use native.Mathlib.Omega.{arith}
-use mathlib.Core.Path.{◌≡◌, ◌∙◌, ap, refl, sym}
-use mathlib.Core.List.{◌++◌, map}
-use lib.ListN.{drop, length, take}
-use Rattle.sarridok.specs.Integers.{Coded, items_from}
+use mathlib.Core.Path.{◌∙◌, ap, refl, sym}
+use Rattle.sarridok.specs.Integers.{Coded}
 use Rattle.sarridok.specs.inner.Items.{told_item}
-use Rattle.sarridok.proofs.ItemLaws.{all_stored, never_refused, turn, values_of}
+use Rattle.sarridok.proofs.ItemLaws.{all_stored, never_refused, turn}
 use borrow.Author.Rules.{rules}
 use Rattle.sarridok.proofs.items.write_items.Goals as goal
 

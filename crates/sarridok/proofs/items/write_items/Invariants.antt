@@ -1,11 +1,8 @@
-use Prim.Native.Nat.{◌-◌, ◌≤◌}
-use mathlib.Core.Path.{◌≡◌, ◌∙◌, ap, refl, sym}
+use mathlib.Core.Path.{◌≡◌}
 use mathlib.Core.List.{◌++◌, map}
 use lib.ListN.{drop, length, take}
 use Rattle.sarridok.specs.Integers.{Coded, items_from}
-use Rattle.sarridok.specs.inner.Items.{told_item}
-use Rattle.sarridok.proofs.ItemLaws.{all_stored, never_refused, turn, values_of}
-use borrow.Author.Rules.{rules}
+use Rattle.sarridok.proofs.ItemLaws.{values_of}
 use Rattle.sarridok.proofs.items.write_items.Given as goal
 
 abbrev pub invariant-loop-k : goal.invariant-loop-k
