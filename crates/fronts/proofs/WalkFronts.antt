@@ -17,7 +17,7 @@ use Rattle.rows.specs.Rows.{entries_of, room_of}
 use Rattle.grammar.specs.Kinds.{kinds_of}
 use Rattle.fields.specs.Fields.{named_walk}
 use Rattle.fields.specs.Names.{name_at, raws_fit}
-use Rattle.sarridok.specs.Walked.{behind_walk_front, judged, walk_of}
+use Rattle.sarridok.specs.Walked.{behind_walk_front, walk_of}
 use Rattle.sarridok.proofs.WalkFront as laws
 use Rattle.given.proofs.Walks.{Of-named, named_number, verdict_of_named}
 use Rattle.fronts.specs.Fronts.{FrontOf}
@@ -28,7 +28,7 @@ use Rattle.fronts.proofs.Numbers.{number_in}
 abbrev Own : Told Unit → Type 0
 Own x = (number_in x < 22) ⊎ (((23 < number_in x) × (number_in x < 28)) ⊎ (number_in x ≡ 31))
 
-own_judged : (v : Told Unit) → Of-named v → Own (judged v)
+own_judged : (v : Told Unit) → Of-named v → Own v
 own_judged (Ok tt) h = inl (omega arith)
 own_judged (Err r) h = inr (named_number r h)
 
@@ -71,7 +71,7 @@ module _ (text tape : List ℕ) (count limit links : ℕ) where
     past : Own answer → Way
 
   module _ (fit : judged_of text ≡ Ok tt) where
-    own : answer ≡ judged verdict_here → Own answer
+    own : answer ≡ verdict_here → Own answer
     own e = rw e (own_judged verdict_here (verdict_of_named (name_at text tape) (kinds_of (entries_of count tape)) limit))
 
     way_read : Way
@@ -139,7 +139,7 @@ module _ (text tape : List ℕ) (count limit links : ℕ) where
   -- 1 and 2 exactly where the text is too long or not UTF-8
   pub walk_front : FrontOf text (walk_of text tape count limit links)
       (cond (ltb 128 limit) (Err unfit) (cond (ltb (room_of (length tape)) count) (Err not_in_order)
-      (cond (in_order (entries_of count tape) (length text) && raws_fit text (entries_of count tape)) (cond (ltb links count) (Err no_room) (judged verdict_here)) (Err not_in_order))))
+      (cond (in_order (entries_of count tape) (length text) && raws_fit text (entries_of count tape)) (cond (ltb links count) (Err no_room) verdict_here) (Err not_in_order))))
   unfolding walk_of behind_walk_front
   walk_front = front_higher text _ (above _ (over (ltb 128 limit) (ltb (room_of (length tape)) count) (in_order (entries_of count tape) (length text) && raws_fit text (entries_of count tape)) (ltb links count)))
     where
@@ -151,11 +151,11 @@ module _ (text tape : List ℕ) (count limit links : ℕ) where
       above : (x : Told Unit) → Above x → (r : Refusal) → x ≡ Err r → 2 < r.number
       above x h r e = subst Above e h
 
-      own_above : (v : Told Unit) → Of-named v → Above (judged v)
+      own_above : (v : Told Unit) → Of-named v → Above v
       own_above (Ok tt) h = tt
       own_above (Err r) h = either (named_number r h) (λ w. let z = w.0 in omega arith) (λ w. omega arith)
 
-      over : (a b c d : Bool) → Above (cond a (Err unfit) (cond b (Err not_in_order) (cond c (cond d (Err no_room) (judged verdict_here)) (Err not_in_order))))
+      over : (a b c d : Bool) → Above (cond a (Err unfit) (cond b (Err not_in_order) (cond c (cond d (Err no_room) verdict_here) (Err not_in_order))))
       over true b c d = omega arith
       over false true c d = omega arith
       over false false false d = omega arith

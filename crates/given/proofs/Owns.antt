@@ -22,7 +22,6 @@ use Rattle.structs.specs.declared.kinds.NewtypeMode.{NewtypeMode}
 use Rattle.structs.specs.declared.kinds.TupleMode.{TupleMode}
 use Rattle.fields.specs.Fields.{named_walk}
 use Rattle.fields.specs.Names.{name_at, raws_fit}
-use Rattle.sarridok.specs.Walked.{judged}
 use Rattle.given.specs.Given.{given, within}
 use Rattle.given.proofs.Both.{both}
 use Rattle.given.proofs.Cursors.{Inner-step, skip_ws_inner}
@@ -67,14 +66,14 @@ decoded_own text tape count entry room =
 
 -- ---- the walk
 
-told_verdict : (v : Told Unit) → Of-named v → Given-told (judged v)
+told_verdict : (v : Told Unit) → Of-named v → Given-told v
 told_verdict (Ok tt) h = tt
 told_verdict (Err r) h = named_given r h
 
 pub walk_own : (text tape : List ℕ) (count limit links : ℕ)
     → Given-told (cond (ltb 128 limit) (Err unfit) (cond (ltb (room_of (length tape)) count) (Err not_in_order)
     (cond (in_order (entries_of count tape) (length text) && raws_fit text (entries_of count tape))
-    (cond (ltb links count) (Err no_room) (judged (named_walk (name_at text tape) (kinds_of (entries_of count tape)) limit))) (Err not_in_order))))
+    (cond (ltb links count) (Err no_room) (named_walk (name_at text tape) (kinds_of (entries_of count tape)) limit)) (Err not_in_order))))
 unfolding given within
 walk_own text tape count limit links =
     let v = named_walk (name_at text tape) (kinds_of (entries_of count tape)) limit in

@@ -27,7 +27,7 @@ use Rattle.fields.specs.Apart.{BeginsApart, Distinct, Repeated}
 use Rattle.fields.specs.Fields.{named_walk}
 use Rattle.fields.specs.Names.{name_at, raws_fit}
 use Rattle.sarridok.specs.Passed.{Links, Passed}
-use Rattle.sarridok.specs.Walked.{judged, links_after, walk_of}
+use Rattle.sarridok.specs.Walked.{links_after, walk_of}
 use Rattle.sarridok.proofs.WalkDetermined.{links_determined, walk_determined}
 use Rattle.sarridok.proofs.WalkMeans as means
 use Rattle.fronts.specs.Fronts.{FrontOf}
@@ -48,7 +48,7 @@ module _ (text tape : List ℕ) (count limit links : ℕ) where
   pub walk_front : FrontOf text (walk_of text tape count limit links)
       (cond (ltb 128 limit) (Err unfit) (cond (ltb (room_of (length tape)) count) (Err not_in_order)
       (cond (in_order (entries_of count tape) (length text) && raws_fit text (entries_of count tape))
-      (cond (ltb links count) (Err no_room) (judged (named_walk (name_at text tape) (kinds_of (entries_of count tape)) limit))) (Err not_in_order))))
+      (cond (ltb links count) (Err no_room) (named_walk (name_at text tape) (kinds_of (entries_of count tape)) limit)) (Err not_in_order))))
   walk_front = fronts.walk_front text tape count limit links
 
   -- 28, 23 and 22 exactly in their cases: 23 where the count does not fit, the entries are not in order within the text, or a raw name is none.

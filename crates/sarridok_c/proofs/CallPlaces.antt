@@ -39,7 +39,7 @@ use Rattle.structs.specs.declared.kinds.TupleMode.{TupleMode}
 use Rattle.given.proofs.Both.{both}
 use Rattle.sarridok.proofs.Places.{at_bounded}
 use Rattle.sarridok.specs.Contents.{contents_of, decoded_answer}
-use Rattle.sarridok.specs.Skip.{skip_of, told_skip as toldStep}
+use Rattle.sarridok.specs.Skip.{skip_of}
 use Rattle.sarridok.specs.StructKind.{struct_kind_of}
 use Rattle.sarridok.specs.Typed.{integer_at, integer_of, placed_at, told_integer as toldTyped}
 use Rattle.sarridok_c.specs.Packed.{bit_of}
@@ -53,12 +53,12 @@ part_short text p h l = omega (arith, length-drop p text)
 
 -- ---- skip
 
-gap_low : (at pre : ℕ) (s : List ℕ) (g : Gap) → at + length s ≤ 65536 → EndsBy (length s) g → Low cursor_parts (toldStep (cursor_behind at pre g))
+gap_low : (at pre : ℕ) (s : List ℕ) (g : Gap) → at + length s ≤ 65536 → EndsBy (length s) g → Low cursor_parts (cursor_behind at pre g)
 gap_low at pre s (Clear n) h b = (omega arith, omega arith)
 gap_low at pre s (InLine n) h b = (omega arith, omega arith)
 gap_low at pre s (NoGap r) h b = omega arith
 
-part_low : (c : ParserCursor) (s : List ℕ) → c.cursor + length s ≤ 65536 → Low cursor_parts (toldStep (behind_part c s))
+part_low : (c : ParserCursor) (s : List ℕ) → c.cursor + length s ≤ 65536 → Low cursor_parts (behind_part c s)
 unfolding behind_part
 part_low c [] h = (omega arith, omega arith)
 part_low c (a ∷ s) h = gap_low c.cursor (pre_of c) (a ∷ s) (gap_of (a ∷ s)) h (gap_bounded (a ∷ s))

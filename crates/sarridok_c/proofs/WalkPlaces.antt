@@ -27,7 +27,7 @@ use Rattle.fields.specs.Fields.{again_of, by_again, named_walk}
 use Rattle.fields.specs.Names.{name_at, raws_fit}
 use Rattle.fields.proofs.Beginnings.{found_inside}
 use Rattle.given.proofs.Both.{both}
-use Rattle.sarridok.specs.Walked.{behind_walk_front, judged, walk_of}
+use Rattle.sarridok.specs.Walked.{behind_walk_front, walk_of}
 use Rattle.sarridok_c.specs.Whole.{done_parts}
 use Rattle.sarridok_c.proofs.Unpacking.{Low, behind-judged}
 
@@ -79,7 +79,7 @@ unfolding kinds_of
 kinds_many [] = refl
 kinds_many (e ∷ es) = let h = kinds_many es in omega arith
 
-judged_low : (v : Told Unit) → Within 65536 v → Low done_parts (judged v)
+judged_low : (v : Told Unit) → Within 65536 v → Low done_parts v
 judged_low (Ok tt) h = (omega arith, omega arith)
 judged_low (Err r) h = omega arith
 
