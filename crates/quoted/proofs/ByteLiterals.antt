@@ -1,6 +1,6 @@
 -- A byte literal is read exactly where one stands. Assumes nothing.
 use Rattle.std.proofs.Common.{Ok, Err}
-use Rattle.text.specs.Refusals.{Told}
+use Rattle.text.specs.Refusals.{Told, eof, expected_byte_literal}
 use Prim.Native.Nat.{ℕ, suc, ◌+◌, ◌<◌, ◌≤◌}
 use native.Mathlib.Numerals.{add-one}
 use native.Mathlib.Omega.{arith}
@@ -25,7 +25,6 @@ use Rattle.strings.proofs.CharLaws.{byte_short}
 use Rattle.strings.specs.Chars.{by_byte_escape, byte_ends, byte_of}
 use Rattle.text.proofs.Choices.{and_true, bool_cases, cond_cases, either}
 use Rattle.text.proofs.Lists.{head_at}
-use Rattle.text.specs.Refusals.{eof, expected_byte_literal}
 use Rattle.text.specs.declared.refusal.Refusal.{Refusal}
 
 -- ---- the closing quote
@@ -40,7 +39,7 @@ ends_read : (s : List ℕ) (at b n c : ℕ) → byte_ends s at b ≡ Ok (n, c) �
 unfolding byte_ends
 ends_read s at b n c =
     cond_cases (λ (a : Told (ℕ × ℕ)). a ≡ Ok (n, c) → (get_or s at 0 ≡ 0x27) × (n ≡ at + 1) × (b ≡ c)) (eqb (get_or s at 0) 0x27) _ _
-    (λ q e. let i : at + 1 ≡ n = cc in let j : b ≡ c = cc in (eqb-true (get_or s at 0) 0x27 q, sym i, j))
+    (λ q e. let p : ◌≡◌ {A = ℕ × ℕ} (at + 1, b) (n, c) = cc in (eqb-true (get_or s at 0) 0x27 q, sym (ap (λ (x : ℕ × ℕ). x.0) p), ap (λ (x : ℕ × ℕ). x.1) p))
     (λ q e. let z : ◌≡◌ {A = ℕ} 0 1 = cc in absurd (omega arith))
 
 -- ---- what is read stands there

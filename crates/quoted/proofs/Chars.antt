@@ -40,7 +40,7 @@ ends_read : (s : List ℕ) (at code n c : ℕ) → char_ends s at code ≡ Ok (n
 unfolding char_ends
 ends_read s at code n c =
     cond_cases (λ (a : Told (ℕ × ℕ)). a ≡ Ok (n, c) → (get_or s at 0 ≡ 0x27) × (n ≡ at + 1) × (code ≡ c)) (eqb (get_or s at 0) 0x27) _ _
-    (λ q e. let i : at + 1 ≡ n = cc in let j : code ≡ c = cc in (eqb-true (get_or s at 0) 0x27 q, sym i, j))
+    (λ q e. let p : ◌≡◌ {A = ℕ × ℕ} (at + 1, code) (n, c) = cc in (eqb-true (get_or s at 0) 0x27 q, sym (ap (λ (x : ℕ × ℕ). x.0) p), ap (λ (x : ℕ × ℕ). x.1) p))
     (λ q e. let z : ◌≡◌ {A = ℕ} 0 1 = cc in absurd (omega arith))
 
 -- ---- what is read stands there

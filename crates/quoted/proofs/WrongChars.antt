@@ -1,7 +1,7 @@
 -- A char is refused with 13, for a reason at a place, exactly where its escape is wrong so (`char-13`), and a byte literal too, or where its escape means a
 -- character by its code point (`byte-13`). Assumes nothing.
 use Rattle.std.proofs.Common.{Err}
-use Rattle.text.specs.Refusals.{Told}
+use Rattle.text.specs.Refusals.{Told, eof, expected_byte_literal, expected_char, invalid_escape, placed_behind}
 use Prim.Native.Nat.{ℕ, suc, ◌+◌, ◌-◌}
 use native.Mathlib.Omega.{arith}
 use mathlib.Core.Bool.{◌&&◌, false}
@@ -23,7 +23,6 @@ use Rattle.quoted.specs.Wrong.{WrongByte, WrongChar}
 use Rattle.strings.proofs.CharLaws.{byte_short}
 use Rattle.strings.specs.Chars.{by_byte_escape, by_char_escape, byte_ends, byte_of, char_ends, char_of}
 use Rattle.text.proofs.Choices.{and_true, bool_cases, cond_cases, either}
-use Rattle.text.specs.Refusals.{eof, expected_byte_literal, expected_char, invalid_escape, placed_behind}
 use Rattle.text.specs.Utf8.{char_len, code_of}
 use Rattle.text.specs.declared.reason.EscapeReason.{EscapeReason}
 use Rattle.text.specs.declared.reason.EscapeReason.TheVariants.{UnicodeInByteLiteral}

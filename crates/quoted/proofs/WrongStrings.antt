@@ -1,7 +1,7 @@
 -- A string is refused with 13, for a reason at a place, exactly where it holds an escape that is wrong so, and any quote stands behind the opening one
 -- (`string-13`); and so is a byte string (`byte-string-13`). Assumes nothing.
 use Rattle.std.proofs.Common.{Err}
-use Rattle.text.specs.Refusals.{Told}
+use Rattle.text.specs.Refusals.{Told, expected_byte_string, expected_string, expected_string_end, invalid_escape}
 use Rattle.strings.specs.declared.literal.Literal.{Literal}
 use Prim.Native.Nat.{ℕ, ◌+◌}
 use native.Mathlib.Omega.{arith}
@@ -25,7 +25,6 @@ use Rattle.strings.specs.Quoted.{measured, quoted_of}
 use Rattle.strings.specs.Raw.{hash, missing, raw_end, raw_of}
 use Rattle.strings.specs.Strings.{byte_string_of, string_of}
 use Rattle.text.proofs.Choices.{bool_cases, cond_cases, either}
-use Rattle.text.specs.Refusals.{expected_byte_string, expected_string, expected_string_end, invalid_escape}
 use Rattle.text.specs.Runs.{run}
 use Rattle.text.specs.Utf8.{char_len, width_of}
 use Rattle.text.specs.declared.reason.EscapeReason.{EscapeReason}

@@ -1,6 +1,5 @@
 -- What the call `decoded` accepts (document 01), said plainly: "Contents of a string or byte string entry: [..] decoded into a lent buffer in every case."
-use Rattle.std.specs.Prelude.{Ok}
-use Rattle.std.specs.Prelude.{ℕ, ◌≤◌, Bool, List, ◌≡◌, drop, length}
+use Rattle.std.specs.Prelude.{Ok, ℕ, ◌≤◌, Bool, List, ◌≡◌, drop, length}
 use Rattle.text.specs.Judged.{judged_of}
 use Rattle.entries.specs.Named.{named_of}
 use Rattle.quoted.specs.Literals.{LiteralAt}
