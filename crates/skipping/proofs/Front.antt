@@ -50,9 +50,9 @@ refused_apart r (Err x) o e =
     (λ h. omega arith, λ h. omega arith)
 
 module _ (text : List ℕ) (c : ParserCursor) where
-  pub own_answer : Fits text c → skip_of text c ≡ (skip_ws_of text c)
+  pub own_answer : Fits text c → skip_of text c ≡ skip_ws_of text c
   unfolding skip_of
-  own_answer f = front_fit text ((skip_ws_of text c)) (cursor_fits text c) f.text_fit f.cursor_fit
+  own_answer f = front_fit text (skip_ws_of text c) (cursor_fits text c) f.text_fit f.cursor_fit
 
   -- an answer of its own is given to a text and cursor that fit
   pub only_own : (a : Told ParserCursor) → Own a → skip_of text c ≡ a → Fits text c
@@ -61,15 +61,15 @@ module _ (text : List ℕ) (c : ParserCursor) where
     where
       go : (j : Told Unit) → judged_of text ≡ j → (f : Bool) → cursor_fits text c ≡ f → Fits text c
       go (Ok tt) e true f = record { text_fit = e; cursor_fit = f }
-      go (Ok tt) e false f = absurd ((refused_apart unfit a o (sym (front_unfit text ((skip_ws_of text c)) (cursor_fits text c) e f) ∙ h)).1 (omega arith))
-      go (Err r) e b f = absurd ((refused_apart r a o (sym (front_refused text ((skip_ws_of text c)) (cursor_fits text c) r e) ∙ h)).0 (judged_low text r e))
+      go (Ok tt) e false f = absurd ((refused_apart unfit a o (sym (front_unfit text (skip_ws_of text c) (cursor_fits text c) e f) ∙ h)).1 (omega arith))
+      go (Err r) e b f = absurd ((refused_apart r a o (sym (front_refused text (skip_ws_of text c) (cursor_fits text c) r e) ∙ h)).0 (judged_low text r e))
 
   -- ---- behind the front
 
   pub says_end : Fits text c → length text ≤ c.cursor → skip_of text c ≡ Ok (cursor c.cursor (pre_of c) c.last_ws_len)
   says_end f h = own_answer f ∙ (skip_at_end text c h)
 
-  pub says_gap : Fits text c → c.cursor < length text → skip_of text c ≡ (cursor_behind c.cursor (pre_of c) (gap_of (ahead text c)))
+  pub says_gap : Fits text c → c.cursor < length text → skip_of text c ≡ cursor_behind c.cursor (pre_of c) (gap_of (ahead text c))
   says_gap f h = own_answer f ∙ (skip_runs text c h)
 
   -- where something is ahead, the text is not at its end
@@ -86,7 +86,7 @@ refusals q r e = cc
 abbrev pub Refuses : ℕ → Answer → ℕ → ℕ → Type 0
 Refuses at g n p = (q : ℕ) × (g ≡ answer.Refused (refusal n q)) × (p ≡ at + q)
 
-gap_refused : (at pre : ℕ) (g : Answer) (n p : ℕ) → (cursor_behind at pre g) ≡ Err (refusal n p) → Refuses at g n p
+gap_refused : (at pre : ℕ) (g : Answer) (n p : ℕ) → cursor_behind at pre g ≡ Err (refusal n p) → Refuses at g n p
 gap_refused at pre (answer.Clear k) n p e = let z : ◌≡◌ {A = ℕ} 0 1 = cc in absurd (omega arith)
 gap_refused at pre (answer.InLine k) n p e = let z : ◌≡◌ {A = ℕ} 0 1 = cc in absurd (omega arith)
 gap_refused at pre (answer.Refused r) n p e =
@@ -111,5 +111,5 @@ refused_exactly text c n p l m = (to, from)
     from : Fits text c × Refuses c.cursor (gap_of (ahead text c)) n p → skip_of text c ≡ Err (refusal n p)
     from (f, (q, e, i)) =
         says_gap text c f (some_ahead text c (answer.Refused (refusal n q)) e (clear_apart 0 (refusal n q)))
-        ∙ ap (λ (g : Answer). (cursor_behind c.cursor (pre_of c) g)) e
+        ∙ ap (λ (g : Answer). cursor_behind c.cursor (pre_of c) g) e
         ∙ ap (λ (k : ℕ). Err (refusal n k)) (sym i)

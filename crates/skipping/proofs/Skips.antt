@@ -40,7 +40,7 @@ module _ (text : List ℕ) (c : ParserCursor) where
     left : c.cursor + length (ahead text c) ≡ length text
     left = omega (arith, length-drop c.cursor text, (fits_places text c fits.cursor_fit).0)
 
-    by-gap : c.cursor < length text → (d : ParserCursor) (g : Answer) → gap_of (ahead text c) ≡ g → (cursor_behind c.cursor (pre_of c) g) ≡ Ok d → Skips text c d
+    by-gap : c.cursor < length text → (d : ParserCursor) (g : Answer) → gap_of (ahead text c) ≡ g → cursor_behind c.cursor (pre_of c) g ≡ Ok d → Skips text c d
     by-gap h d (answer.Clear n) e i =
         let at = c.cursor in
         let w = (gap.clear_exactly (ahead text c) n).0 e in
@@ -60,8 +60,8 @@ module _ (text : List ℕ) (c : ParserCursor) where
         subst (Skips text c) q (at_end (omega (arith, left))))
 
     -- the gap's answer, where the text is not at its end
-    told_as : (g : Answer) → gap_of (ahead text c) ≡ g → c.cursor < length text → skip_of text c ≡ (cursor_behind c.cursor (pre_of c) g)
-    told_as g e h = says_gap text c fits h ∙ ap (λ (x : Answer). (cursor_behind c.cursor (pre_of c) x)) e
+    told_as : (g : Answer) → gap_of (ahead text c) ≡ g → c.cursor < length text → skip_of text c ≡ cursor_behind c.cursor (pre_of c) g
+    told_as g e h = says_gap text c fits h ∙ ap (λ (x : Answer). cursor_behind c.cursor (pre_of c) x) e
 
     is_skipped : {d : ParserCursor} → Skips text c d → skip_of text c ≡ Ok d
     is_skipped (at_end e) = says_end text c fits (omega arith)

@@ -1,7 +1,6 @@
 -- The call `skip` (document 01), said plainly: "Skip from a `ParserCursor` of three numbers (`skip_ws`)." "The mark for an unclosed line, the largest
 -- number of its width." Order of refusals: 1, 2, 28, then those of reading, 4 to 6.
-use Rattle.std.specs.Prelude.{Ok}
-use Rattle.std.specs.Prelude.{ℕ, ◌+◌, ◌-◌, ◌<◌, ◌≤◌, true, List, ◌∷◌, ◌++◌, ◌≡◌, drop, length}
+use Rattle.std.specs.Prelude.{Ok, ℕ, ◌+◌, ◌-◌, ◌<◌, ◌≤◌, true, List, ◌∷◌, ◌++◌, ◌≡◌, drop, length}
 use Rattle.cursor.specs.Cursor.{cursor, unclosed_line}
 use Rattle.cursor.specs.Skip.{cursor_fits, pre_of}
 use Rattle.cursor.specs.declared.ParserCursor.{ParserCursor}
