@@ -1,6 +1,5 @@
 -- The worked texts of change request 2: where a field is named again, and where none is.
-use Rattle.std.specs.Prelude.{Ok, Err}
-use Rattle.std.specs.Prelude.{List, [], ◌∷◌}
+use Rattle.std.specs.Prelude.{Err, List, Ok, [], ◌∷◌}
 use Rattle.text.specs.Refusals.{refusal}
 use Rattle.worked.specs.Texts.{Claim}
 use Rattle.worked.specs.Texts.Claim.{walks}

@@ -1,6 +1,5 @@
 -- The worked texts of change request 6: what stands before an entry, and what is kept behind where it changes.
-use Rattle.std.specs.Prelude.{Ok, Err}
-use Rattle.std.specs.Prelude.{List, [], ◌∷◌}
+use Rattle.std.specs.Prelude.{Err, List, Ok, [], ◌∷◌}
 use Rattle.text.specs.Refusals.{refusal}
 use Rattle.worked.specs.Texts.{Claim}
 use Rattle.worked.specs.Texts.Claim.{reads, repairs}

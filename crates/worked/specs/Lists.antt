@@ -1,6 +1,5 @@
 -- The worked texts of change request 7: a list of integers read in one call, and what refuses it first.
-use Rattle.std.specs.Prelude.{Ok, Err}
-use Rattle.std.specs.Prelude.{List, [], ◌∷◌}
+use Rattle.std.specs.Prelude.{Err, List, Ok, [], ◌∷◌}
 use Rattle.text.specs.Refusals.{refusal, invalid_escape}
 use Rattle.text.specs.declared.reason.EscapeReason.TheVariants.{DigitNotHex}
 use Rattle.worked.specs.Texts.{Claim}

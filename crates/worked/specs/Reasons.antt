@@ -1,12 +1,10 @@
 -- The worked texts of change request 1, each of the eight reasons among them, and a reason handed on by each call.
-use Rattle.std.specs.Prelude.{Err}
-use Rattle.std.specs.Prelude.{List, [], ◌∷◌}
+use Rattle.std.specs.Prelude.{Err, List, [], ◌∷◌}
 use Rattle.integers.specs.declared.width.Width.TheVariants.{U8}
 use Rattle.structs.specs.declared.kinds.NewtypeMode.TheVariants.{NoParensMeanUnit}
 use Rattle.structs.specs.declared.kinds.TupleMode.TheVariants.{DifferentiateNewtype}
 use Rattle.text.specs.Refusals.{invalid_escape}
-use Rattle.text.specs.declared.reason.EscapeReason.TheVariants.{DigitNotHex, UnknownLetter, NotByteEscaped, MissingOpenBrace}
-use Rattle.text.specs.declared.reason.EscapeReason.TheVariants.{NoDigits, NoClosingBrace, NotACharacter, UnicodeInByteLiteral}
+use Rattle.text.specs.declared.reason.EscapeReason.TheVariants.{DigitNotHex, UnknownLetter, NotByteEscaped, MissingOpenBrace, NoDigits, NoClosingBrace, NotACharacter, UnicodeInByteLiteral}
 use Rattle.worked.specs.Texts.{Claim}
 use Rattle.worked.specs.Texts.Claim.{reads, types, decodes, repairs, struct_is}
 

@@ -1,6 +1,5 @@
 -- The starred worked texts (document 01): "Those with * are proved of the definitions together, as a single statement over one list."
-use Rattle.std.specs.Prelude.{Ok, Err}
-use Rattle.std.specs.Prelude.{ℕ, true, false, List, [], ◌∷◌, ◌≡◌, length}
+use Rattle.std.specs.Prelude.{Ok, Err, ℕ, true, false, List, [], ◌∷◌, ◌≡◌, length}
 use Rattle.text.specs.Refusals.{Told, refusal, invalid_escape}
 use Rattle.text.specs.declared.reason.EscapeReason.TheVariants.{NotByteEscaped}
 use Rattle.integers.specs.declared.width.Width.{Width}
