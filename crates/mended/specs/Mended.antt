@@ -1,7 +1,6 @@
 -- The third demand over the calls (document 01, "Repair"): "Accepted, the slice holds the new entries, zeros up to the old count, and beyond it what stood
 -- there." A repair answers as a fresh reading of the new text does, and the entries that it reports as kept are those that document 01 counts.
-use Rattle.std.specs.Prelude.{Ok, Err}
-use Rattle.std.specs.Prelude.{ℕ, true, List, ◌↔◌, ◌≡◌, length, take}
+use Rattle.std.specs.Prelude.{Ok, Err, ℕ, true, List, ◌↔◌, ◌≡◌, length, take}
 use Rattle.text.specs.declared.refusal.Refusal.{Refusal}
 use Rattle.rows.specs.Rows.{entries_of, laid}
 use Rattle.reading.specs.Kept.{Replaced, are_moved, kept_before, kept_behind, last_of}
