@@ -38,18 +38,18 @@ pub or_unfit : {A : Type 0} (fits : Bool) (own : Told A) → FourTo-told 27 own 
 unfolding within
 or_unfit fits own h = both Own-told fits (higher_told 27 29 own (lit≤ tt) h) refl
 
-told_step : (a : Told ParserCursor) → Inner-step a → FourTo-told 27 (a)
+told_step : (a : Told ParserCursor) → Inner-step a → FourTo-told 27 a
 told_step (Ok c) h = tt
 told_step (Err r) h = higher 21 27 r (lit≤ tt) h
 
-pub skip_own : (text : List ℕ) (c : ParserCursor) → FourTo-told 27 ((skip_ws_of text c))
+pub skip_own : (text : List ℕ) (c : ParserCursor) → FourTo-told 27 (skip_ws_of text c)
 skip_own text c = told_step (skip_ws_of text c) (skip_ws_inner text c)
 
-told-struct : (place : ℕ) (a : Told StructType) → Inner-struct a → FourTo-told 27 ((placed_kind place a))
+told-struct : (place : ℕ) (a : Told StructType) → Inner-struct a → FourTo-told 27 (placed_kind place a)
 told-struct place (Ok k) h = tt
 told-struct place (Err r) h = higher 21 27 r (lit≤ tt) h
 
-pub struct_own : (place : ℕ) (s : List ℕ) (newtype : NewtypeMode) (tuple : TupleMode) → FourTo-told 27 ((placed_kind place (struct_type_of s newtype tuple)))
+pub struct_own : (place : ℕ) (s : List ℕ) (newtype : NewtypeMode) (tuple : TupleMode) → FourTo-told 27 (placed_kind place (struct_type_of s newtype tuple))
 struct_own place s newtype tuple = told-struct place (struct_type_of s newtype tuple) (struct_type_inner s newtype tuple)
 
 -- ---- calls for an entry

@@ -1,6 +1,5 @@
 -- The refusals of the grammar's walk are 24 to 26, and with the names of fields also 31. Assumes nothing.
 use Rattle.std.proofs.Common.{Ok, Err, Some, None, Option}
-use Rattle.text.specs.Refusals.{Told}
 use Prim.Native.Nat.{ℕ, ◌+◌, ◌<◌}
 use native.Mathlib.Omega.{arith}
 use mathlib.Core.List.{List, [], ◌∷◌}
@@ -18,7 +17,7 @@ use Rattle.grammar.specs.declared.states.Want.TheVariants.{Start, Must, Item, Fi
 use Rattle.grammar.specs.declared.states.Move.{Move}
 use Rattle.grammar.specs.declared.states.Move.TheVariants.{Stay, Push, Pop, Bad}
 use Rattle.text.proofs.Choices.{either}
-use Rattle.text.specs.Refusals.{repeated_field}
+use Rattle.text.specs.Refusals.{Told, repeated_field}
 use Rattle.text.specs.declared.refusal.Refusal.{Refusal}
 use Rattle.fields.specs.Fields.{again_of, by_again, named_walk}
 use Rattle.given.specs.Given.{Between, Given, given, within}
