@@ -67,10 +67,10 @@ module _ (text : List ℕ) (c : ParserCursor) where
   -- ---- behind the front
 
   pub says_end : Fits text c → length text ≤ c.cursor → skip_of text c ≡ Ok (cursor c.cursor (pre_of c) c.last_ws_len)
-  says_end f h = own_answer f ∙ (skip_at_end text c h)
+  says_end f h = own_answer f ∙ skip_at_end text c h
 
   pub says_gap : Fits text c → c.cursor < length text → skip_of text c ≡ cursor_behind c.cursor (pre_of c) (gap_of (ahead text c))
-  says_gap f h = own_answer f ∙ (skip_runs text c h)
+  says_gap f h = own_answer f ∙ skip_runs text c h
 
   -- where something is ahead, the text is not at its end
   pub some_ahead : (g : Answer) → gap_of (ahead text c) ≡ g → (answer.Clear 0 ≡ g → ⊥) → c.cursor < length text
