@@ -39,7 +39,7 @@ module _ (s tape : List ℕ) (count : ℕ) (a : Told Unit) (r : Told Unit) (told
       → end ≡ put out (walked_text s tape count a)
   unfolding walked_text
   walked_accepted h depth e f =
-      f ∙ ap (λ (d : ℕ). put out (accepted_text count d)) e ∙ ap (λ (x : Told Unit). put out (walked_text s tape count x)) (sym (h) ∙ told_is)
+      f ∙ ap (λ (d : ℕ). put out (accepted_text count d)) e ∙ ap (λ (x : Told Unit). put out (walked_text s tape count x)) (sym h ∙ told_is)
 
   pub walked_refused : (d : Refusal) → r ≡ Err d → (p : ℕ) (b : Begun) → p ≡ walk_place tape count d → b ≡ walk_begun s tape count d
       → end ≡ put out (refusal_text s d p b)
@@ -47,33 +47,33 @@ module _ (s tape : List ℕ) (count : ℕ) (a : Told Unit) (r : Told Unit) (told
   unfolding walked_text
   walked_refused d h p b e g f =
       f ∙ ap (λ (k : ℕ). put out (refusal_text s d k b)) e ∙ ap (λ (x : Begun). put out (refusal_text s d (walk_place tape count d) x)) g
-      ∙ ap (λ (x : Told Unit). put out (walked_text s tape count x)) (sym (h) ∙ told_is)
+      ∙ ap (λ (x : Told Unit). put out (walked_text s tape count x)) (sym h ∙ told_is)
 
 -- ---- the read
 
 module _ (s tape t : List ℕ) (r : Told ℕ) (told_is : r ≡ read_answer s (length tape)) (tape_is : t ≡ read_tape s tape) where
   -- an accepted read has room for its entries
   pub room_after : (n : ℕ) → r ≡ Ok n → length t ≡ length tape → n ≤ room_of (length t)
-  room_after n h e = subst (λ (k : ℕ). n ≤ room_of k) (sym e) (read_accepted s (length tape) n (sym (sym (h) ∙ told_is))).fits
+  room_after n h e = subst (λ (k : ℕ). n ≤ room_of k) (sym e) (read_accepted s (length tape) n (sym (sym h ∙ told_is))).fits
 
   module _ (out end : List ℕ × ℕ) (links : ℕ) where
     pub explained_accepted : (n : ℕ) → r ≡ Ok n → end ≡ put out (walked_text s t n (walk_of s t n 128 links)) → end ≡ put out (explained s tape links)
     unfolding explained read_text
     explained_accepted n h f =
         f ∙ ap (λ (x : List ℕ). put out (walked_text s x n (walk_of s x n 128 links))) tape_is
-        ∙ ap (λ (x : Told ℕ). put out (read_text s (read_tape s tape) links x)) (sym (h) ∙ told_is)
+        ∙ ap (λ (x : Told ℕ). put out (read_text s (read_tape s tape) links x)) (sym h ∙ told_is)
 
     pub explained_refused : (d : Refusal) → r ≡ Err d → (b : Begun) → b ≡ read_begun s d.number
         → end ≡ put out (refusal_text s d d.place b) → end ≡ put out (explained s tape links)
     unfolding explained read_text
     explained_refused d h b g f =
-        f ∙ ap (λ (x : Begun). put out (refusal_text s d d.place x)) g ∙ ap (λ (x : Told ℕ). put out (read_text s (read_tape s tape) links x)) (sym (h) ∙ told_is)
+        f ∙ ap (λ (x : Begun). put out (refusal_text s d d.place x)) g ∙ ap (λ (x : Told ℕ). put out (read_text s (read_tape s tape) links x)) (sym h ∙ told_is)
 
 module _ (s tape links after : List ℕ) (a : Told ℕ) (r : Told ℕ) (told_is : r ≡ a) where
   pub links_accepted : (n : ℕ) → r ≡ Ok n → after ≡ links_after s tape n 128 links → after ≡ links_behind s tape links a
   unfolding links_behind
-  links_accepted n h f = f ∙ ap (links_behind s tape links) (sym (h) ∙ told_is)
+  links_accepted n h f = f ∙ ap (links_behind s tape links) (sym h ∙ told_is)
 
   pub links_refused : (d : Refusal) → r ≡ Err d → after ≡ links → after ≡ links_behind s tape links a
   unfolding links_behind
-  links_refused d h f = f ∙ ap (links_behind s tape links) (sym (h) ∙ told_is)
+  links_refused d h f = f ∙ ap (links_behind s tape links) (sym h ∙ told_is)

@@ -1,6 +1,5 @@
 -- What is said of a text: how many entries it has and how deep they are nested, or why it is refused, and where.
-use Rattle.std.specs.Prelude.{Ok, Err}
-use Rattle.std.specs.Prelude.{ℕ, min, cond, List, [], ◌++◌, eqb, length}
+use Rattle.std.specs.Prelude.{Ok, Err, ℕ, min, cond, List, [], ◌++◌, eqb, length}
 use Rattle.depth.specs.Depth.{deepest_of}
 use Rattle.grammar.specs.Kinds.{kinds_of}
 use Rattle.lines.specs.Ascii.{ascii}

@@ -19,7 +19,6 @@ use lines::{input, out};
 use opened::begun::read_begun;
 use opened::walks::walk_begun;
 use places::entry::walk_place;
-use sarridok::ReadAnswer;
 
 // Brackets may be open up to this many.
 const LIMIT: usize = 128;
@@ -49,8 +48,8 @@ fn explain(o: &mut [u8], s: &[u8], tape: &mut [u32], links: &mut [u32]) -> usize
 {
     let r = sarridok::read(s, tape);
     match r {
-        ReadAnswer::Accepted(n) => walked(o, s, &tape[..], n, links),
-        ReadAnswer::Refused(f) => refused(o, s, f, f.place, read_begun(s, f.number)),
+        Ok(n) => walked(o, s, &tape[..], n, links),
+        Err(f) => refused(o, s, f, f.place, read_begun(s, f.number)),
     }
 }
 
