@@ -1,6 +1,5 @@
 -- Answers as text: the words of an accepted answer, or `refused` with the paper's number, place and reason.
-use Rattle.std.specs.Prelude.{Ok, Err}
-use Rattle.std.specs.Prelude.{ℕ, Bool, cond, List, [], ◌++◌}
+use Rattle.std.specs.Prelude.{Ok, Err, ℕ, Bool, cond, List, [], ◌++◌}
 use Rattle.lines.specs.Ascii.{ascii}
 use Rattle.lines.specs.Decimal.{word_of}
 use Rattle.text.specs.declared.refusal.Refusal.{Refusal}
@@ -8,7 +7,7 @@ use Rattle.text.specs.Refusals.{Told}
 
 -- A refusal as document 01 has it: its number and its place.
 unfoldable pub placed_text : Refusal → List ℕ
-placed_text r = ascii "Err" ++ word_of r.number ++ word_of r.place
+placed_text r = ascii "refused" ++ word_of r.number ++ word_of r.place
 
 -- And with its reason (CR 1).
 unfoldable pub refused_text : Refusal → List ℕ

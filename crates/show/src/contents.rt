@@ -6,19 +6,19 @@ ghost use Rattle.show.specs.Answers.{answer_text};
 ghost use Rattle.show.specs.Contents.{span_text, bytes_text, wrote_text};
 
 use lines::out;
-use sarridok::{ContentsAnswer, DecodedAnswer};
+use text::Refusal;
 
 // Where the part stands, or the refusal.
-pub fn view(o: &mut [u8], at: usize, r: ContentsAnswer) -> usize
+pub fn view(o: &mut [u8], at: usize, r: Result<(usize, usize), Refusal>) -> usize
     ensures { (o.new, result) ≡ put (o.old, at) (answer_text span_text (told_contents r)) }
 {
     match r {
-        ContentsAnswer::Part(start, end) => {
+        Ok((start, end)) => {
             let a = out::bytes(o, at, b"ok part");
             let b = out::word(o, a, start as u64);
             out::word(o, b, end as u64)
         }
-        ContentsAnswer::Refused(f) => crate::refused(o, at, f),
+        Err(f) => crate::refused(o, at, f),
     }
 }
 
@@ -36,11 +36,11 @@ fn wrote(o: &mut [u8], at: usize, s: &[u8]) -> usize
 }
 
 // The buffer is the one that was lent.
-pub fn decoded(o: &mut [u8], at: usize, r: DecodedAnswer, buffer: &[u8]) -> usize
-    ensures { (o.new, result) ≡ put (o.old, at) (answer_text (wrote_text buffer.now) (r)) }
+pub fn decoded(o: &mut [u8], at: usize, r: Result<usize, Refusal>, buffer: &[u8]) -> usize
+    ensures { (o.new, result) ≡ put (o.old, at) (answer_text (wrote_text buffer.now) r) }
 {
     match r {
-        DecodedAnswer::Wrote(n) => wrote(o, at, lines::part(buffer, 0, n)),
-        DecodedAnswer::Refused(f) => crate::refused(o, at, f),
+        Ok(n) => wrote(o, at, lines::part(buffer, 0, n)),
+        Err(f) => crate::refused(o, at, f),
     }
 }

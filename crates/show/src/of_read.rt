@@ -7,7 +7,7 @@ ghost use Rattle.show.specs.Readings.{entry_text, tape_text, read_text};
 
 use lines::out;
 use rows::row;
-use sarridok::ReadAnswer;
+use text::Refusal;
 
 // An entry's numbers behind a separator, the gap last.
 fn entry(o: &mut [u8], at: usize, tape: &[u32], i: usize, between: u8) -> usize
@@ -47,11 +47,11 @@ pub fn accepted(o: &mut [u8], at: usize, n: usize, tape: &[u32], between: u8) ->
 }
 
 // These, or the refusal.
-pub fn read(o: &mut [u8], at: usize, r: ReadAnswer, tape: &[u32], between: u8) -> usize
-    ensures { (o.new, result) ≡ put (o.old, at) (answer_text (read_text between tape.now) (r)) }
+pub fn read(o: &mut [u8], at: usize, r: Result<usize, Refusal>, tape: &[u32], between: u8) -> usize
+    ensures { (o.new, result) ≡ put (o.old, at) (answer_text (read_text between tape.now) r) }
 {
     match r {
-        ReadAnswer::Accepted(n) => accepted(o, at, n, tape, between),
-        ReadAnswer::Refused(f) => crate::refused(o, at, f),
+        Ok(n) => accepted(o, at, n, tape, between),
+        Err(f) => crate::refused(o, at, f),
     }
 }

@@ -28,7 +28,7 @@ fn cursor(o: &mut [u8], at: usize, c: ParserCursor) -> usize
 
 // The three numbers of the cursor, or the refusal.
 pub fn skipped(o: &mut [u8], at: usize, s: Result<ParserCursor, Refusal>) -> usize
-    ensures { (o.new, result) ≡ put (o.old, at) (answer_text moved_text (s)) }
+    ensures { (o.new, result) ≡ put (o.old, at) (answer_text moved_text s) }
 {
     match s {
         Ok(c) => {

@@ -5,7 +5,8 @@ ghost use Rattle.show.specs.Answers.{answer_text};
 ghost use Rattle.show.specs.StructKinds.{kind_name, kind_text};
 
 use lines::out;
-use sarridok::{StructAnswer, StructType};
+use sarridok::StructType;
+use text::Refusal;
 
 fn name(o: &mut [u8], at: usize, kind: StructType) -> usize
     ensures { (o.new, result) ≡ put (o.old, at) (kind_name kind) }
@@ -21,14 +22,14 @@ fn name(o: &mut [u8], at: usize, kind: StructType) -> usize
 }
 
 // The kind by its name in the crate, or the refusal.
-pub fn kind(o: &mut [u8], at: usize, r: StructAnswer) -> usize
-    ensures { (o.new, result) ≡ put (o.old, at) (answer_text kind_text (r)) }
+pub fn kind(o: &mut [u8], at: usize, r: Result<StructType, Refusal>) -> usize
+    ensures { (o.new, result) ≡ put (o.old, at) (answer_text kind_text r) }
 {
     match r {
-        StructAnswer::Kind(k) => {
+        Ok(k) => {
             let a = out::bytes(o, at, b"ok ");
             name(o, a, k)
         }
-        StructAnswer::Refused(f) => crate::refused(o, at, f),
+        Err(f) => crate::refused(o, at, f),
     }
 }

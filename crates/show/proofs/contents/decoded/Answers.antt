@@ -9,18 +9,18 @@ use Rattle.show.specs.Answers.{answer_text}
 use Rattle.show.specs.Contents.{bytes_text, wrote_text}
 use Rattle.show.proofs.contents.decoded.Goals as goal
 
-pub returns-in-Wrote : goal.returns-in-Wrote
+pub returns-in-Ok : goal.returns-in-Ok
 unfolding wrote_text
-returns-in-Wrote c =
+returns-in-Ok c =
     let out : List ℕ × ℕ = (c.args.o.now, c.args.at) in
     let buffer : List ℕ = c.args.buffer.now in
-    let n : ℕ = c.in-Wrote.n in
+    let n : ℕ = c.in-Ok.n in
     let all : n - 0 ≡ n = omega arith in
     c.wrote.ensures ∙ ap (λ (t : List ℕ). put out (bytes_text t)) (c.part.ensures ∙ ap (λ (k : ℕ). take k buffer) all)
-    ∙ ap (λ (a : Told ℕ). put out (answer_text (wrote_text buffer) (a))) (sym c.in-Wrote.is)
+    ∙ ap (λ (a : Told ℕ). put out (answer_text (wrote_text buffer) a)) (sym c.in-Ok.is)
 
-pub returns-in-Refused : goal.returns-in-Refused
-returns-in-Refused c =
+pub returns-in-Err : goal.returns-in-Err
+returns-in-Err c =
     let out : List ℕ × ℕ = (c.args.o.now, c.args.at) in
     let buffer : List ℕ = c.args.buffer.now in
-    c.refused.ensures ∙ ap (λ (a : Told ℕ). put out (answer_text (wrote_text buffer) (a))) (sym c.in-Refused.is)
+    c.refused.ensures ∙ ap (λ (a : Told ℕ). put out (answer_text (wrote_text buffer) a)) (sym c.in-Err.is)

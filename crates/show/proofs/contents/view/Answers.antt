@@ -11,17 +11,17 @@ use Rattle.show.specs.Answers.{answer_text}
 use Rattle.show.specs.Contents.{span_text}
 use Rattle.show.proofs.contents.view.Goals as goal
 
-pub returns-in-Part : goal.returns-in-Part
+pub returns-in-Ok : goal.returns-in-Ok
 unfolding span_text
-returns-in-Part c =
+returns-in-Ok c =
     let out : List ℕ × ℕ = (c.args.o.now, c.args.at) in
-    let start : ℕ = c.in-Part.start in
-    let end : ℕ = c.in-Part.end in
+    let start : ℕ = c.in-Ok.start in
+    let end : ℕ = c.in-Ok.end in
     then out _ _ (ascii "ok part") (word_of start ++ word_of end) c.bytes-a.ensures
     (then _ _ _ (word_of start) (word_of end) c.word-b.ensures c.word.ensures)
-    ∙ ap (λ (a : Told (ℕ × ℕ)). put out (answer_text span_text (told_contents a))) (sym c.in-Part.is)
+    ∙ ap (λ (a : Told (ℕ × ℕ)). put out (answer_text span_text (told_contents a))) (sym c.in-Ok.is)
 
-pub returns-in-Refused : goal.returns-in-Refused
-returns-in-Refused c =
+pub returns-in-Err : goal.returns-in-Err
+returns-in-Err c =
     let out : List ℕ × ℕ = (c.args.o.now, c.args.at) in
-    c.refused.ensures ∙ ap (λ (a : Told (ℕ × ℕ)). put out (answer_text span_text (told_contents a))) (sym c.in-Refused.is)
+    c.refused.ensures ∙ ap (λ (a : Told (ℕ × ℕ)). put out (answer_text span_text (told_contents a))) (sym c.in-Err.is)

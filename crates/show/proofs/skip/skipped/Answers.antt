@@ -10,7 +10,7 @@ use Rattle.show.proofs.skip.skipped.Goals as goal
 
 pub returns-in-Ok : goal.returns-in-Ok
 unfolding moved_text
-returns-in-Ok c = then (c.args.o.now, c.args.at) _ _ (ascii "ok") (cursor_text c.in-Ok.c) c.bytes-a.ensures c.cursor.ensures ∙ sym (ap (λ (x : Told ParserCursor). put (c.args.o.now, c.args.at) (answer_text moved_text (x))) c.in-Ok.is)
+returns-in-Ok c = then (c.args.o.now, c.args.at) _ _ (ascii "ok") (cursor_text c.in-Ok.c) c.bytes-a.ensures c.cursor.ensures ∙ sym (ap (λ (x : Told ParserCursor). put (c.args.o.now, c.args.at) (answer_text moved_text x)) c.in-Ok.is)
 
 pub returns-in-Err : goal.returns-in-Err
-returns-in-Err c = c.refused.ensures ∙ sym (ap (λ (x : Told ParserCursor). put (c.args.o.now, c.args.at) (answer_text moved_text (x))) c.in-Err.is)
+returns-in-Err c = c.refused.ensures ∙ sym (ap (λ (x : Told ParserCursor). put (c.args.o.now, c.args.at) (answer_text moved_text x)) c.in-Err.is)

@@ -8,9 +8,9 @@ use Rattle.show.specs.Answers.{answer_text}
 use Rattle.show.specs.StructKinds.{kind_name, kind_text}
 use Rattle.show.proofs.struct_kind.kind.Goals as goal
 
-pub returns-in-Kind : goal.returns-in-Kind
+pub returns-in-Ok : goal.returns-in-Ok
 unfolding kind_text
-returns-in-Kind c = then (c.args.o.now, c.args.at) _ _ (ascii "ok ") (kind_name c.in-Kind.k) c.bytes-a.ensures c.name.ensures ∙ sym (ap (λ (x : Told StructType). put (c.args.o.now, c.args.at) (answer_text kind_text (x))) c.in-Kind.is)
+returns-in-Ok c = then (c.args.o.now, c.args.at) _ _ (ascii "ok ") (kind_name c.in-Ok.k) c.bytes-a.ensures c.name.ensures ∙ sym (ap (λ (x : Told StructType). put (c.args.o.now, c.args.at) (answer_text kind_text x)) c.in-Ok.is)
 
-pub returns-in-Refused : goal.returns-in-Refused
-returns-in-Refused c = c.refused.ensures ∙ sym (ap (λ (x : Told StructType). put (c.args.o.now, c.args.at) (answer_text kind_text (x))) c.in-Refused.is)
+pub returns-in-Err : goal.returns-in-Err
+returns-in-Err c = c.refused.ensures ∙ sym (ap (λ (x : Told StructType). put (c.args.o.now, c.args.at) (answer_text kind_text x)) c.in-Err.is)
