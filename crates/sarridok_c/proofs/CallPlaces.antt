@@ -95,7 +95,7 @@ kind_low NonNewtypeTuple = omega arith
 kind_low NamedStruct = omega arith
 kind_low UnitStruct = omega arith
 
-kind_placed : (place n : ℕ) (a : Told StructType) → place + n ≤ 65536 → StructWithin n a → Low kind_parts ((placed_kind place a))
+kind_placed : (place n : ℕ) (a : Told StructType) → place + n ≤ 65536 → StructWithin n a → Low kind_parts (placed_kind place a)
 kind_placed place n (Ok k) h b = (omega arith, omega (arith, kind_low k))
 kind_placed place n (Err r) h b = omega arith
 

@@ -1,9 +1,8 @@
 -- A text that arrives (document 02, change request 3), over a state of lent numbers: the nine of crate stored, and how many bytes are kept. Numbers that no state has are
 -- 23, and so are fewer than ten: nothing is cut off. "One answer may carry entries with a refusal behind them": the number answered is then that of the refusal, and
 -- the entries, their count and the state behind them are written; 22 and 23 stand alone, and write nothing.
-use Rattle.std.specs.Prelude.{Ok, Err, Some, None, Option}
 use Rattle.pieces.specs.declared.state.Arrival.{Arrival}
-use Rattle.std.specs.Prelude.{ℕ, cond, List, eqb, leb, get_or, length}
+use Rattle.std.specs.Prelude.{Ok, Err, Some, None, Option, ℕ, cond, List, eqb, leb, get_or, length}
 use Rattle.pieces.specs.Ends.{Rest, finish_of}
 use Rattle.pieces.specs.Pieces.{Outcome, piece_of}
 use Rattle.stored.specs.Numbers.{state_of, stored_in}

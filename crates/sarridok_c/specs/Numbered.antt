@@ -1,7 +1,6 @@
 -- Widths and modes by their numbers: "width 1 to 8 for i8, i16, i32, i64, u8, u16, u32, u64" (document 01, module 9), modes 0 and 1 in the order of the
 -- crate's enums. Any other number is 28, behind 1 and 2 of the text.
-use Rattle.std.specs.Prelude.{Err}
-use Rattle.std.specs.Prelude.{ℕ, cond, ◌&&◌, List, leb, eqb}
+use Rattle.std.specs.Prelude.{Err, ℕ, cond, ◌&&◌, List, leb, eqb}
 use Rattle.text.specs.Refusals.{Told}
 use Rattle.integers.specs.Width.{width_at}
 use Rattle.structs.specs.declared.kinds.NewtypeMode.{NewtypeMode}

@@ -1,7 +1,6 @@
 -- How a host in C gets an answer: in one number of 64 bits. An accepted call's is below 2^63; a refused call's has the top bit set, and in the rest the
 -- refusal's number, reason and place. Document 01: "A refused call writes nothing."
-use Rattle.std.specs.Prelude.{Ok, Err}
-use Rattle.std.specs.Prelude.{ℕ, ◌+◌, ◌-◌, ◌*◌, ◌^◌, Bool, cond, List, ltb}
+use Rattle.std.specs.Prelude.{Ok, Err, ℕ, ◌+◌, ◌-◌, ◌*◌, ◌^◌, Bool, cond, List, ltb}
 use Rattle.text.specs.Refusals.{Told, unfit}
 use Rattle.text.specs.declared.refusal.Refusal.{Refusal}
 use Rattle.text.specs.Judged.{judged_of}

@@ -6,14 +6,14 @@ ghost use Rattle.sarridok_c.specs.Packed.{packed};
 ghost use Rattle.sarridok_c.specs.Words.{span_word};
 
 use crate::packing::{pair, refused};
-use sarridok::ContentsAnswer;
+use text::Refusal;
 
-fn word(answer: ContentsAnswer) -> u64
+fn word(answer: Result<(usize, usize), Refusal>) -> u64
     ensures { result ≡ packed span_word (told_contents answer) }
 {
     match answer {
-        ContentsAnswer::Part(start, end) => pair(start as u64, end as u64),
-        ContentsAnswer::Refused(refusal) => refused(refusal),
+        Ok((start, end)) => pair(start as u64, end as u64),
+        Err(refusal) => refused(refusal),
     }
 }
 

@@ -5,14 +5,14 @@ ghost use Rattle.sarridok_c.specs.Packed.{packed};
 ghost use Rattle.sarridok_c.specs.Words.{count_word};
 
 use crate::packing::{pair, refused};
-use sarridok::DecodedAnswer;
+use text::Refusal;
 
-fn word(answer: DecodedAnswer) -> u64
-    ensures { result ≡ packed count_word (answer) }
+fn word(answer: Result<usize, Refusal>) -> u64
+    ensures { result ≡ packed count_word answer }
 {
     match answer {
-        DecodedAnswer::Wrote(count) => pair(0, count as u64),
-        DecodedAnswer::Refused(refusal) => refused(refusal),
+        Ok(count) => pair(0, count as u64),
+        Err(refusal) => refused(refusal),
     }
 }
 

@@ -7,6 +7,7 @@ ghost use Rattle.sarridok_c.specs.Numbered.{integer_numbered};
 
 use crate::packing::{bit, pair, refused, unfit_in};
 use integers::width::width_at;
+use sarridok::Value;
 use text::Refusal;
 
 fn word(answer: Result<(Value, usize), Refusal>, magnitude: &mut u64) -> u64

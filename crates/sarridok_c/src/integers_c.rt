@@ -8,7 +8,7 @@ use crate::packing::refused;
 use text::Refusal;
 
 fn word(answer: Result<(), Refusal>) -> u64
-    ensures { result ≡ packed done_word (answer) }
+    ensures { result ≡ packed done_word answer }
 {
     match answer {
         Ok(()) => 0,

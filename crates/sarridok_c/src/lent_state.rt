@@ -2,6 +2,7 @@
 ghost use Rattle.std.specs.Prelude.{◌≡◌};
 ghost use Rattle.sarridok_c.specs.Arrivals.{lent_state};
 
+use sarridok::Arrival;
 use stored::state_of;
 
 // How many numbers a state has.

@@ -5,14 +5,14 @@ ghost use Rattle.sarridok_c.specs.Packed.{packed};
 ghost use Rattle.sarridok_c.specs.Words.{count_word};
 
 use crate::packing::{pair, refused};
-use sarridok::ReadAnswer;
+use text::Refusal;
 
-fn word(answer: ReadAnswer) -> u64
-    ensures { result ≡ packed count_word (answer) }
+fn word(answer: Result<usize, Refusal>) -> u64
+    ensures { result ≡ packed count_word answer }
 {
     match answer {
-        ReadAnswer::Accepted(count) => pair(0, count as u64),
-        ReadAnswer::Refused(refusal) => refused(refusal),
+        Ok(count) => pair(0, count as u64),
+        Err(refusal) => refused(refusal),
     }
 }
 

@@ -5,20 +5,20 @@ ghost use Rattle.sarridok_c.specs.Packed.{packed, lent_after};
 ghost use Rattle.sarridok_c.specs.Words.{repaired_word, before_of, behind_of};
 
 use crate::packing::{pair, refused};
-use sarridok::RepairAnswer;
+use text::Refusal;
 
-fn word(answer: RepairAnswer, before: &mut u64, behind: &mut u64) -> u64
+fn word(answer: Result<(usize, usize, usize), Refusal>, before: &mut u64, behind: &mut u64) -> u64
     ensures { (result ≡ packed repaired_word (told_repair answer))
         × (before.new ≡ lent_after before_of (told_repair answer) before.old)
         × (behind.new ≡ lent_after behind_of (told_repair answer) behind.old) }
 {
     match answer {
-        RepairAnswer::Repaired(count, kept_before, kept_behind) => {
+        Ok((count, kept_before, kept_behind)) => {
             *before = kept_before as u64;
             *behind = kept_behind as u64;
             pair(0, count as u64)
         }
-        RepairAnswer::Refused(refusal) => refused(refusal),
+        Err(refusal) => refused(refusal),
     }
 }
 

@@ -6,19 +6,20 @@ ghost use Rattle.sarridok_c.specs.Packed.{packed, lent_after};
 ghost use Rattle.sarridok_c.specs.Words.{cursor_word, pre_of, length_of};
 
 use crate::packing::{pair, refused};
-use sarridok::{ParserCursor, Step};
+use sarridok::ParserCursor;
+use text::Refusal;
 
-fn word(step: Step, pre: &mut u64, len: &mut u64) -> u64
-    ensures { (result ≡ packed cursor_word (step)) × (pre.new ≡ lent_after pre_of (step) pre.old)
-        × (len.new ≡ lent_after length_of (step) len.old) }
+fn word(answer: Result<ParserCursor, Refusal>, pre: &mut u64, len: &mut u64) -> u64
+    ensures { (result ≡ packed cursor_word answer) × (pre.new ≡ lent_after pre_of answer pre.old)
+        × (len.new ≡ lent_after length_of answer len.old) }
 {
-    match step {
-        Step::Moved(c) => {
+    match answer {
+        Ok(c) => {
             *pre = c.pre_ws_cursor as u64;
             *len = c.last_ws_len as u64;
             pair(0, c.cursor as u64)
         }
-        Step::Refused(refusal) => refused(refusal),
+        Err(refusal) => refused(refusal),
     }
 }
 

@@ -5,7 +5,8 @@ ghost use Rattle.sarridok_c.specs.Words.{kind_word};
 ghost use Rattle.sarridok_c.specs.Numbered.{newtype_at, tuple_at, kind_numbered};
 
 use crate::packing::{refused, unfit_in};
-use sarridok::{NewtypeMode, StructAnswer, StructType, TupleMode};
+use sarridok::{NewtypeMode, StructType, TupleMode};
+use text::Refusal;
 
 fn newtype_at(number: u32) -> NewtypeMode
     ensures { result ≡ newtype_at number }
@@ -38,12 +39,12 @@ fn number_of(kind: StructType) -> u64
     }
 }
 
-fn word(answer: StructAnswer) -> u64
-    ensures { result ≡ packed kind_word (answer) }
+fn word(answer: Result<StructType, Refusal>) -> u64
+    ensures { result ≡ packed kind_word answer }
 {
     match answer {
-        StructAnswer::Kind(kind) => number_of(kind),
-        StructAnswer::Refused(refusal) => refused(refusal),
+        Ok(kind) => number_of(kind),
+        Err(refusal) => refused(refusal),
     }
 }
 

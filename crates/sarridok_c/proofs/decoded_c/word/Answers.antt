@@ -1,8 +1,8 @@
 use borrow.Author.Rules.{rules}
 use Rattle.sarridok_c.proofs.decoded_c.word.Goals as goal
 
-pub returns-in-Wrote : goal.returns-in-Wrote
-returns-in-Wrote c = rw c.in-Wrote.is c.pair.ensures
+pub returns-in-Ok : goal.returns-in-Ok
+returns-in-Ok c = rw c.in-Ok.is c.pair.ensures
 
-pub returns-in-Refused : goal.returns-in-Refused
-returns-in-Refused c = rw c.in-Refused.is c.refused.ensures
+pub returns-in-Err : goal.returns-in-Err
+returns-in-Err c = rw c.in-Err.is c.refused.ensures
