@@ -1,19 +1,15 @@
 -- What is said of a text that is read into a marked tape. Assumes nothing.
-use Rattle.std.proofs.Common.{Ok}
 use Rattle.std.specs.Prelude.{Option, Some, None}
-use Prim.Native.Nat.{ℕ, ◌+◌, ◌-◌, ◌*◌, ◌<◌, ◌≤◌}
-use native.Mathlib.Omega.{arith}
-use mathlib.Core.Bool.{Bool, cond}
+use Prim.Native.Nat.{ℕ, ◌-◌}
+use mathlib.Core.Bool.{Bool}
 use mathlib.Core.List.{List, ◌++◌}
 use mathlib.Core.Path.{◌≡◌, refl, sym, ap, ◌∙◌}
 use lib.ListN.{length, take, drop}
-use borrow.Author.Tests.{le-leb, lt-leb}
 use Rattle.lent.specs.Marks.{mark_at, marked, kept_from}
 use Rattle.lines.specs.Out.{put}
 use Rattle.lines.specs.Over.{over}
 use Rattle.lines.proofs.OutLaws.{then}
 use Rattle.read.specs.Read.{read_answer, read_tape}
-use Rattle.rows.specs.Rows.{width}
 use Rattle.show.specs.Answers.{answer_text, bad_text, clean_text}
 use Rattle.show.specs.Readings.{read_text}
 use Rattle.text.specs.Refusals.{Told}
@@ -25,16 +21,6 @@ use Rattle.lent.proofs.MarkLaws.{marked_length}
 use Rattle.words.proofs.SaidLaws.{part_said}
 use Rattle.lines.proofs.LineLaws.{line3}
 use Rattle.tapes.specs.Reads.{written_of, tape_after, reads_text, read_in, room_for, read_line, any_line}
-
--- ---- how many numbers a read may change
-
-pub written_some : (n : ℕ) → n ≤ 65536 → width * n ≡ written_of (Ok n)
-unfolding written_of
-written_some n h = sym (ap (λ (b : Bool). cond b (width * n) 0) (le-leb n 65536 h))
-
-pub written_many : (n : ℕ) → 65536 < n → 0 ≡ written_of (Ok n)
-unfolding written_of
-written_many n h = sym (ap (λ (b : Bool). cond b (width * n) 0) (lt-leb n 65536 h))
 
 -- ---- a read of a marked tape
 
@@ -56,14 +42,6 @@ module _ (text tape before left : List ℕ) (m : before ≡ marked mark_at (leng
       ∙ ap (λ (s : List ℕ). put out (said s (read_answer text (length tape)))) tape_left
 
 -- ---- `r HEX`
-
-pub room_some : (n : ℕ) → n < 65536 → width * n + 16 ≡ room_for n
-unfolding room_for
-room_some n h = omega arith
-
-pub room_most : (n : ℕ) → 65536 ≤ n → width * 65536 + 16 ≡ room_for n
-unfolding room_for
-room_most n h = omega arith
 
 module _ (words text tape : List ℕ) where
   -- by what the word says

@@ -1,8 +1,7 @@
 -- What is said of a tape that is walked into marked links. Assumes nothing.
 use Rattle.std.proofs.Common.{Ok, Err}
 use Rattle.std.specs.Prelude.{Option, Some, None}
-use Prim.Native.Nat.{ℕ, ◌+◌, ◌-◌, ◌<◌, ◌≤◌, min}
-use native.Mathlib.Omega.{arith}
+use Prim.Native.Nat.{ℕ, ◌+◌, ◌-◌, min}
 use mathlib.Core.Bool.{Bool}
 use mathlib.Core.List.{List, ◌++◌}
 use mathlib.Core.Path.{◌≡◌, refl, sym, ap, ◌∙◌}
@@ -50,14 +49,14 @@ module _ (text tape : List ℕ) (q : Asked) (links before left : List ℕ) (m : 
         → mid ≡ put out (links_text s) → clean ≡ kept_from mark_at (drop q.count left) q.count
         → end ≡ put out (walks_text text tape q links)
     walked_said a t g s f p k =
-        by_told (Ok tt) (sym (ap (λ (x : Told Unit). x) g) ∙ t)
+        by_told (Ok tt) (sym g ∙ t)
         (then out mid end (links_text s) (clean_text clean) p z ∙ ap (λ (x : List ℕ). put out (links_text x ++ clean_text clean)) f
         ∙ ap (λ (b : Bool). put out (links_text (take q.count left) ++ clean_text b)) k)
 
     pub refused_said : (a : Told Unit) → a ≡ walk_of text tape q.count q.limit (length before) → (r : Refusal) → a ≡ Err r
         → mid ≡ put out (refused_text r) → clean ≡ kept_from mark_at left 0 → end ≡ put out (walks_text text tape q links)
     refused_said a t r g p k =
-        by_told (Err r) (sym (ap (λ (x : Told Unit). x) g) ∙ t)
+        by_told (Err r) (sym g ∙ t)
         (then out mid end (refused_text r) (clean_text clean) p z ∙ ap (λ (b : Bool). put out (refused_text r ++ clean_text b)) k)
 
 -- ---- the first three words of `W`
@@ -175,12 +174,6 @@ module _ (text tape links : List ℕ) (limit : ℕ) (left : List ℕ) (e : left 
       (w.0 ∙ ap (λ (x : Asked). put out (walk_in text left x links).0) f, w.1 ∙ ap (λ (x : Asked). (walk_in text left x links).1) f)
 
 -- ---- `w LIMIT HEX`
-
-pub links_some : (n : ℕ) → n < 65536 → n + 16 ≡ min n 65536 + 16
-links_some n h = omega arith
-
-pub links_most : (n : ℕ) → 65536 ≤ n → 65552 ≡ min n 65536 + 16
-links_most n h = omega arith
 
 module _ (words text tape links : List ℕ) where
   -- by what the words say

@@ -1,6 +1,5 @@
 -- `r HEX` and `R NUMBERS HEX`: a text read into a marked tape.
-use Rattle.std.specs.Prelude.{Ok, Err}
-use Rattle.std.specs.Prelude.{ℕ, ◌+◌, ◌*◌, min, cond, List, ◌++◌, leb, length, take, drop}
+use Rattle.std.specs.Prelude.{Ok, Err, ℕ, ◌+◌, ◌*◌, min, cond, List, ◌++◌, leb, length, take, drop}
 use Rattle.lent.specs.Marks.{mark_at, marked, kept_from}
 use Rattle.lines.specs.Over.{over}
 use Rattle.read.specs.Read.{read_answer, read_tape}

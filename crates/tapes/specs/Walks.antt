@@ -1,6 +1,5 @@
 -- `w LIMIT HEX` and `W LIMIT LINKS COUNT HEX N,N,..`: a tape walked into marked links, over a text.
-use Rattle.std.specs.Prelude.{Ok, Err}
-use Rattle.std.specs.Prelude.{ℕ, ◌+◌, min, List, ◌++◌, length, take, drop, Option, Some, None}
+use Rattle.std.specs.Prelude.{Ok, Err, ℕ, ◌+◌, min, List, ◌++◌, length, take, drop, Option, Some, None}
 use Rattle.lent.specs.Marks.{mark_at, marked, kept_from}
 use Rattle.lines.specs.Over.{over}
 use Rattle.read.specs.Read.{read_answer, read_tape}

@@ -8,13 +8,11 @@ use rows::row;
 use words::hex;
 
 // As many numbers as the text can fill, and a few behind them.
+#[tactic(auto, unfolding(crate::specs::Reads::room_for))]
 fn room(bytes: usize) -> usize
     ensures { result ≡ room_for bytes }
 {
-    if bytes < 65536 {
-        return row::begins(bytes) + 16;
-    }
-    row::begins(65536) + 16
+    row::begins(bytes.min(65536)) + 16
 }
 
 // `bad` where the line is no case, else the entries or the refusal.

@@ -5,20 +5,16 @@ ghost use Rattle.tapes.specs.Reads.{written_of, tape_after, reads_text, read_in}
 
 use lent::numbers;
 use rows::row;
-use sarridok::ReadAnswer;
+use text::Refusal;
 
 // How many numbers an accepted read may change.
-fn written(r: ReadAnswer) -> usize
-    ensures { result ≡ written_of (r) }
+#[tactic(auto, unfolding(crate::specs::Reads::written_of))]
+fn written(r: Result<usize, Refusal>) -> usize
+    ensures { result ≡ written_of r }
 {
     match r {
-        ReadAnswer::Accepted(n) => {
-            if n <= 65536 {
-                return row::begins(n);
-            }
-            0
-        }
-        ReadAnswer::Refused(_) => 0,
+        Ok(n) if n <= 65536 => row::begins(n),
+        _ => 0,
     }
 }
 

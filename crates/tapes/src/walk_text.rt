@@ -4,19 +4,14 @@ ghost use Rattle.lines.specs.Out.{put};
 ghost use Rattle.read.specs.Read.{read_tape};
 ghost use Rattle.tapes.specs.Walks.{asked as Walks·asked, walk_of_text, walk_line};
 
-use crate::walks;
-use crate::walks::Asked;
-use sarridok::ReadAnswer;
+use crate::walks::{self, Asked};
 use words::{hex, number};
 
 // As many links as there are entries, and a few behind them.
 fn links_for(count: usize) -> usize
     ensures { result ≡ min count 65536 + 16 }
 {
-    if count < 65536 {
-        return count + 16;
-    }
-    65552
+    count.min(65536) + 16
 }
 
 fn asked(count: usize, limit: u64) -> Asked
@@ -44,10 +39,8 @@ fn walked(
 {
     let r = sarridok::read(text, tape);
     match r {
-        ReadAnswer::Accepted(n) => {
-            walks::answer(text, &tape[..], asked(n, limit), links, o, at)
-        },
-        ReadAnswer::Refused(f) => show::refused(o, at, f),
+        Ok(n) => walks::answer(text, &tape[..], asked(n, limit), links, o, at),
+        Err(f) => show::refused(o, at, f),
     }
 }
 

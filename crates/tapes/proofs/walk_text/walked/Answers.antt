@@ -1,15 +1,14 @@
-use Rattle.std.proofs.Common.{Err, ℕ}
-use Rattle.text.specs.Refusals.{Told}
-use mathlib.Core.Path.{refl, sym, ap, ◌∙◌}
+use Rattle.std.proofs.Common.{Err}
+use mathlib.Core.Path.{refl, sym, ◌∙◌}
 use Rattle.tapes.proofs.WalkLaws.{read_walked, accepted_walked}
 use Rattle.tapes.proofs.walk_text.walked.Goals as goal
 
-pub returns-in-Accepted : goal.returns-in-Accepted
-returns-in-Accepted c =
+pub returns-in-Ok : goal.returns-in-Ok
+returns-in-Ok c =
     accepted_walked c.args.text.now c.args.tape.now c.args.links.now c.args.limit _ c.read-r.ensures.1 (c.args.o.now, c.args.at) _ _
-    c.in-Accepted.n (sym (ap (λ (a : Told ℕ). a) c.in-Accepted.is) ∙ c.read-r.ensures.0) _ c.asked.ensures c.answer.ensures
+    c.in-Ok.n (sym c.in-Ok.is ∙ c.read-r.ensures.0) _ c.asked.ensures c.answer.ensures
 
-pub returns-in-Refused : goal.returns-in-Refused
-returns-in-Refused c =
+pub returns-in-Err : goal.returns-in-Err
+returns-in-Err c =
     read_walked c.args.text.now c.args.tape.now c.args.links.now c.args.limit _ c.read-r.ensures.1 (c.args.o.now, c.args.at) _ _
-    (Err c.in-Refused.f) (sym (ap (λ (a : Told ℕ). a) c.in-Refused.is) ∙ c.read-r.ensures.0) (c.refused.ensures, refl)
+    (Err c.in-Err.f) (sym c.in-Err.is ∙ c.read-r.ensures.0) (c.refused.ensures, refl)
