@@ -1,6 +1,5 @@
 -- What a read of any width accepts is written, and fits the width that it says: an integer of a reading can be read again in that width. Assumes nothing.
 use Rattle.std.proofs.Common.{Ok, Err}
-use Rattle.text.specs.Refusals.{Told}
 use Prim.Native.Nat.{ℕ, ◌+◌, ◌≤◌}
 use native.Mathlib.Omega.{arith}
 use mathlib.Core.Bool.{Bool, true, false}
@@ -11,7 +10,7 @@ use lib.Dec.{eqb, leb}
 use lib.ListN.{length}
 use borrow.Author.Tests.{eqb-false, eqb-true, leb-true}
 use Rattle.text.proofs.Choices.{bool_cases, either}
-use Rattle.text.specs.Refusals.{eof}
+use Rattle.text.specs.Refusals.{Told, eof}
 use Rattle.digits.proofs.Exact.{digits_exact}
 use Rattle.digits.specs.Digits.{run_of}
 use Rattle.digits.specs.declared.Run.TheVariants.{Value}
@@ -86,7 +85,16 @@ record Read-any (minus : Bool) (at : ℕ) (n : Told (ℕ × ℕ × ℕ)) (w : Wi
   len_is : at + to ≡ len
 
 any_read : (minus : Bool) (at : ℕ) (n : Told (ℕ × ℕ × ℕ)) (w : Width) (len : ℕ) → any_as minus at n ≡ Ok (w, len) → Read-any minus at n w len
-any_read minus at (Ok (v, code, to)) w len h = record { value = v; code = code; to = to; numeral_is = refl; width_is = cc; len_is = cc }
+any_read minus at (Ok (v, code, to)) w len h =
+    let z : ◌≡◌ {A = Width × ℕ} (width_for code minus v, at + to) (w, len) = cc in
+    record {
+      value = v;
+      code = code;
+      to = to;
+      numeral_is = refl;
+      width_is = ap (λ (p : Width × ℕ). p.0) z;
+      len_is = ap (λ (p : Width × ℕ). p.1) z;
+    }
 any_read minus at (Err r) w len h = let z : ◌≡◌ {A = ℕ} 0 1 = cc in absurd (omega arith)
 
 module _ (s : List ℕ) where

@@ -103,7 +103,7 @@ module _ (text : List ℕ) (place : ℕ) (width : Width) (r : Refusal) (placed :
   unfolding width_at
   by_byte (Ok (n, b)) e l h =
       either (bool_cases (eqb (code_of width) 5))
-      (λ p. let q : ◌≡◌ {A = Told _} (Ok (record { number = record { minus = false; magnitude = b }; end = place + n })) (Err r) = rw p at h in let z : ◌≡◌ {A = ℕ} 0 1 = cc in absurd (omega arith))
+      (λ p. let q : ◌≡◌ {A = Told Typed} (Ok (record { number = record { minus = false; magnitude = b }; end = place + n })) (Err r) = rw p at h in let z : ◌≡◌ {A = ℕ} 0 1 = cc in absurd (omega arith))
       (λ p. let q : ◌≡◌ {A = Told Typed} (Err other_kind) (Err r) = rw p at h in
       let x : other_kind ≡ r = cc in
       other_byte (record { begins = l; value = b; len = n; read = e; differs = λ w. eqb-false (code_of width) 5 p (ap code_of w) }) (sym x))

@@ -1,6 +1,5 @@
 -- The call `integer` on byte literals: accepted exactly where one stands and u8 is asked for, 27 exactly where another width is. Assumes nothing.
 use Rattle.std.proofs.Common.{Ok, Err}
-use Rattle.text.specs.Refusals.{Told}
 use Prim.Native.Nat.{ℕ, ◌+◌, ◌-◌}
 use native.Mathlib.Omega.{arith}
 use mathlib.Core.Bool.{true, false}
@@ -10,7 +9,7 @@ use mathlib.Core.Path.{◌≡◌, ap, refl, subst, sym, ◌∙◌}
 use lib.ListN.{drop}
 use lib.Seq.{drop-drop}
 use Rattle.text.proofs.Choices.{either}
-use Rattle.text.specs.Refusals.{other_kind}
+use Rattle.text.specs.Refusals.{Told, other_kind}
 use Rattle.text.specs.Words.{starts_with}
 use Rattle.integers.specs.declared.integer.Integer.{Integer}
 use Rattle.integers.specs.declared.integer.Value.{Value}
@@ -37,7 +36,7 @@ literal_begins (escaped e) = refl
 
 -- a number and the place behind it
 typed_is : (t : Typed) (b n place : ℕ) → t.number ≡ record { minus = false; magnitude = b } → place + n ≡ t.end
-    → ◌≡◌ {A = Told _} (Ok (record { number = record { minus = false; magnitude = b }; end = place + n })) (Ok t)
+    → ◌≡◌ {A = Told Typed} (Ok (record { number = record { minus = false; magnitude = b }; end = place + n })) (Ok t)
 typed_is t b n place e l =
     ap (λ (v : Value). Ok (record { number = v; end = place + n })) (sym e) ∙ ap (λ (k : ℕ). Ok (record { number = t.number; end = k })) l
 

@@ -2,7 +2,6 @@
 --     byte-says     what a refused byte literal says
 --     cut-byte      a byte literal that is cut off is refused with 6
 use Rattle.std.proofs.Common.{Ok, Err}
-use Rattle.text.specs.Refusals.{Told}
 use Prim.Native.Nat.{ℕ, zero, suc, ◌+◌, ◌*◌, ◌<◌, ◌≤◌}
 use native.Mathlib.Omega.{arith}
 use mathlib.Core.Bool.{Bool, true, false, true≢false, ◌&&◌}
@@ -13,7 +12,7 @@ use lib.Dec.{eqb, ltb}
 use lib.ListN.{drop, get_or, length}
 use borrow.Author.Tests.{eqb-false, eqb-true, ne_eqb}
 use Rattle.text.proofs.Choices.{and_true, cond_cases}
-use Rattle.text.specs.Refusals.{eof}
+use Rattle.text.specs.Refusals.{Told, eof}
 use Rattle.text.specs.Utf8.{scalar}
 use Rattle.text.specs.Words.{starts_with}
 use Rattle.text.specs.declared.refusal.Refusal.{Refusal}

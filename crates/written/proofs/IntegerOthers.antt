@@ -1,6 +1,5 @@
 -- The call `integer` is refused with 6 and 27 exactly in their cases (specs/Refused.antt). Assumes nothing.
 use Rattle.std.proofs.Common.{Ok, Err}
-use Rattle.text.specs.Refusals.{Told}
 use Prim.Native.Nat.{ℕ, ◌+◌}
 use native.Mathlib.Omega.{arith}
 use mathlib.Core.Bool.{true, false, true≢false}
@@ -11,7 +10,7 @@ use lib.Dec.{eqb}
 use lib.ListN.{drop, length}
 use borrow.Author.Tests.{eq-eqb, ne_eqb}
 use Rattle.text.proofs.Choices.{bool_cases, either}
-use Rattle.text.specs.Refusals.{eof, other_kind}
+use Rattle.text.specs.Refusals.{Told, eof, other_kind}
 use Rattle.text.specs.Words.{starts_with}
 use Rattle.text.specs.declared.refusal.Refusal.{Refusal}
 use Rattle.digits.specs.declared.Run.{Run}
@@ -27,7 +26,7 @@ use Rattle.integers.specs.declared.integer.Integer.{Integer}
 use Rattle.integers.specs.declared.integer.Integer.TheVariants as integer
 use Rattle.integers.specs.declared.width.Width.{Width}
 use Rattle.integers.specs.declared.width.Width.TheVariants.{U8}
-use Rattle.sarridok.specs.Typed.{byte_as, integer_at, integer_of, placed_at, told_integer}
+use Rattle.sarridok.specs.Typed.{Typed, byte_as, integer_at, integer_of, placed_at, told_integer}
 use Rattle.written.specs.Refused.{Asked, CutByte, OtherWidth, Placed, TextEnds, judged_width}
 use Rattle.written.specs.Written.{behind_digits, bits_of, byte_literal, digits_in, is_signed, magnitude_in, suffix_in, written_len}
 use Rattle.written.proofs.AnyWritten.{of_known, suffix_known}
@@ -97,7 +96,7 @@ module _ (text : List ℕ) (place : ℕ) (width : Width) where
   kind_run (Value v) h =
       either (bool_cases (other_suffix (suffix_in (drop place text)).code (code_of width)))
       (λ p. (v, refl, p))
-      (λ p. let q : ◌≡◌ {A = Told _} (Ok (record { number = number_read (front_of (drop place text)).minus v; end = place + written_len (drop place text) })) (Err other_kind) = rw p at h in
+      (λ p. let q : ◌≡◌ {A = Told Typed} (Ok (record { number = number_read (front_of (drop place text)).minus v; end = place + written_len (drop place text) })) (Err other_kind) = rw p at h in
       let z : ◌≡◌ {A = ℕ} 0 1 = cc in absurd (omega arith))
   kind_run Empty h = absurd (omega (arith, ap (λ (r : Refusal). r.number) (run_refused text place width Empty other_kind h)))
   kind_run Underscore h = absurd (omega (arith, ap (λ (r : Refusal). r.number) (run_refused text place width Underscore other_kind h)))

@@ -79,7 +79,7 @@ module _ (text : List ℕ) (place : ℕ) (width : Width) where
   run_refused (Value v) r h =
       either (bool_cases (other_suffix (suffix_in (drop place text)).code (code_of width)))
       (λ p. let q : ◌≡◌ {A = Told Typed} (Err other_kind) (Err r) = rw p at h in cc)
-      (λ p. let q : ◌≡◌ {A = Told _} (Ok (record { number = number_read (front_of (drop place text)).minus v; end = place + written_len (drop place text) })) (Err r) = rw p at h in
+      (λ p. let q : ◌≡◌ {A = Told Typed} (Ok (record { number = number_read (front_of (drop place text)).minus v; end = place + written_len (drop place text) })) (Err r) = rw p at h in
       let z : ◌≡◌ {A = ℕ} 0 1 = cc in absurd (omega arith))
   run_refused Empty r h = cc
   run_refused Underscore r h =

@@ -1,6 +1,5 @@
 -- The number that `integer` accepts is the one that is written, and what is written is accepted. Assumes nothing.
 use Rattle.std.proofs.Common.{Ok, Err}
-use Rattle.text.specs.Refusals.{Told}
 use Prim.Native.Nat.{ℕ, zero, suc, ◌+◌}
 use native.Mathlib.Omega.{arith}
 use mathlib.Core.Bool.{Bool, true, false}
@@ -14,7 +13,7 @@ use borrow.Author.Tests.{eq-eqb, eqb-true, ne_eqb, not-false}
 use Rattle.text.proofs.Choices.{bool_cases, either}
 use Rattle.text.proofs.RunLaws.{run_le}
 use Rattle.text.specs.Classes.{int_char}
-use Rattle.text.specs.Refusals.{eof}
+use Rattle.text.specs.Refusals.{Told, eof}
 use Rattle.text.specs.Runs.{run}
 use Rattle.digits.specs.Digits.{run_of}
 use Rattle.digits.specs.declared.Run.{Run}
@@ -86,7 +85,13 @@ pub record Read-numeral (found end : ℕ) (r : Run) (v code to : ℕ) : Type 0 w
   pub end_is : end ≡ to
 
 by_run : (found end : ℕ) (r : Run) (v code to : ℕ) → behind_run found end r ≡ Ok (v, code, to) → Read-numeral found end r v code to
-by_run found end (Value m) v code to h = record { run_is = cc; code_is = cc; end_is = cc }
+by_run found end (Value m) v code to h =
+    let z : ◌≡◌ {A = ℕ × ℕ × ℕ} (m, found, end) (v, code, to) = cc in
+    record {
+      run_is = ap (λ (p : ℕ × ℕ × ℕ). Value p.0) z;
+      code_is = ap (λ (p : ℕ × ℕ × ℕ). p.1) z;
+      end_is = ap (λ (p : ℕ × ℕ × ℕ). p.2) z;
+    }
 by_run found end Empty v code to h = let z : ◌≡◌ {A = ℕ} 0 1 = cc in absurd (omega arith)
 by_run found end Underscore v code to h = let z : ◌≡◌ {A = ℕ} 0 1 = cc in absurd (omega arith)
 by_run found end (NotDigit at) v code to h = let z : ◌≡◌ {A = ℕ} 0 1 = cc in absurd (omega arith)

@@ -1,8 +1,7 @@
 -- When the call `integer` refuses (document 01, "Refusal numbers"), said plainly over the text and the number written: "6: text ends where a character is
 -- needed; end." "7: integer expected. 8: underscore in front. 9: digit not below the base. 10: out of bounds." "27: entry or suffix of another kind." "A
 -- suffix is skipped after a refusal, but not after 8 or 9." "With another suffix it is 27, and a byte literal is u8."
-use Rattle.std.specs.Prelude.{Ok}
-use Rattle.std.specs.Prelude.{ℕ, ◌+◌, ◌<◌, true, false, cond, List, [], ◌∷◌, ◌⊎◌, ◌≡◌, eqb, length, drop, get_or}
+use Rattle.std.specs.Prelude.{Ok, ℕ, ◌+◌, ◌<◌, true, false, cond, List, [], ◌∷◌, ◌⊎◌, ◌≡◌, eqb, length, drop, get_or}
 use Rattle.text.specs.Judged.{judged_of, place_fits}
 use Rattle.hexes.specs.Hex.{hex_of}
 use Rattle.escaped.specs.Escape.{Hex}

@@ -1,8 +1,7 @@
 -- The number written at a place (document 01): "Typed integer at a place, in one of eight widths." "A typed read answers the value and the place behind
 -- it; with another suffix it is 27, and a byte literal is u8." Written are a sign, the prefix of a base, digits below the base with underscores between
 -- them, and a suffix.
-use Rattle.std.specs.Prelude.{Ok}
-use Rattle.std.specs.Prelude.{ℕ, ◌+◌, Bool, List, [], ◌∷◌, ◌⊎◌, ◌≡◌, ℤ, pos, length, take, drop}
+use Rattle.std.specs.Prelude.{ℕ, ◌+◌, Bool, List, [], ◌∷◌, ◌⊎◌, ◌≡◌, ℤ, pos, length, take, drop, Ok}
 use Rattle.text.specs.Classes.{int_char}
 use Rattle.text.specs.Runs.{run}
 use Rattle.text.specs.Words.{starts_with}
