@@ -59,20 +59,20 @@ module _ (text tape : List ℕ) (count : ℕ) (items magnitudes codes ms cs : Li
 
 module _ (n : ℕ) (ms cs : List ℕ) (out mid end : List ℕ × ℕ) (clean : Bool) (z : end ≡ put mid (clean_text clean)) (a : Told Unit) where
   pub written_said : a ≡ Ok tt → (s t : List ℕ) → s ≡ take n ms → t ≡ take (n - 0) cs → mid ≡ put out (many_text s t)
-      → clean ≡ both_kept n (ms, cs) → end ≡ put out (called_text (a) n (ms, cs))
+      → clean ≡ both_kept n (ms, cs) → end ≡ put out (called_text a n (ms, cs))
   written_said g s t e f p k =
       let all : n - 0 ≡ n = omega arith in
       then out mid end (many_text s t) (clean_text clean) p z
       ∙ ap (λ (x : List ℕ). put out (many_text x t ++ clean_text clean)) e
       ∙ ap (λ (x : List ℕ). put out (many_text (take n ms) x ++ clean_text clean)) (f ∙ ap (λ (i : ℕ). take i cs) all)
       ∙ ap (λ (b : Bool). put out (many_text (take n ms) (take n cs) ++ clean_text b)) k
-      ∙ sym (ap (λ (x : Told Unit). put out (called_text (x) n (ms, cs))) g)
+      ∙ sym (ap (λ (x : Told Unit). put out (called_text x n (ms, cs))) g)
 
   pub refused_said : (r : Refusal) → a ≡ Err r → mid ≡ put out (refused_text r) → clean ≡ both_kept 0 (ms, cs)
-      → end ≡ put out (called_text (a) n (ms, cs))
+      → end ≡ put out (called_text a n (ms, cs))
   refused_said r g p k =
       then out mid end (refused_text r) (clean_text clean) p z ∙ ap (λ (b : Bool). put out (refused_text r ++ clean_text b)) k
-      ∙ sym (ap (λ (x : Told Unit). put out (called_text (x) n (ms, cs))) g)
+      ∙ sym (ap (λ (x : Told Unit). put out (called_text x n (ms, cs))) g)
 
 pub list_said : (text tape : List ℕ) (count : ℕ) (items magnitudes codes : List ℕ) (told : Told Unit) (left : Two) (out end : List ℕ × ℕ)
     → told ≡ done (integers_of text tape count items (length magnitudes) (length codes)) → left ≡ buffers_left text tape count items magnitudes codes

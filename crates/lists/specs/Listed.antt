@@ -1,6 +1,5 @@
 -- The integers that a list of entries names, read by one call into two marked buffers.
-use Rattle.std.specs.Prelude.{Ok, Err}
-use Rattle.std.specs.Prelude.{ℕ, ◌+◌, min, Bool, ◌&&◌, List, ◌++◌, length, take, drop}
+use Rattle.std.specs.Prelude.{Ok, Err, ℕ, ◌+◌, min, Bool, ◌&&◌, List, ◌++◌, length, take, drop}
 use Rattle.lent.specs.Marks.{mark_at, byte_mark_at, marked, kept_from}
 use Rattle.sarridok.specs.Integers.{done, integers_of, magnitudes_after, codes_after}
 use Rattle.show.specs.Answers.{clean_text, refused_text}

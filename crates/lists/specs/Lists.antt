@@ -1,6 +1,5 @@
 -- `I LISTROOM CODEROOM COUNT E,E,.. HEX N,N,..` and `n HEX`: a list of integers over a text and its tape.
-use Rattle.std.specs.Prelude.{Ok, Err}
-use Rattle.std.specs.Prelude.{ℕ, cond, List, ltb, length, Option, Some, None}
+use Rattle.std.specs.Prelude.{Ok, Err, ℕ, cond, List, ltb, length, Option, Some, None}
 use Rattle.lines.specs.Over.{over}
 use Rattle.read.specs.Read.{read_answer, read_tape}
 use Rattle.show.specs.Answers.{bad_text, refused_text}

@@ -7,6 +7,7 @@ ghost use Rattle.lists.specs.Gathers.{rows_of, gathered, noted as Gathers·noted
 use rows::{kinds, row};
 
 // How many of n entries are looked at.
+#[tactic(auto, unfolding(crate::specs::Gathers::rows_of))]
 fn rows_of(tape: &[u32], n: usize) -> usize
     ensures { result ≡ rows_of n tape.now }
 {

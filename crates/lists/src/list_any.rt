@@ -3,8 +3,7 @@ ghost use Rattle.std.specs.Prelude.{◌≡◌};
 ghost use Rattle.lines.specs.Out.{put};
 ghost use Rattle.lists.specs.Lists.{front_of, over_tape, any_line};
 
-use crate::listed;
-use crate::listed::Asked;
+use crate::listed::{self, Asked};
 use words::{hex, list, number};
 
 // What the first three words ask; none where the line is no case.

@@ -5,9 +5,8 @@ ghost use Rattle.read.specs.Read.{read_tape};
 ghost use Rattle.lists.specs.Listed.{asked as Listed·asked, most_for};
 ghost use Rattle.lists.specs.Lists.{list_of_text, list_line};
 
-use crate::listed::Asked;
-use crate::{gather, listed};
-use sarridok::ReadAnswer;
+use crate::gather;
+use crate::listed::{self, Asked};
 use words::{hex, list};
 
 // Buffers for so many items, and a few behind them.
@@ -40,13 +39,13 @@ fn read(
 {
     let r = sarridok::read(text, tape);
     match r {
-        ReadAnswer::Accepted(n) => {
+        Ok(n) => {
             let k = gather::gather(&tape[..], n, links);
             let items = list::first(&links[..], k);
             let q = asked(n, items.len());
             listed::answer(text, &tape[..], q, items, numbers, spare, o, at)
         }
-        ReadAnswer::Refused(f) => show::refused(o, at, f),
+        Err(f) => show::refused(o, at, f),
     }
 }
 

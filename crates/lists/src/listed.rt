@@ -19,10 +19,7 @@ pub struct Asked {
 fn first(s: &[u64], n: usize) -> &[u64]
     ensures { result.now ≡ take n s.now }
 {
-    if n <= s.len() {
-        return &s[0..n];
-    }
-    s
+    &s[..n.min(s.len())]
 }
 
 // Whether both buffers still have their marks from a place on.
@@ -63,7 +60,7 @@ fn said(
     o: &mut [u8],
     at: usize,
 ) -> usize
-    ensures { (o.new, result) ≡ put (o.old, at) (called_text (r) n (magnitudes.now, codes.now)) }
+    ensures { (o.new, result) ≡ put (o.old, at) (called_text r n (magnitudes.now, codes.now)) }
 {
     match r {
         Ok(()) => {
@@ -97,6 +94,7 @@ fn listed(
 }
 
 // As many as a list has, and a few behind them.
+#[tactic(auto, unfolding(crate::specs::Listed::most_for))]
 pub fn most_for(items: usize) -> usize
     ensures { result ≡ most_for items }
 {
@@ -104,6 +102,7 @@ pub fn most_for(items: usize) -> usize
 }
 
 // A buffer of so many, but no more than that, nor than there are.
+#[tactic(auto, unfolding(crate::specs::Listed::room_for))]
 fn room(asked: usize, items: usize, there: usize) -> usize
     ensures { result ≡ room_for asked items there }
 {

@@ -1,13 +1,12 @@
 use Rattle.std.proofs.Common.{Err}
-use Rattle.text.specs.Refusals.{Told}
 use Prim.Native.Nat.{ℕ}
 use mathlib.Core.List.{List}
-use mathlib.Core.Path.{refl, sym, ap, ◌∙◌}
+use mathlib.Core.Path.{refl, sym, ◌∙◌}
 use Rattle.lists.proofs.LineLaws.{read_listed, accepted_listed}
 use Rattle.lists.proofs.list_text.read.Goals as goal
 
-pub returns-in-Accepted : goal.returns-in-Accepted
-returns-in-Accepted c =
+pub returns-in-Ok : goal.returns-in-Ok
+returns-in-Ok c =
     let text : List ℕ = c.args.text.now in
     let tape : List ℕ = c.args.tape.now in
     let links : List ℕ = c.args.links.now in
@@ -15,7 +14,7 @@ returns-in-Accepted c =
     let spare : List ℕ = c.args.spare.now in
     let out : List ℕ × ℕ = (c.args.o.now, c.args.at) in
     let z = accepted_listed text tape links numbers spare _ c.read-r.ensures.1 out _
-    c.in-Accepted.n (sym (ap (λ (a : Told ℕ). a) c.in-Accepted.is) ∙ c.read-r.ensures.0)
+    c.in-Ok.n (sym c.in-Ok.is ∙ c.read-r.ensures.0)
     _ _ _ c.gather-k.ensures.value c.gather-k.ensures.list_after c.first-items.ensures _ c.asked-q.ensures _ _ (c.answer.ensures.result_after, c.answer.ensures.spare_after) in
     record {
       result_after = z.0;
@@ -23,8 +22,8 @@ returns-in-Accepted c =
       spare_after = z.1.1;
     }
 
-pub returns-in-Refused : goal.returns-in-Refused
-returns-in-Refused c =
+pub returns-in-Err : goal.returns-in-Err
+returns-in-Err c =
     let text : List ℕ = c.args.text.now in
     let tape : List ℕ = c.args.tape.now in
     let links : List ℕ = c.args.links.now in
@@ -32,7 +31,7 @@ returns-in-Refused c =
     let spare : List ℕ = c.args.spare.now in
     let out : List ℕ × ℕ = (c.args.o.now, c.args.at) in
     let z = read_listed text tape links numbers spare _ c.read-r.ensures.1 out _ (links, numbers, spare)
-    (Err c.in-Refused.f) (sym (ap (λ (a : Told ℕ). a) c.in-Refused.is) ∙ c.read-r.ensures.0) c.refused.ensures refl in
+    (Err c.in-Err.f) (sym c.in-Err.is ∙ c.read-r.ensures.0) c.refused.ensures refl in
     record {
       result_after = z.0;
       tape_after = z.1.0;
