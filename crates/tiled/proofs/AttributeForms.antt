@@ -1,6 +1,6 @@
 -- An attribute that is read begins with `#` and ends with its `]`. Assumes nothing.
 use Rattle.std.proofs.Common.{Ok, Err}
-use Rattle.text.specs.Refusals.{Told}
+use Rattle.text.specs.Refusals.{Told, expected_attribute}
 use Rattle.strings.specs.declared.literal.Literal.{Literal}
 use Prim.Native.Nat.{ℕ, zero, suc, ◌+◌, ◌≤◌}
 use native.Mathlib.Omega.{arith}
@@ -12,7 +12,6 @@ use lib.ListN.{drop, get_or, length, take}
 use lib.Seq.{split_at}
 use borrow.Author.Tests.{eqb-true}
 use Rattle.text.proofs.Choices.{cond_cases}
-use Rattle.text.specs.Refusals.{expected_attribute}
 use Rattle.attributes.proofs.AttributeLaws.{Bounded-attribute, attribute_bounded}
 use Rattle.attributes.specs.Attributes.{attribute_of, by_keyword, by_listed, by_opened, enable_from, keyword_from, opened_of, string_value_from}
 use Rattle.attributes.specs.Close.{answer_at, by_bracket, by_string, close_list, list_end, no_end, string_end, string_from}

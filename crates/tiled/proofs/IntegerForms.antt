@@ -1,8 +1,8 @@
 -- An integer that is read has the form of an integer of its width: its suffix's, or without one the first that fits. Assumes nothing.
 use Rattle.std.proofs.Common.{Ok, Err}
-use Rattle.text.specs.Refusals.{Told}
+use Rattle.text.specs.Refusals.{Told, eof}
 use Rattle.floats.specs.declared.float.FloatSpan.{FloatSpan}
-use Prim.Native.Nat.{ℕ}
+use Prim.Native.Nat.{ℕ, ◌+◌}
 use native.Mathlib.Omega.{arith}
 use mathlib.Core.Bool.{Bool}
 use mathlib.Core.List.{List}
@@ -12,7 +12,6 @@ use lib.Dec.{eqb, leb}
 use lib.ListN.{drop, length}
 use borrow.Author.Tests.{eqb-false, eqb-true}
 use Rattle.text.proofs.Choices.{bool_cases, cond_cases, either}
-use Rattle.text.specs.Refusals.{eof}
 use Rattle.text.specs.declared.refusal.Refusal.{Refusal}
 use Rattle.digits.proofs.Exact.{digits_exact}
 use Rattle.digits.specs.Digits.{run_of}
@@ -46,7 +45,9 @@ width-for code v minus w own h =
 module _ (s : List ℕ) (w : Width) (len : ℕ) where
   -- what was read of a numeral
   by_numeral : (minus : Bool) (at : ℕ) (n : Told (ℕ × ℕ × ℕ)) → any_as minus at n ≡ Ok (w, len) → (v : ℕ) × (code : ℕ) × (to : ℕ) × (n ≡ Ok (v, code, to)) × (width_for code minus v ≡ w)
-  by_numeral minus at (Ok (v, code, to)) h = (v, code, to, refl, cc)
+  by_numeral minus at (Ok (v, code, to)) h =
+      let z : ◌≡◌ {A = Width × ℕ} (width_for code minus v, at + to) (w, len) = cc in
+      (v, code, to, refl, ap (λ (p : Width × ℕ). p.0) z)
   by_numeral minus at (Err r) h = let z : ◌≡◌ {A = ℕ} 0 1 = cc in absurd (omega arith)
 
   behind_end : any_of s ≡ Ok (w, len)
