@@ -3,16 +3,15 @@
 
 use lines::out;
 use lines::out::STDOUT_FILENO;
-use sarridok::ReadAnswer;
 
 // How many entries the text has, in one value; the byte where it is refused, or the entry at which the walk is.
 fn entries(text: &[u8], tape: &mut [u32], links: &mut [u32]) -> usize {
     match sarridok::read(text, tape) {
-        ReadAnswer::Accepted(count) => match sarridok::walk(text, &tape[..], count, 128, links) {
+        Ok(count) => match sarridok::walk(text, &tape[..], count, 128, links) {
             Ok(()) => count,
             Err(r) => r.place,
         },
-        ReadAnswer::Refused(r) => r.place,
+        Err(r) => r.place,
     }
 }
 
