@@ -1,13 +1,11 @@
 -- `p` behind its words: the old text read, its tape repaired. Assumes nothing.
 use Rattle.std.proofs.Common.{Ok, Err}
-use Prim.Native.Nat.{ℕ, ◌+◌, ◌*◌, ◌≤◌, ◌<◌, max}
-use native.Mathlib.Omega.{arith}
+use Prim.Native.Nat.{ℕ, ◌≤◌}
 use mathlib.Core.Bool.{Bool}
 use mathlib.Core.List.{List, ◌++◌, append-nil}
 use mathlib.Core.Path.{◌≡◌, refl, sym, ap, subst, ◌∙◌}
 use lib.ListN.{length, take, drop, drop_of_length-le}
 use lib.Seq.{take_all}
-use borrow.Author.Tests.{le-leb, lt-leb}
 use Rattle.lines.specs.Over.{over}
 use Rattle.text.specs.Words.{starts_with}
 use Rattle.lent.specs.Marks.{mark_at, marked, kept_from}
@@ -15,7 +13,6 @@ use Rattle.lines.specs.Out.{put}
 use Rattle.lines.proofs.OutLaws.{then}
 use Rattle.read.specs.Read.{read_answer, read_tape}
 use Rattle.repair.specs.Repair.{Repaired, repair_of, repaired_tape, told_repair}
-use Rattle.rows.specs.Rows.{width}
 use Rattle.show.specs.Answers.{clean_text, refused_text}
 use Rattle.show.specs.Readings.{tape_text}
 use Rattle.show.specs.Repairs.{counts_text}
@@ -25,25 +22,6 @@ use Rattle.edits.specs.declared.cuts.Cut.{Cut}
 use Rattle.edits.specs.Repairs.{told_of, tape_after, changed_of, edit_text, repair_with, by_read, read_repair, room_for, edit_in}
 use Rattle.edits.proofs.LineLaws.{Edit, Done}
 use Rattle.edits.proofs.AnyLaws.{told_by, left_is}
-
--- ---- how many numbers
-
-module _ (n m k : ℕ) (e : k ≡ max n m) where
-  pub changed_some : k ≤ 65536 → width * k ≡ changed_of n m
-  unfolding changed_of
-  changed_some h = ap (λ (x : ℕ). width * x) e ∙ sym (rw (le-leb (max n m) 65536 (omega (arith, e))) refl)
-
-  pub changed_none : 65536 < k → 0 ≡ changed_of n m
-  unfolding changed_of
-  changed_none h = sym (rw (lt-leb (max n m) 65536 (omega (arith, e))) refl)
-
-  pub room_some : k < 65536 → width * k + 16 ≡ room_for n m
-  unfolding room_for
-  room_some h = omega (arith, e)
-
-  pub room_most : 65536 ≤ k → width * 65536 + 16 ≡ room_for n m
-  unfolding room_for
-  room_most h = omega (arith, e)
 
 -- ---- a repair
 
@@ -91,12 +69,12 @@ module _ (tape text aside : List ℕ) (q : Cut) (r : Told (ℕ × ℕ × ℕ)) (
 
 module _ (old new tape aside : List ℕ) (a b : ℕ) (marks : List ℕ) (e : marks ≡ marked mark_at (length tape) 0 tape)
     (r : Told ℕ) (f : r ≡ read_answer old (length marks)) (left : List ℕ) (g : left ≡ read_tape old marks) where
-  pub told-read : (x : Told ℕ) → r ≡ x → read_repair old new a b tape aside ≡ by_read (x) old new a b left aside
+  pub told-read : (x : Told ℕ) → r ≡ x → read_repair old new a b tape aside ≡ by_read x old new a b left aside
   unfolding read_repair
   told-read x h =
       ap (λ (t : List ℕ). by_read (read_answer old (length t)) old new a b (read_tape old t) aside) (sym e)
       ∙ ap (λ (t : Told ℕ). by_read t old new a b (read_tape old marks) aside) (sym f ∙ h)
-      ∙ ap (λ (t : List ℕ). by_read (x) old new a b t aside) (sym g)
+      ∙ ap (λ (t : List ℕ). by_read x old new a b t aside) (sym g)
 
 -- ---- a part of the tape, or all of it
 

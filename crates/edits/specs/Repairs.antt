@@ -1,6 +1,5 @@
 -- `P COUNT OLDLEN A B HEX N,N,..` and `p A B NEWHEX HEX`: a tape repaired after an edit.
-use Rattle.std.specs.Prelude.{Ok, Err}
-use Rattle.std.specs.Prelude.{ℕ, ◌+◌, ◌*◌, max, min, cond, ◌&&◌, List, ◌++◌, leb, length, take, drop, Option, Some, None}
+use Rattle.std.specs.Prelude.{Ok, Err, ℕ, ◌+◌, ◌*◌, max, min, cond, ◌&&◌, List, ◌++◌, leb, length, take, drop, Option, Some, None}
 use Rattle.text.specs.Words.{starts_with}
 use Rattle.lent.specs.Marks.{mark_at, marked, kept_from}
 use Rattle.lines.specs.Ascii.{ascii}

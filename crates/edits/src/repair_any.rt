@@ -6,7 +6,6 @@ ghost use Rattle.edits.specs.Repairs.{told_of, tape_after, any_text, repair_in, 
 
 use crate::cuts::Cut;
 use lent::copies;
-use sarridok::RepairAnswer;
 use words::{hex, list, number};
 
 // What the first four words ask; none where the line is no case.
@@ -45,11 +44,11 @@ fn repaired(
     copies::copy(&tape[..], aside);
     let r = sarridok::repair(tape, q.count, q.old, q.a, q.b, text);
     match r {
-        RepairAnswer::Repaired(n, before, behind) => {
+        Ok((n, before, behind)) => {
             let a = show::of_repair::counts(o, at, n, before, behind);
             show::of_repair::numbers(o, a, &tape[..])
         }
-        RepairAnswer::Refused(f) => {
+        Err(f) => {
             let a = show::refused(o, at, f);
             show::clean(o, a, copies::same(&tape[..], &aside[..]))
         }

@@ -1,15 +1,13 @@
 // `p A B NEWHEX HEX`: the last text read, its bytes from A to B replaced, and its tape repaired.
-ghost use Rattle.std.specs.Prelude.{◌-◌, ◌≤◌, max, ◌++◌, ◌≡◌, length, take, drop};
+ghost use Rattle.std.specs.Prelude.{◌-◌, ◌≤◌, ◌++◌, ◌≡◌, length, take, drop};
 ghost use Rattle.lines.specs.Out.{put};
 ghost use Rattle.lines.specs.Over.{over};
 ghost use Rattle.words.specs.Hex.{hex_in, pairs};
 ghost use Rattle.edits.specs.Repairs.{changed_of, repair_with, read_repair, room_for, edit_in, cut_line, ends_of, text_line};
 
-use crate::cuts;
-use crate::cuts::Cut;
+use crate::cuts::{self, Cut};
 use lent::{copies, numbers};
 use rows::row;
-use sarridok::{ReadAnswer, RepairAnswer};
 use words::{hex, number};
 
 // The ends of the cut, which the first two words say; none where the line is no case.
@@ -21,20 +19,12 @@ fn front(words: &[u8]) -> Option<(usize, usize)>
     Some((a as usize, b as usize))
 }
 
-fn most(n: usize, m: usize) -> usize
-    ensures { result ≡ max n m }
-{
-    if n < m {
-        return m;
-    }
-    n
-}
-
 // How many numbers an accepted repair may change: the rows of the longer tape.
+#[tactic(auto, unfolding(crate::specs::Repairs::changed_of))]
 fn written(n: usize, count: usize) -> usize
     ensures { result ≡ changed_of n count }
 {
-    let longer = most(n, count);
+    let longer = n.max(count);
     if longer <= 65536 {
         return row::begins(longer);
     }
@@ -56,12 +46,12 @@ fn repaired(
     copies::copy(&tape[..], aside);
     let r = sarridok::repair(tape, q.count, q.old, q.a, q.b, new);
     match r {
-        RepairAnswer::Repaired(n, before, behind) => {
+        Ok((n, before, behind)) => {
             let a = show::of_repair::counts(o, at, n, before, behind);
             let b = show::of_read::entries(o, a, &tape[..], n, b';');
             show::clean(o, b, numbers::kept(&tape[..], written(n, q.count)))
         }
-        RepairAnswer::Refused(f) => {
+        Err(f) => {
             let a = show::refused(o, at, f);
             show::clean(o, a, copies::same(&tape[..], &aside[..]))
         }
@@ -87,7 +77,7 @@ fn read(
     let n = old.len();
     let r = sarridok::read(old, tape);
     match r {
-        ReadAnswer::Accepted(count) => {
+        Ok(count) => {
             let cut = Cut {
                 count,
                 old: n,
@@ -96,7 +86,7 @@ fn read(
             };
             repaired(new, cut, tape, aside, o, at)
         }
-        ReadAnswer::Refused(f) => {
+        Err(f) => {
             let a = lines::out::bytes(o, at, b"old ");
             show::refused(o, a, f)
         }
@@ -104,14 +94,11 @@ fn read(
 }
 
 // As many numbers as either text can fill, and a few behind them.
+#[tactic(auto, unfolding(crate::specs::Repairs::room_for))]
 fn room(n: usize, m: usize) -> usize
     ensures { result ≡ room_for n m }
 {
-    let longer = most(n, m);
-    if longer < 65536 {
-        return row::begins(longer) + 16;
-    }
-    row::begins(65536) + 16
+    row::begins(n.max(m).min(65536)) + 16
 }
 
 fn lent_to(

@@ -1,7 +1,6 @@
-use mathlib.Core.Path.{ap, ◌∙◌}
+use mathlib.Core.Path.{ap, ◌∙◌, ◌≡◌}
 use Prim.Native.Nat.{ℕ, ◌-◌}
 use native.Mathlib.Omega.{arith}
-use mathlib.Core.Path.{◌≡◌}
 use lib.ListN.{take, drop}
 use Rattle.edits.specs.Repairs.{edit_in}
 use Rattle.edits.proofs.LineLaws.{done}
