@@ -23,11 +23,6 @@ use Rattle.spelt.specs.Spelt.Plain.{mark, name, integer, string}
 use Rattle.spelt.specs.Spelt.Spelt.{none, more}
 use Rattle.shutout.specs.ShutOut.{Meets-read, Reader}
 
--- an answer that the paper's words call accepted
-told_accepted : (x : Told ℕ) (n : ℕ) → x ≡ Ok n → x ≡ Ok n
-told_accepted (Ok m) n e = let q : m ≡ n = cc in ap Ok q
-told_accepted (Err r) n e = let z : ◌≡◌ {A = ℕ} 0 1 = cc in absurd (omega arith)
-
 -- ---- entries laid one behind the other
 
 mark_kind : {a k : ℕ} → Mark a k → 0 < k
@@ -61,7 +56,7 @@ module _ (f : Reader) (meets : Meets-read f) where
   module _ (text tape : List ℕ) (es : List Entry) (x : Spelt 0 text es) (short : length text ≤ 65536) (room : length es ≤ room_of (length tape)) where
     -- it accepts every spelt text for which there is room, with its count
     pub accepts_spelt : (f text tape).0 ≡ Ok (length es)
-    accepts_spelt = told_accepted (f text tape).0 (length es) ((meets text tape).0 ∙ (spelt_read text tape es x short room).0)
+    accepts_spelt = (meets text tape).0 ∙ (spelt_read text tape es x short room).0
 
     -- refuses none
     pub refuses_none : (r : Refusal) → (f text tape).0 ≡ Err r → ⊥
@@ -140,14 +135,5 @@ module _ (f : Reader) (meets : Meets-read f) where
 
 -- ---- there is one that meets the promise
 
--- the answer that the paper's words tell
-abbrev answer_of : Told ℕ → Told ℕ
-answer_of (Ok n) = Ok n
-answer_of (Err r) = Err r
-
-told_back : (t : Told ℕ) → (answer_of t) ≡ t
-told_back (Ok n) = refl
-told_back (Err r) = refl
-
 pub some_reader : (f : Reader) × Meets-read f
-some_reader = ((λ text tape. (answer_of (read_answer text (length tape)), read_tape text tape)), (λ text tape. (told_back (read_answer text (length tape)), refl)))
+some_reader = ((λ text tape. (read_answer text (length tape), read_tape text tape)), (λ text tape. (refl, refl)))
