@@ -36,7 +36,7 @@ use Rattle.fronts.proofs.Judgement.{front, front_judged}
 -- ---- calls at a place
 
 -- behind its front, skip asks of its cursor
-pub skip_front : (text : List ℕ) (c : ParserCursor) → FrontOf text (skip_of text c) (cond (cursor_fits text c) ((skip_ws_of text c)) (Err unfit))
+pub skip_front : (text : List ℕ) (c : ParserCursor) → FrontOf text (skip_of text c) (cond (cursor_fits text c) (skip_ws_of text c) (Err unfit))
 unfolding skip_of behind_front
 skip_front text c = front text _ (or_unfit (cursor_fits text c) _ (skip_own text c))
 
@@ -47,7 +47,7 @@ unfolding integer_of behind_front
 integer_front text place width = front text _ (or_unfit (place_fits text place) _ (integer_own place width (drop place text)))
 
 pub struct_kind_front : (text : List ℕ) (place : ℕ) (newtype : NewtypeMode) (tuple : TupleMode)
-    → FrontOf text (struct_kind_of text place newtype tuple) (cond (place_fits text place) ((placed_kind place (struct_type_of (drop place text) newtype tuple))) (Err unfit))
+    → FrontOf text (struct_kind_of text place newtype tuple) (cond (place_fits text place) (placed_kind place (struct_type_of (drop place text) newtype tuple)) (Err unfit))
 unfolding struct_kind_of behind_front
 struct_kind_front text place newtype tuple = front text _ (or_unfit (place_fits text place) _ (struct_own place (drop place text) newtype tuple))
 

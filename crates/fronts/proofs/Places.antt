@@ -92,7 +92,7 @@ placed t fits call own e h f = rw e (by_test t fits own h f)
 -- ---- the calls
 
 -- skip gives 28 exactly where its cursor does not fit
-pub skip_placed : (text : List ℕ) (c : ParserCursor) → Sound text → PlacedOf (CursorFits text c) (skip_of text c) ((skip_ws_of text c))
+pub skip_placed : (text : List ℕ) (c : ParserCursor) → Sound text → PlacedOf (CursorFits text c) (skip_of text c) (skip_ws_of text c)
 skip_placed text c s = placed (cursor_fits text c) _ _ _ ((skip_front text c).past s) (skip_own text c) (cursor_exactly text c s.encoded)
 
 -- integer gives 28 exactly where its place is no boundary
@@ -103,6 +103,6 @@ integer_placed text place width s =
 
 -- and so does struct kind
 pub struct_kind_placed : (text : List ℕ) (place : ℕ) (newtype : NewtypeMode) (tuple : TupleMode) → Sound text
-    → PlacedOf (Boundary text place) (struct_kind_of text place newtype tuple) ((placed_kind place (struct_type_of (drop place text) newtype tuple)))
+    → PlacedOf (Boundary text place) (struct_kind_of text place newtype tuple) (placed_kind place (struct_type_of (drop place text) newtype tuple))
 struct_kind_placed text place newtype tuple s =
     placed (place_fits text place) _ _ _ ((struct_kind_front text place newtype tuple).past s) (struct_own place (drop place text) newtype tuple) (place_exactly text place s.encoded)

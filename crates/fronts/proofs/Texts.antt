@@ -5,7 +5,6 @@
 --     place-exactly    a place of a text fits exactly where it stands between two characters or at one of its ends
 -- Assumes nothing.
 use Rattle.std.proofs.Common.{Ok, Err, Some, None, Option}
-use Rattle.text.specs.Refusals.{Told}
 use Prim.Native.Nat.{ℕ, ◌≤◌, ◌<◌}
 use native.Mathlib.Omega.{arith}
 use mathlib.Core.Bool.{Bool, true, false, not, ◌&&◌}
@@ -19,7 +18,7 @@ use Rattle.text.proofs.Choices.{and_true, either, lt_or_le}
 use Rattle.text.proofs.Lists.{head_at}
 use Rattle.text.proofs.Utf8Agree.{bad_means, encoded_good, encoded_text, good_encoded, means_bad, text_encoded}
 use Rattle.text.specs.Judged.{by_utf8, judged_of, place_fits}
-use Rattle.text.specs.Refusals.{not_utf8, too_long}
+use Rattle.text.specs.Refusals.{Told, not_utf8, too_long}
 use Rattle.text.specs.Utf8.{Encoded, tail_byte, utf8_of}
 use Rattle.text.specs.declared.refusal.Refusal.{Refusal}
 use Rattle.fronts.specs.Fronts.{Boundary, FirstBad, Sound}

@@ -1,7 +1,6 @@
 -- What every call with a text asks first (document 01), said plainly: "1: text over 65,536 bytes. 2: not UTF-8, first byte of the first bad sequence. 28:
 -- a place past the end or inside a character."
-use Rattle.std.specs.Prelude.{Ok, Err}
-use Rattle.std.specs.Prelude.{ℕ, ◌<◌, ◌≤◌, List, ◌++◌, ◌↔◌, ◌⊎◌, ◌≡◌, drop, length, take}
+use Rattle.std.specs.Prelude.{Ok, Err, ℕ, ◌<◌, ◌≤◌, List, ◌++◌, ◌↔◌, ◌⊎◌, ◌≡◌, drop, length, take}
 use Rattle.text.specs.Refusals.{Told, not_utf8, too_long, unfit}
 use Rattle.text.specs.Utf8.{Encoded, Scalar, encode}
 use Rattle.text.specs.declared.refusal.Refusal.{Refusal}
