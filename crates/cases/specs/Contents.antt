@@ -1,6 +1,5 @@
 -- `c KIND START HEX` and `C ENTRY COUNT BUFFER HEX N,N,..`: contents and decoded of an entry, the view and then the decoding into a marked buffer.
-use Rattle.std.specs.Prelude.{Ok, Err}
-use Rattle.std.specs.Prelude.{ℕ, ◌+◌, ◌-◌, ◌^◌, min, List, [], ◌∷◌, ◌++◌, length, take, drop, Option, Some, None}
+use Rattle.std.specs.Prelude.{Ok, Err, ℕ, ◌+◌, ◌-◌, ◌^◌, min, List, [], ◌∷◌, ◌++◌, length, take, drop, Option, Some, None}
 use Rattle.lent.specs.Marks.{byte_mark_at, marked, kept_from}
 use Rattle.lines.specs.Ascii.{ascii}
 use Rattle.lines.specs.Over.{over}

@@ -3,8 +3,7 @@ ghost use Rattle.std.specs.Prelude.{◌≡◌};
 ghost use Rattle.lines.specs.Out.{put};
 ghost use Rattle.cases.specs.Contents.{front_of, any_line};
 
-use crate::contents;
-use crate::contents::Asked;
+use crate::contents::{self, Asked};
 use words::{hex, list, number};
 
 // What the first three words ask; none where the line is no case.

@@ -3,8 +3,7 @@ ghost use Rattle.std.specs.Prelude.{◌≡◌};
 ghost use Rattle.lines.specs.Out.{put};
 ghost use Rattle.cases.specs.Contents.{contents_line};
 
-use crate::contents;
-use crate::contents::Asked;
+use crate::contents::{self, Asked};
 use words::{hex, small};
 
 // The tape has this one entry; the buffer is as long as the text can need.

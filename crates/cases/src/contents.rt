@@ -7,7 +7,7 @@ ghost use Rattle.cases.specs.Contents.{wrote_of, view_text, decoding_text, both_
 
 use lent::bytes;
 use lines::out;
-use sarridok::{ContentsAnswer, DecodedAnswer};
+use text::Refusal;
 
 // What a line asks: an entry, the tape's count, and how many bytes the buffer has.
 #[derive(Clone, Copy)]
@@ -18,23 +18,20 @@ pub struct Asked {
 }
 
 // Whether the part from the one call is what the other says.
-fn agrees(view: ContentsAnswer, text: &[u8], part: &[u8]) -> bool
+fn agrees(view: Result<(usize, usize), Refusal>, text: &[u8], part: &[u8]) -> bool
     requires { part.now ≡ part_of text.now (told_contents view) }
     ensures { result ≡ true }
 {
     match view {
-        ContentsAnswer::Part(start, end) => check::same(part, lines::part(text, start, end)),
-        ContentsAnswer::Refused(_) => part.len() == 0,
+        Ok((start, end)) => check::same(part, lines::part(text, start, end)),
+        Err(_) => part.len() == 0,
     }
 }
 
-fn written(r: DecodedAnswer) -> usize
-    ensures { result ≡ wrote_of (r) }
+fn written(r: Result<usize, Refusal>) -> usize
+    ensures { result ≡ wrote_of r }
 {
-    match r {
-        DecodedAnswer::Wrote(n) => n,
-        DecodedAnswer::Refused(_) => 0,
-    }
+    r.unwrap_or(0)
 }
 
 // Whether the two calls for contents say the same of an entry.
@@ -55,7 +52,7 @@ fn viewed(text: &[u8], tape: &[u32], q: Asked, o: &mut [u8], at: usize) -> usize
 }
 
 // The decoding into a marked buffer.
-fn decode(text: &[u8], tape: &[u32], q: Asked, buffer: &mut [u8]) -> DecodedAnswer
+fn decode(text: &[u8], tape: &[u32], q: Asked, buffer: &mut [u8]) -> Result<usize, Refusal>
     ensures result_value { result ≡ decoded_answer text.now tape.now q.count q.entry (length buffer.old) }
     ensures buffer_after { buffer.new ≡ buffer_after text.now tape.now q buffer.old }
 {
@@ -64,8 +61,8 @@ fn decode(text: &[u8], tape: &[u32], q: Asked, buffer: &mut [u8]) -> DecodedAnsw
 }
 
 // What the decoding says, and whether it left all marks behind what it wrote.
-fn decoding(r: DecodedAnswer, buffer: &[u8], o: &mut [u8], at: usize) -> usize
-    ensures { (o.new, result) ≡ put (o.old, at) (decoding_text buffer.now (r)) }
+fn decoding(r: Result<usize, Refusal>, buffer: &[u8], o: &mut [u8], at: usize) -> usize
+    ensures { (o.new, result) ≡ put (o.old, at) (decoding_text buffer.now r) }
 {
     let a = show::contents::decoded(o, at, r, buffer);
     let clean = bytes::kept(buffer, written(r));
@@ -86,24 +83,19 @@ fn both(text: &[u8], tape: &[u32], q: Asked, buffer: &mut [u8], o: &mut [u8], at
 }
 
 // As many bytes as a text can fill, and a few behind them.
+#[tactic(auto, unfolding(crate::specs::Contents::most_for))]
 fn most_for(text: usize) -> usize
     ensures { result ≡ most_for text }
 {
-    if text < 65536 {
-        return text + 16;
-    }
-    65552
+    text.min(65536) + 16
 }
 
 // A buffer of so many bytes, but no more than that.
+#[tactic(auto, unfolding(crate::specs::Contents::room_for))]
 fn room(buffer: u64, text: usize) -> usize
     ensures { result ≡ room_for buffer text }
 {
-    let most = most_for(text);
-    if buffer < most as u64 {
-        return buffer as usize;
-    }
-    most
+    buffer.min(most_for(text) as u64) as usize
 }
 
 // The buffer is lent from the spare bytes.

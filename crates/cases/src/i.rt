@@ -14,6 +14,7 @@ struct Asked {
 }
 
 // The widths are numbered as on a tape.
+#[tactic(auto, unfolding(crate::specs::Integers::width_of))]
 fn width_of(n: u64) -> Option<Width>
     ensures { result ≡ width_of n }
 {

@@ -15,6 +15,7 @@ struct Asked {
 }
 
 // The modes that two numbers say, in the order of the crate's enums; none where there are no such modes.
+#[tactic(auto, unfolding(crate::specs::Kinds::modes_of))]
 fn modes_of(newtype: u64, tuple: u64, place: usize) -> Option<Asked>
     ensures { result ≡ modes_of newtype tuple place }
 {
