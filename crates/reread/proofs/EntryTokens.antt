@@ -67,7 +67,7 @@ accepted_fit text numbers n h = go (judged_of text) refl
   where
     go : (j : Told Unit) → judged_of text ≡ j → judged_of text ≡ Ok tt
     go (Ok tt) e = e
-    go (Err r) e = let z : ◌≡◌ {A = Told _} (Err r) (Ok n) = sym (read_refused text numbers r e) ∙ h in let y : ◌≡◌ {A = ℕ} 0 1 = cc in absurd (omega arith)
+    go (Err r) e = let z : ◌≡◌ {A = Told ℕ} (Err r) (Ok n) = sym (read_refused text numbers r e) ∙ h in let y : ◌≡◌ {A = ℕ} 0 1 = cc in absurd (omega arith)
 
 -- a place within the text where a byte stands that is inside no character
 pub place-fits : (text : List ℕ) (p : ℕ) → p ≤ length text → within 0x80 0xBF (get_or (drop p text) 0 0) ≡ false → place_fits text p ≡ true

@@ -4,7 +4,7 @@ use Prim.Native.Nat.{ℕ, ◌≤◌, ◌<◌}
 use native.Mathlib.Omega.{arith}
 use mathlib.Core.Bool.{true}
 use mathlib.Core.List.{List}
-use mathlib.Core.Path.{◌≡◌, ap, refl, sym, ◌∙◌}
+use mathlib.Core.Path.{◌≡◌, ap, sym, ◌∙◌}
 use lib.ListN.{length, get_or}
 use borrow.Author.Tests.{eq-eqb, lt-ltb}
 use Rattle.text.proofs.ClassLaws.{inside}
@@ -14,10 +14,9 @@ use Rattle.integers.specs.Width.{code_of, width_at}
 use Rattle.integers.specs.declared.width.Width.{Width}
 use Rattle.integers.specs.declared.width.Width.TheVariants.{I8, I16, I32, I64, U8, U16, U32, U64}
 use Rattle.rows.specs.Rows.{entry_at}
-use Rattle.rows.specs.declared.Entry.{Entry}
 use Rattle.read.specs.Read.{read_answer, read_tape}
 use Rattle.mending.proofs.Again.{Held, after_read}
-use Rattle.sarridok.specs.Integers.{Coded, code_for, entry_integer, integers_of, item_of, items_from, names_integer}
+use Rattle.sarridok.specs.Integers.{Coded, code_for, entry_integer, integers_of, item_of, names_integer}
 use Rattle.sarridok.specs.inner.Items.{verdict_of}
 use Rattle.sarridok.proofs.IntegersLaws.{by-room}
 use Rattle.sarridok.proofs.IntegersMeans.{makes_all}

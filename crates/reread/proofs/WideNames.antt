@@ -2,9 +2,9 @@
 use Rattle.std.proofs.Common.{Ok, Err}
 use Prim.Native.Nat.{ℕ, ◌+◌, ◌≤◌, ◌<◌}
 use native.Mathlib.Omega.{arith}
-use mathlib.Core.Bool.{Bool, true, false}
+use mathlib.Core.Bool.{true, false}
 use mathlib.Core.List.{List, ◌++◌}
-use mathlib.Core.Path.{◌≡◌, ap, sym, ◌∙◌}
+use mathlib.Core.Path.{◌≡◌, ap, ◌∙◌}
 use lib.ListN.{drop, get_or, length, length-append, length-drop}
 use borrow.Author.Tests.{le-ltb, lt-ltb, ne_eqb}
 use Rattle.text.proofs.Utf8Agree.{char_encode, char_pos}
@@ -21,7 +21,7 @@ use Rattle.rows.specs.declared.Entry.{Entry}
 use Rattle.reading.proofs.Entries.{counted_broken}
 use Rattle.reading.proofs.Steps.{from_refuse, from_token}
 use Rattle.reading.specs.Owed.{quiet_byte}
-use Rattle.reading.specs.Readings.{Reading, ◌▸◌, broken, counted, entry, read_from}
+use Rattle.reading.specs.Readings.{◌▸◌, broken, entry, read_from}
 use Rattle.tokens.proofs.RonLaws.{gap_token, laws}
 use Rattle.tokens.specs.Lexemes.{lexeme_of}
 use Rattle.tokens.specs.Ron.{lexeme_behind, by_gap, ron_token}
@@ -29,7 +29,7 @@ use Rattle.tokens.specs.Shapes.{mark_kind, shape_of, starts_number}
 use Rattle.tokens.specs.Token.{by_shape, of_word, token_of}
 use Rattle.tokens.specs.declared.shape.Shape.{Shape}
 use Rattle.tokens.specs.declared.shape.Shape.TheVariants.{Word}
-use Rattle.read.specs.Read.{fitted, read_answer, reading_of, room_for}
+use Rattle.read.specs.Read.{read_answer, reading_of}
 
 -- a byte above 7F begins a word
 wide_shape : (a b c : ℕ) → 0x80 ≤ a → shape_of a b c ≡ Word

@@ -1,7 +1,6 @@
 -- The strings of a tape (document 01): kinds "14 string, 15 byte string", detail "decoded length". "Contents of a string or byte string entry: the bytes
 -- inside as a part of the caller's text where nothing was escaped".
-use Rattle.std.specs.Prelude.{Ok, Err}
-use Rattle.std.specs.Prelude.{ℕ, List, ◌⊎◌, ◌≡◌, length}
+use Rattle.std.specs.Prelude.{Ok, Err, ℕ, List, ◌⊎◌, ◌≡◌, length}
 use Rattle.text.specs.Refusals.{holds_escape}
 use Rattle.rows.specs.Rows.{entry_at}
 use Rattle.rows.specs.declared.Entry.{Entry}
