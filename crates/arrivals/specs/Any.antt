@@ -1,6 +1,5 @@
 -- `Q NUMBERS STATE KEPT PIECE`: one call over any state, with a tape of so many numbers; `ANSWER -> STATE KEPT` for a piece, the answer alone for the end.
-use Rattle.std.specs.Prelude.{Ok, Err}
-use Rattle.std.specs.Prelude.{ℕ, ◌-◌, min, Bool, cond, ◌&&◌, List, [], ◌++◌, eqb, length, get_or, Option, Some, None}
+use Rattle.std.specs.Prelude.{Ok, Err, ℕ, ◌-◌, min, Bool, cond, ◌&&◌, List, [], ◌++◌, eqb, length, get_or, Option, Some, None}
 use Rattle.pieces.specs.Ends.{finish_of}
 use Rattle.pieces.specs.Pieces.{Outcome, kept_in, piece_of}
 use Rattle.pieces.specs.declared.state.Arrival.{Arrival}

@@ -1,7 +1,6 @@
 -- What the calls `piece` and `finish` say (document 02, change request 3: "One answer may carry entries with a refusal behind them"):
 -- `N;kind start end detail gap;..`, and `;refused NUMBER PLACE REASON` last if refused.
-use Rattle.std.specs.Prelude.{Ok, Err}
-use Rattle.std.specs.Prelude.{ℕ, cond, List, [], ◌∷◌, ◌++◌, eqb, length, take}
+use Rattle.std.specs.Prelude.{Ok, Err, ℕ, cond, List, [], ◌∷◌, ◌++◌, eqb, length, take}
 use Rattle.lines.specs.Decimal.{decimal}
 use Rattle.pieces.specs.Ends.{Rest}
 use Rattle.pieces.specs.Pieces.{Outcome, kept_in}

@@ -1,6 +1,5 @@
 -- A state as text: the nine numbers of crate stored, `taken,part,gap,level,last,number,place,reason,former`, and the bytes that are kept.
-use Rattle.std.specs.Prelude.{Some, None, Option}
-use Rattle.std.specs.Prelude.{ℕ, cond, List, ◌∷◌, ◌++◌, eqb, length, take}
+use Rattle.std.specs.Prelude.{Some, None, Option, ℕ, cond, List, ◌∷◌, ◌++◌, eqb, length, take}
 use Rattle.gaps.specs.declared.state.Open.{Open}
 use Rattle.gaps.specs.declared.state.Open.TheVariants.{Clear, Slash, Line, Block}
 use Rattle.lines.specs.Ascii.{ascii}
