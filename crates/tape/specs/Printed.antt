@@ -1,7 +1,6 @@
 -- What the program prints (document 01, "Worked texts"): "The tape program reads standard input, has a tape of 16,384 numbers, and prints .. For a refusal
 -- it prints `refused`, number and place."
-use Rattle.std.specs.Prelude.{Ok, Err}
-use Rattle.std.specs.Prelude.{ℕ, List, [], ◌∷◌, ◌++◌, length}
+use Rattle.std.specs.Prelude.{Ok, Err, ℕ, List, [], ◌∷◌, ◌++◌, length}
 use Rattle.read.specs.Read.{read_answer, read_tape}
 use Rattle.show.specs.Answers.{placed_text}
 use Rattle.show.specs.Readings.{read_text}

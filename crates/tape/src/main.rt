@@ -8,15 +8,15 @@ ghost use Rattle.tape.specs.Printed.{said_text, printed_text};
 
 use lines::input::STDIN_FILENO;
 use lines::{input, out};
-use sarridok::ReadAnswer;
+use text::Refusal;
 
 // What the read answered, over the tape that it left.
-fn said(r: ReadAnswer, tape: &[u32], o: &mut [u8]) -> usize
-    ensures { (o.new, result) ≡ put (o.old, 0) (said_text tape.now (r)) }
+fn said(r: Result<usize, Refusal>, tape: &[u32], o: &mut [u8]) -> usize
+    ensures { (o.new, result) ≡ put (o.old, 0) (said_text tape.now r) }
 {
     match r {
-        ReadAnswer::Accepted(n) => show::of_read::accepted(o, 0, n, tape, b'\n'),
-        ReadAnswer::Refused(f) => show::placed(o, 0, f),
+        Ok(n) => show::of_read::accepted(o, 0, n, tape, b'\n'),
+        Err(f) => show::placed(o, 0, f),
     }
 }
 
