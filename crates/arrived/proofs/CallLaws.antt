@@ -1,7 +1,6 @@
 -- However a text is cut: what the calls give together, and the state behind them (`calls-show`, `calls-cut`); the only refusal of a call is 22 (`only-no-room`); a refusal
 -- that was given comes again (`refusal-again`, `refusal-at-the-end`). Assumes nothing.
 use Rattle.std.proofs.Common.{Ok, Err}
-use Rattle.text.specs.Refusals.{Told}
 use Prim.Native.Nat.{ℕ, ◌+◌, ◌-◌, ◌≤◌}
 use native.Mathlib.Nat.{add-zero}
 use native.Mathlib.Omega.{arith}
@@ -10,7 +9,7 @@ use mathlib.Core.List.{List, [], ◌++◌}
 use mathlib.Core.Path.{◌≡◌, ap, ap₂, refl, subst, sym, ◌∙◌}
 use lib.Dec.{eqb, ltb}
 use lib.ListN.{length}
-use Rattle.text.specs.Refusals.{no_room}
+use Rattle.text.specs.Refusals.{Told, no_room}
 use Rattle.text.specs.declared.refusal.Refusal.{Refusal}
 use Rattle.rows.specs.declared.Entry.{Entry}
 use Rattle.octets.specs.Octets.{allowed_of}
@@ -20,7 +19,7 @@ use Rattle.arriving.specs.Arrivals.{Coming, Given, joined, piece}
 use Rattle.arriving.specs.Arrivals.Coming.{going, halted, shut}
 use Rattle.settled.specs.Settled.{ron_reader}
 use Rattle.pieces.specs.Bars.{most_held}
-use Rattle.pieces.specs.Ends.{finish_of}
+use Rattle.pieces.specs.Ends.{Rest, finish_of}
 use Rattle.pieces.specs.Orders.{in_order}
 use Rattle.pieces.specs.Pieces.{Outcome, cut_off, in_room, piece_of, unchanged}
 use Rattle.pieces.specs.declared.state.Arrival.{Arrival}
@@ -38,14 +37,14 @@ use Rattle.arrived.proofs.States.{begun_shows, shown_in_order, shown_kept}
 room_accepted : (room : ℕ) (o q : Outcome) → in_room room o ≡ Ok q → o ≡ q
 room_accepted room o q = go (ltb room (length o.entries))
   where
-    go : (t : Bool) → ◌≡◌ {A = Told _} (cond t (Err no_room) (Ok o)) (Ok q) → o ≡ q
+    go : (t : Bool) → ◌≡◌ {A = Told Outcome} (cond t (Err no_room) (Ok o)) (Ok q) → o ≡ q
     go true e = let z : ◌≡◌ {A = ℕ} 0 1 = cc in absurd (omega arith)
     go false e = cc
 
 room_refused : (room : ℕ) (o : Outcome) (d : Refusal) → in_room room o ≡ Err d → d ≡ no_room
 room_refused room o d = go (ltb room (length o.entries))
   where
-    go : (t : Bool) → ◌≡◌ {A = Told _} (cond t (Err no_room) (Ok o)) (Err d) → d ≡ no_room
+    go : (t : Bool) → ◌≡◌ {A = Told Outcome} (cond t (Err no_room) (Ok o)) (Err d) → d ≡ no_room
     go true e = let z : no_room ≡ d = cc in sym z
     go false e = let z : ◌≡◌ {A = ℕ} 0 1 = cc in absurd (omega arith)
 
@@ -63,7 +62,7 @@ module _ {c : Coming} {t : ℕ} {a : Arrival} {kept : List ℕ} (s : Shows c t a
 pub end_no_room : {c : Coming} {t : ℕ} {a : Arrival} {kept : List ℕ} → Shows c t a kept → (junk : List ℕ) (room : ℕ) (d : Refusal) → finish_of a (kept ++ junk) room ≡ Err d → d ≡ no_room
 end_no_room {c} s junk room d e = go (ltb room (length (entries (end_gives c)))) (sym (finish_shows s junk room) ∙ e)
   where
-    go : (t : Bool) → ◌≡◌ {A = Told _} (cond t (Err no_room) (Ok (rest_given (end_gives c)))) (Err d) → d ≡ no_room
+    go : (t : Bool) → ◌≡◌ {A = Told Rest} (cond t (Err no_room) (Ok (rest_given (end_gives c)))) (Err d) → d ≡ no_room
     go true h = let z : no_room ≡ d = cc in sym z
     go false h = let z : ◌≡◌ {A = ℕ} 0 1 = cc in absurd (omega arith)
 

@@ -7,7 +7,6 @@
 --     calls-sealed     nor too early
 -- Assumes nothing.
 use Rattle.std.proofs.Common.{Ok, Err, Some, None, Option}
-use Rattle.text.specs.Refusals.{Told}
 use Prim.Native.Nat.{ℕ, ◌+◌, ◌-◌, ◌<◌, ◌≤◌}
 use native.Mathlib.Nat.{add-zero, zero-add}
 use native.Mathlib.Omega.{arith}
@@ -22,7 +21,7 @@ use borrow.Author.Tests.{eqb-false, le-leb, lt-leb}
 use Rattle.text.proofs.Choices.{bool_cases, either}
 use Rattle.text.proofs.JudgeLaws.{fit_short}
 use Rattle.text.specs.Judged.{by_utf8, judged_of}
-use Rattle.text.specs.Refusals.{entry_too_long, no_room, not_utf8, placed_behind, too_long}
+use Rattle.text.specs.Refusals.{Told, entry_too_long, no_room, not_utf8, placed_behind, too_long}
 use Rattle.text.specs.Utf8.{utf8_of}
 use Rattle.text.specs.declared.refusal.Refusal.{Refusal}
 use Rattle.rows.specs.declared.Entry.{Entry}
@@ -112,7 +111,7 @@ last_front (e ∷ es) r = last_front es r
 pub fitting_accepted : (room : ℕ) (e q : Rest) → fitting room e ≡ Ok q → e ≡ q
 fitting_accepted room e q = go (ltb room (length e.entries))
   where
-    go : (t : Bool) → ◌≡◌ {A = Told _} (cond t (Err no_room) (Ok e)) (Ok q) → e ≡ q
+    go : (t : Bool) → ◌≡◌ {A = Told Rest} (cond t (Err no_room) (Ok e)) (Ok q) → e ≡ q
     go true h = let z : ◌≡◌ {A = ℕ} 0 1 = cc in absurd (omega arith)
     go false h = cc
 

@@ -1,7 +1,6 @@
 -- Calls one after the other (document 02, change request 3): "We want to hand over each piece and get the entries decided so far." The host puts each piece behind
 -- what is kept in its buffer; what stands behind the piece there, and how much room there is, is its own.
-use Rattle.std.specs.Prelude.{Ok, Err}
-use Rattle.std.specs.Prelude.{ℕ, List, [], ◌∷◌, ◌++◌, ◌≡◌, length}
+use Rattle.std.specs.Prelude.{Ok, Err, ℕ, List, [], ◌∷◌, ◌++◌, ◌≡◌, length}
 use Rattle.text.specs.declared.refusal.Refusal.{Refusal}
 use Rattle.rows.specs.declared.Entry.{Entry}
 use Rattle.pieces.specs.Pieces.{Outcome, begun, piece_of}
