@@ -1,7 +1,6 @@
 -- What the program prints (document 02, change request 3): "We want to hand over each piece and get the entries decided so far. .. One answer may carry entries with
 -- a refusal behind them". An entry's five numbers on a line of its own, and a refusal's number and place last, as the program `tape` prints them.
-use Rattle.std.specs.Prelude.{Ok, Err}
-use Rattle.std.specs.Prelude.{ℕ, Bool, false, cond, List, [], ◌∷◌, ◌++◌, eqb}
+use Rattle.std.specs.Prelude.{Ok, Err, ℕ, Bool, false, cond, List, [], ◌∷◌, ◌++◌, eqb}
 use Rattle.lines.specs.Decimal.{decimal, word_of}
 use Rattle.pieces.specs.Ends.{Rest}
 use Rattle.pieces.specs.Pieces.{Outcome}

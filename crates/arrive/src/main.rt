@@ -122,19 +122,17 @@ fn turn(stdin: Stdin, was: Standing, buf: &mut [u8], tape: &mut [u32], o: &mut [
     more(s, buf, i.to - s.kept, tape, o)
 }
 
-// A proved loop has to end, and nothing says that the input does: the turns are counted down from a number that no run uses up.
+// A proved loop has to end, and nothing says that the input does: the turns are counted up to a number that no run comes to.
 fn run(stdin: Stdin, buf: &mut [u8], tape: &mut [u32], o: &mut [u8]) {
     let mut s = Standing {
         state: sarridok::begin(),
         on: true,
     };
-    let mut turns = u64::MAX;
-    while 0 < turns {
+    for _ in 0..u64::MAX {
         s = turn(stdin, s, buf, tape, o);
         if !s.on {
             return;
         }
-        turns -= 1;
     }
 }
 
