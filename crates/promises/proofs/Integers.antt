@@ -1,6 +1,5 @@
 -- What is promised of `integer`. Each line is a theorem's statement; its proof only says where it is proved. Assumes nothing.
 use Rattle.std.proofs.Common.{Ok, Err}
-use Rattle.text.specs.Refusals.{Told}
 use Prim.Native.Nat.{ℕ, ◌<◌}
 use mathlib.Core.Bool.{Bool, cond, false, true}
 use mathlib.Core.List.{List}
@@ -8,7 +7,7 @@ use mathlib.Core.Logic.{◌↔◌, ◌⊎◌}
 use mathlib.Core.Path.{◌≡◌}
 use lib.ListN.{drop, get_or, length}
 use Rattle.text.specs.Judged.{judged_of, place_fits}
-use Rattle.text.specs.Refusals.{eof, expected_integer, integer_out_of_bounds, invalid_integer_digit, other_kind, underscore_at_beginning, unfit}
+use Rattle.text.specs.Refusals.{Told, eof, expected_integer, integer_out_of_bounds, invalid_integer_digit, other_kind, underscore_at_beginning, unfit}
 use Rattle.text.specs.declared.refusal.Refusal.{Refusal}
 use Rattle.digits.specs.Digits.{run_of}
 use Rattle.digits.specs.declared.Run.TheVariants.{Empty, NotDigit, Over, Underscore, Value}
@@ -108,7 +107,7 @@ module _ (text : List ℕ) (place : ℕ) (width : Width) where
   integer_numbers = integer_given text place width
 
   -- Two answers that meet the promise are equal.
-  pub one_integer : (x y : Told (Value × ℕ)) → told_integer x ≡ integer_of text place width → told_integer y ≡ integer_of text place width → x ≡ y
+  pub one_integer : (x y : Told (Number × ℕ)) → told_integer x ≡ integer_of text place width → told_integer y ≡ integer_of text place width → x ≡ y
   one_integer = integer_determined text place width
 
 -- ---- the integers of an accepted read

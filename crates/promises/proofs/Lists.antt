@@ -1,6 +1,5 @@
 -- What is promised of `integers`. Each line is a theorem's statement; its proof only says where it is proved. Assumes nothing.
 use Rattle.std.proofs.Common.{Ok, Err}
-use Rattle.text.specs.Refusals.{Told}
 use Prim.Native.Nat.{ℕ, ◌<◌, ◌≤◌}
 use mathlib.Core.Bool.{cond}
 use mathlib.Core.List.{List, ◌++◌, map}
@@ -9,7 +8,7 @@ use mathlib.Core.Path.{◌≡◌}
 use lib.Dec.{ltb}
 use lib.ListN.{drop, get_or, length}
 use Rattle.text.specs.Judged.{judged_of}
-use Rattle.text.specs.Refusals.{not_in_order}
+use Rattle.text.specs.Refusals.{Told, not_in_order}
 use Rattle.text.specs.declared.refusal.Refusal.{Refusal}
 use Rattle.rows.specs.Rows.{entry_at, room_of}
 use Rattle.read.specs.Read.{read_answer, read_tape}

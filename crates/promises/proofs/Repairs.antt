@@ -1,12 +1,11 @@
 -- What is promised of `repair`. Each line is a theorem's statement; its proof only says where it is proved. Assumes nothing.
 use Rattle.std.proofs.Common.{Ok, Err}
-use Rattle.text.specs.Refusals.{Told}
 use Prim.Native.Nat.{ℕ, suc, ◌+◌, ◌<◌, ◌≤◌}
 use mathlib.Core.List.{List}
 use mathlib.Core.Path.{◌≡◌, refl}
 use lib.ListN.{length}
 use Rattle.text.specs.Judged.{behind_judged, judged_of}
-use Rattle.text.specs.Refusals.{not_in_order}
+use Rattle.text.specs.Refusals.{Told, not_in_order}
 use Rattle.text.specs.declared.refusal.Refusal.{Refusal}
 use Rattle.rows.specs.Order.{former_end}
 use Rattle.rows.specs.Rows.{entries_of, entry_at}

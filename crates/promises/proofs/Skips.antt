@@ -1,13 +1,12 @@
 -- What is promised of `skip`. Each line is a theorem's statement; its proof only says where it is proved. Assumes nothing.
 use Rattle.std.proofs.Common.{Ok, Err, Some, None}
-use Rattle.text.specs.Refusals.{Told}
 use Prim.Native.Nat.{ℕ, ◌≤◌}
 use mathlib.Core.Bool.{cond, true}
 use mathlib.Core.List.{List}
 use mathlib.Core.Logic.{◌↔◌}
 use mathlib.Core.Path.{◌≡◌}
 use lib.ListN.{drop, length}
-use Rattle.text.specs.Refusals.{eof, unclosed_block_comment, unexpected_char, unfit}
+use Rattle.text.specs.Refusals.{Told, eof, unclosed_block_comment, unexpected_char, unfit}
 use Rattle.text.specs.Utf8.{Encoded}
 use Rattle.text.specs.declared.refusal.Refusal.{Refusal}
 use Rattle.comments.specs.Blocks.{Body, block_end}
@@ -62,11 +61,11 @@ gap_6 = gaps.six_exactly
 
 module _ (text : List ℕ) (c : ParserCursor) where
   -- 1 and 2 exactly in their cases, and past both exactly where the text is sound.
-  pub skip_front : FrontOf text (skip_of text c) (cond (cursor_fits text c) ((skip_ws_of text c)) (Err unfit))
+  pub skip_front : FrontOf text (skip_of text c) (cond (cursor_fits text c) (skip_ws_of text c) (Err unfit))
   skip_front = fronts.skip_front text c
 
   -- 28 exactly where the cursor is unfit.
-  pub skip_placed : Sound text → PlacedOf (CursorFits text c) (skip_of text c) ((skip_ws_of text c))
+  pub skip_placed : Sound text → PlacedOf (CursorFits text c) (skip_of text c) (skip_ws_of text c)
   skip_placed = places.skip_placed text c
 
   -- Such a cursor is what the definition tests for.

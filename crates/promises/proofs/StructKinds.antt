@@ -1,7 +1,6 @@
 -- What is promised of `struct_kind`. Each line is a theorem's statement; its proof only says where it is proved. There is no plainer definition of the
 -- answer itself: the crate's lines are the meaning, held by runs against it. Assumes nothing.
 use Rattle.std.proofs.Common.{Err}
-use Rattle.text.specs.Refusals.{Told}
 use Rattle.structs.specs.declared.kinds.StructType.{StructType}
 use Prim.Native.Nat.{ℕ}
 use mathlib.Core.Bool.{cond}
@@ -9,7 +8,7 @@ use mathlib.Core.List.{List}
 use mathlib.Core.Path.{◌≡◌}
 use lib.ListN.{drop}
 use Rattle.text.specs.Judged.{place_fits}
-use Rattle.text.specs.Refusals.{unfit}
+use Rattle.text.specs.Refusals.{Told, unfit}
 use Rattle.text.specs.Utf8.{Encoded}
 use Rattle.text.specs.declared.refusal.Refusal.{Refusal}
 use Rattle.scanned.specs.ByCharacters.{struct_type_chars}
@@ -38,11 +37,11 @@ struct_kind_characters = kinds.struct_characters
 
 module _ (text : List ℕ) (place : ℕ) (newtype : NewtypeMode) (tuple : TupleMode) where
   -- 1 and 2 exactly in their cases, and past both exactly where the text is sound.
-  pub struct_kind_front : FrontOf text (struct_kind_of text place newtype tuple) (cond (place_fits text place) ((placed_kind place (struct_type_of (drop place text) newtype tuple))) (Err unfit))
+  pub struct_kind_front : FrontOf text (struct_kind_of text place newtype tuple) (cond (place_fits text place) (placed_kind place (struct_type_of (drop place text) newtype tuple)) (Err unfit))
   struct_kind_front = fronts.struct_kind_front text place newtype tuple
 
   -- 28 exactly where the place is no boundary of characters.
-  pub struct_kind_placed : Sound text → PlacedOf (Boundary text place) (struct_kind_of text place newtype tuple) ((placed_kind place (struct_type_of (drop place text) newtype tuple)))
+  pub struct_kind_placed : Sound text → PlacedOf (Boundary text place) (struct_kind_of text place newtype tuple) (placed_kind place (struct_type_of (drop place text) newtype tuple))
   struct_kind_placed = places.struct_kind_placed text place newtype tuple
 
   -- A refusal's number is 1, 2 or one of 4 to 29, and its reason 1 to 8 where that is 13, else 0.

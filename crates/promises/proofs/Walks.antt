@@ -1,6 +1,5 @@
 -- What is promised of `walk`. Each line is a theorem's statement; its proof only says where it is proved. Assumes nothing.
 use Rattle.std.proofs.Common.{Ok, Err}
-use Rattle.text.specs.Refusals.{Told}
 use Prim.Native.Nat.{ℕ, ◌+◌, ◌<◌, ◌≤◌}
 use mathlib.Core.Bool.{◌&&◌, cond, false, true}
 use mathlib.Core.List.{List, [], ◌++◌}
@@ -9,7 +8,7 @@ use mathlib.Core.Path.{◌≡◌}
 use lib.Dec.{ltb}
 use lib.ListN.{length, take}
 use Rattle.text.specs.Judged.{judged_of}
-use Rattle.text.specs.Refusals.{depth_limit_passed, no_room, not_allowed_here, not_in_order, repeated_field, tape_ends_early, unfit}
+use Rattle.text.specs.Refusals.{Told, depth_limit_passed, no_room, not_allowed_here, not_in_order, repeated_field, tape_ends_early, unfit}
 use Rattle.text.specs.declared.refusal.Refusal.{Refusal}
 use Rattle.rows.specs.Order.{former_end, in_order}
 use Rattle.rows.specs.Rows.{entries_of, entry_at, room_of}
