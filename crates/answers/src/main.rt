@@ -49,7 +49,7 @@ fn line(
     spare: &mut [u8],
     o: &mut [u8],
 ) -> State {
-    let end = std::num::wrapping_add_usize(s.from, n);
+    let end = s.from.wrapping_add(n);
     let a = answer(
         s.passing,
         lines::part(buf, s.from, end),
@@ -62,7 +62,7 @@ fn line(
         s.at,
     );
     State {
-        from: std::num::wrapping_add_usize(end, 1),
+        from: end.wrapping_add(1),
         to: s.to,
         ended: s.ended,
         at: a,
