@@ -1,11 +1,10 @@
 -- A text that arrives, over lent numbers: the cases of the definitions. Assumes nothing.
 use Rattle.std.proofs.Common.{Ok, Err, Some, None, Option}
 use Prim.Native.Nat.{ℕ, ◌<◌, ◌≤◌}
-use native.Mathlib.Omega.{arith}
 use mathlib.Core.Bool.{Bool, true, false, cond}
 use mathlib.Core.List.{List}
 use mathlib.Core.Path.{◌≡◌, ap, refl, sym, ◌∙◌}
-use lib.Dec.{eqb, leb}
+use lib.Dec.{eqb}
 use lib.ListN.{get_or, length}
 use borrow.Author.Tests.{le-leb, lt-leb}
 use Rattle.pieces.specs.Ends.{Rest, ended_of, finish_of, rest_laid}

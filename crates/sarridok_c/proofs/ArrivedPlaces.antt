@@ -2,14 +2,14 @@
 --     piece-small, finish-small
 -- Assumes nothing.
 use Rattle.std.proofs.Common.{Ok, Err}
-use Prim.Native.Nat.{ℕ, ◌+◌, ◌-◌, ◌≤◌, ◌<◌}
+use Prim.Native.Nat.{ℕ, ◌+◌, ◌-◌, ◌≤◌}
 use native.Mathlib.Omega.{arith}
-use mathlib.Core.Bool.{Bool, true, cond, ◌&&◌}
+use mathlib.Core.Bool.{Bool, true, ◌&&◌}
 use mathlib.Core.List.{List, ◌++◌}
 use mathlib.Core.Path.{◌≡◌, ap, refl, subst, sym}
 use lib.Dec.{eqb, leb, ltb}
 use lib.ListN.{drop, length, length-append, length-drop, length-take, take, take-append-drop}
-use borrow.Author.Tests.{eqb-false, eqb-true, leb-false, leb-true}
+use borrow.Author.Tests.{eqb-true, leb-false, leb-true}
 use Rattle.arriving.proofs.Came.{Stood, stood_behind}
 use Rattle.arriving.specs.Arrivals.{Coming, Passing, halt, pass}
 use Rattle.gaps.specs.Passes.{passed_of}
@@ -31,9 +31,9 @@ use Rattle.pieces.proofs.StandLaws.{bar_halts}
 use Rattle.pieces.proofs.TakenLaws.{sooner_le}
 use Rattle.pieces.specs.Bars.{bar_of}
 use Rattle.pieces.specs.Come.{Came, Standing, behind, came_by, came_of, later, stands_at, stopped, within as inside}
-use Rattle.pieces.specs.Ends.{Rest, ending_of, ends_in, finish_of, fitting, last_of, placed_last, rest_by, rest_of}
+use Rattle.pieces.specs.Ends.{Rest, ending_of, finish_of, last_of, rest_by, rest_of}
 use Rattle.pieces.specs.Orders.{in_order, most_taken}
-use Rattle.pieces.specs.Pieces.{Outcome, bad_at, bad_from, barred_by, behind_bytes, by_bar, came_in, cut_off, goes_on, in_room, may_take, no_refusal, outcome_of, piece_of, stop_by, stops as stopsWith, unchanged}
+use Rattle.pieces.specs.Pieces.{Outcome, bad_at, bad_from, barred_by, behind_bytes, by_bar, came_in, cut_off, may_take, no_refusal, outcome_of, piece_of, stop_by}
 use Rattle.pieces.specs.declared.state.Arrival.{Arrival}
 use Rattle.reading.specs.Readings.{Reading, broken, complete, entry, read_from}
 use Rattle.settled.proofs.Owed.{ron}
@@ -41,7 +41,7 @@ use Rattle.settled.specs.Settled.{ron_reader}
 use Rattle.stored.proofs.Bounds.{Small, order_small}
 use Rattle.text.proofs.Choices.{bool_cases, cond_cases, and_true, either, lt_or_le}
 use Rattle.text.proofs.ClassLaws.{within_true}
-use Rattle.text.specs.Refusals.{Told, not_utf8, placed_behind, too_long, unexpected_char}
+use Rattle.text.specs.Refusals.{Told, not_utf8, placed_behind, too_long}
 use Rattle.text.specs.declared.refusal.Refusal.{Refusal}
 use Rattle.tokens.proofs.RonLaws.{refused_within}
 use Rattle.tokens.specs.Ron.{ron_token}

@@ -5,11 +5,11 @@
 use Rattle.std.proofs.Common.{Ok, Err, Some, None, Option}
 use Prim.Native.Nat.{ℕ, ◌≤◌}
 use native.Mathlib.Omega.{arith}
-use mathlib.Core.Bool.{Bool, true, cond}
-use mathlib.Core.List.{List, ◌++◌}
-use mathlib.Core.Path.{◌≡◌, ap, refl, sym, ◌∙◌}
-use lib.Dec.{eqb, leb}
-use lib.ListN.{drop, get_or, length, length-append, length-drop}
+use mathlib.Core.Bool.{true}
+use mathlib.Core.List.{List}
+use mathlib.Core.Path.{◌≡◌, ap, sym, ◌∙◌}
+use lib.Dec.{leb}
+use lib.ListN.{drop, length, length-append, length-drop}
 use borrow.Author.Tests.{eq-eqb, ne_eqb}
 use Rattle.pieces.specs.Ends.{Rest, finish_of}
 use Rattle.pieces.specs.Orders.{in_order, most_taken}
@@ -18,7 +18,7 @@ use Rattle.pieces.specs.declared.state.Arrival.{Arrival}
 use Rattle.stored.proofs.Bounds.{Small}
 use Rattle.stored.proofs.RoundTrip.{round_trip_in}
 use Rattle.stored.proofs.StoreLaws.{stored_long}
-use Rattle.stored.specs.Numbers.{numbers_of, state_of, stored_in}
+use Rattle.stored.specs.Numbers.{numbers_of, stored_in}
 use Rattle.text.proofs.Choices.{cond_cases}
 use Rattle.text.specs.Refusals.{Told}
 use Rattle.text.specs.declared.refusal.Refusal.{Refusal}

@@ -21,7 +21,7 @@ use Rattle.reading.proofs.Entries.{counted_accepted}
 use Rattle.reading.proofs.Steps.{first, read_refuse, read_stop, read_token}
 use Rattle.reading.specs.Kept.{last_quiet}
 use Rattle.reading.specs.Owed.{quiet_byte}
-use Rattle.reading.specs.Readings.{Reading, broken, complete, counted, entry, place, read_from, read_part}
+use Rattle.reading.specs.Readings.{Reading, broken, complete, counted, entry, read_from, read_part}
 use Rattle.reading.specs.Tokens.{Answer, refuse, stop, token, reach}
 use Rattle.tokens.proofs.RonLaws.{laws, refused_within}
 use Rattle.tokens.specs.Ron.{ron_token}

@@ -1,5 +1,4 @@
 use Rattle.sarridok_c.proofs.ArrivedLaws.{begin_done, begin_none}
-use borrow.Author.Rules.{rules}
 use Rattle.sarridok_c.proofs.begin_c.sarridok_begin.Goals as goal
 
 pub returns-then-state-lt-NUMBERS : goal.returns-then-state-lt-NUMBERS

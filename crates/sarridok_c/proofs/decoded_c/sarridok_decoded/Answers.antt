@@ -1,7 +1,6 @@
 use mathlib.Core.Path.{◌∙◌, ap}
 use Rattle.sarridok_c.specs.Packed.{packed}
 use Rattle.sarridok_c.specs.Words.{count_word}
-use borrow.Author.Rules.{rules}
 use Rattle.sarridok_c.proofs.decoded_c.sarridok_decoded.Goals as goal
 
 pub returns : goal.returns

@@ -1,4 +1,3 @@
-use borrow.Author.Rules.{rules}
 use Rattle.sarridok_c.proofs.decoded_c.word.Goals as goal
 
 pub returns-in-Ok : goal.returns-in-Ok

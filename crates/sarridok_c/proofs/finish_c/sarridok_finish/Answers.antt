@@ -1,5 +1,4 @@
 use Rattle.sarridok_c.proofs.ArrivedLaws.{end_done, end_none}
-use borrow.Author.Rules.{rules}
 use Rattle.sarridok_c.proofs.finish_c.sarridok_finish.Goals as goal
 
 pub returns-in-Some : goal.returns-in-Some

@@ -1,5 +1,4 @@
 use mathlib.Core.Path.{refl}
-use borrow.Author.Rules.{rules}
 use Rattle.sarridok_c.proofs.finish_c.word.Goals as goal
 
 pub returns-in-Stopped : goal.returns-in-Stopped

@@ -1,10 +1,8 @@
-use mathlib.Core.Path.{◌∙◌, ◌≡◌, ap, refl, sym}
-use Rattle.text.specs.Refusals.{Told}
-use Rattle.sarridok.specs.Typed.{Typed, integer_of}
+use mathlib.Core.Path.{◌∙◌, ap, refl, sym}
+use Rattle.sarridok.specs.Typed.{integer_of}
 use Rattle.sarridok_c.specs.Packed.{packed, lent_after, refusal_word}
 use Rattle.sarridok_c.specs.Words.{typed_word, magnitude_of}
 use Rattle.sarridok_c.proofs.NumberedLaws.{width_low, width_high, width_fit}
-use borrow.Author.Rules.{rules}
 use Rattle.sarridok_c.proofs.integer_c.sarridok_integer.Goals as goal
 
 pub returns-then-width-lt1 : goal.returns-then-width-lt1

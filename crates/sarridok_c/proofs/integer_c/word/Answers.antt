@@ -1,6 +1,5 @@
 use mathlib.Core.Path.{◌∙◌, ap, refl}
 use Rattle.sarridok_c.specs.Packed.{pair_of}
-use borrow.Author.Rules.{rules}
 use Rattle.sarridok_c.proofs.integer_c.word.Goals as goal
 
 pub returns-in-Ok : goal.returns-in-Ok

@@ -1,7 +1,6 @@
 use native.Mathlib.Omega.{arith}
 use mathlib.Core.Path.{◌∙◌}
 use Rattle.sarridok_c.proofs.ArrivedLaws.{lent_long, lent_short}
-use borrow.Author.Rules.{rules}
 use Rattle.sarridok_c.proofs.lent_state.state_in.Goals as goal
 
 pub returns-then-s-lt-NUMBERS : goal.returns-then-s-lt-NUMBERS

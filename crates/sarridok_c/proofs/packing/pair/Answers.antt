@@ -1,7 +1,6 @@
 use native.Mathlib.Omega.{arith}
 use Rattle.sarridok_c.specs.Packed.{pair_of}
 use Rattle.sarridok_c.proofs.PackLaws.{at_most_fits}
-use borrow.Author.Rules.{rules}
 use Rattle.sarridok_c.proofs.packing.pair.Goals as goal
 
 pub overflow_mul-raised : goal.overflow_mul-raised

@@ -2,7 +2,6 @@ use native.Mathlib.Omega.{arith}
 use Prim.Native.Nat.{◌+◌, ◌*◌}
 use Rattle.sarridok_c.specs.Packed.{refusal_word}
 use Rattle.sarridok_c.proofs.PackLaws.{pair_fits}
-use borrow.Author.Rules.{rules}
 use Rattle.sarridok_c.proofs.packing.refused.Goals as goal
 
 pub overflow_add-result : goal.overflow_add-result

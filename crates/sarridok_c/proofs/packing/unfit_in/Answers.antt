@@ -1,6 +1,5 @@
 use mathlib.Core.Path.{◌∙◌, ap, sym}
 use Rattle.sarridok_c.specs.Packed.{unfit_in, unless_judged}
-use borrow.Author.Rules.{rules}
 use Rattle.sarridok_c.proofs.packing.unfit_in.Goals as goal
 
 pub returns-in-Ok : goal.returns-in-Ok

@@ -1,5 +1,4 @@
 use Rattle.sarridok_c.proofs.ArrivedLaws.{piece_done, piece_none}
-use borrow.Author.Rules.{rules}
 use Rattle.sarridok_c.proofs.piece_c.sarridok_piece.Goals as goal
 
 pub returns-in-Some : goal.returns-in-Some

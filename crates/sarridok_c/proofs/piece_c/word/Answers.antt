@@ -1,5 +1,4 @@
 use mathlib.Core.Path.{refl}
-use borrow.Author.Rules.{rules}
 use Rattle.sarridok_c.proofs.piece_c.word.Goals as goal
 
 pub returns-in-Given : goal.returns-in-Given

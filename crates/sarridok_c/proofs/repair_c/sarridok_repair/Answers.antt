@@ -1,7 +1,6 @@
 use mathlib.Core.Path.{◌∙◌, ap}
 use Rattle.sarridok_c.specs.Packed.{packed, lent_after}
 use Rattle.sarridok_c.specs.Words.{repaired_word, before_of, behind_of}
-use borrow.Author.Rules.{rules}
 use Rattle.sarridok_c.proofs.repair_c.sarridok_repair.Goals as goal
 
 pub returns : goal.returns

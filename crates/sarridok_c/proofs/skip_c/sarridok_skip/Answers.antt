@@ -1,7 +1,6 @@
 use mathlib.Core.Path.{◌∙◌, ap}
 use Rattle.sarridok_c.specs.Packed.{packed, lent_after}
 use Rattle.sarridok_c.specs.Words.{cursor_word, pre_of, length_of}
-use borrow.Author.Rules.{rules}
 use Rattle.sarridok_c.proofs.skip_c.sarridok_skip.Goals as goal
 
 pub returns : goal.returns

@@ -4,7 +4,6 @@ use Rattle.sarridok_c.specs.Packed.{packed, refusal_word}
 use Rattle.sarridok_c.specs.Words.{kind_word}
 use Rattle.sarridok_c.specs.Numbered.{newtype_at}
 use Rattle.sarridok_c.proofs.NumberedLaws.{newtype_high, tuple_high, modes_fit}
-use borrow.Author.Rules.{rules}
 use Rattle.sarridok_c.proofs.struct_kind_c.sarridok_struct_kind.Goals as goal
 
 pub returns-then-newtype-gt1 : goal.returns-then-newtype-gt1

@@ -1,4 +1,3 @@
-use borrow.Author.Rules.{rules}
 use Rattle.sarridok_c.proofs.struct_kind_c.word.Goals as goal
 
 pub returns-in-Ok : goal.returns-in-Ok
