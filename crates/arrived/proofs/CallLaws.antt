@@ -1,7 +1,7 @@
 -- However a text is cut: what the calls give together, and the state behind them (`calls-show`, `calls-cut`); the only refusal of a call is 22 (`only-no-room`); a refusal
 -- that was given comes again (`refusal-again`, `refusal-at-the-end`). Assumes nothing.
 use Rattle.std.proofs.Common.{Ok, Err}
-use Prim.Native.Nat.{ℕ, ◌+◌, ◌-◌, ◌≤◌}
+use Prim.Native.Nat.{ℕ, ◌+◌, ◌≤◌}
 use native.Mathlib.Nat.{add-zero}
 use native.Mathlib.Omega.{arith}
 use mathlib.Core.Bool.{Bool, true, false, cond}

@@ -19,7 +19,6 @@ use Rattle.gaps.proofs.Canon.{Ways, kept_is, ways}
 use Rattle.gaps.specs.Opens.{kept_of, open_of}
 use Rattle.gaps.specs.Passes.{passed_of}
 use Rattle.gaps.specs.declared.pass.Passed.{Passed}
-use Rattle.gaps.specs.declared.pass.Passed.TheVariants as passed
 use Rattle.gaps.specs.declared.state.Open.{Open}
 use Rattle.gaps.specs.declared.state.Open.TheVariants.{Clear, Slash, Line, Block}
 use Rattle.octets.proofs.Exactly.{text_all}

@@ -1,6 +1,6 @@
 -- 5 behind a `/` is given with the last byte of its character: what stands before that byte is kept (`five-front`), and with it the text is refused (`five-step`).
 -- Assumes nothing.
-use Prim.Native.Nat.{ℕ, ◌+◌, ◌-◌}
+use Prim.Native.Nat.{ℕ, ◌+◌}
 use native.Mathlib.Nat.{sub_self}
 use native.Mathlib.Omega.{arith}
 use mathlib.Core.Bool.{true, false}

@@ -1,6 +1,6 @@
 -- The gap of a front of a text: where the text's gap ends within the front, the front's ends there too (`gap-cut`, `five-cut`); and what has come behind a gap
 -- stays there (`clear-more`). Assumes nothing.
-use Prim.Native.Nat.{ℕ, ◌+◌, ◌-◌, ◌≤◌}
+use Prim.Native.Nat.{ℕ, ◌+◌, ◌≤◌}
 use native.Mathlib.Omega.{arith}
 use mathlib.Core.List.{List, [], ◌++◌, ◌∷◌, append_assoc}
 use mathlib.Core.Bool.{true}

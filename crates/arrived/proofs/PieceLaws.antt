@@ -15,7 +15,7 @@ use Rattle.text.specs.declared.refusal.Refusal.{Refusal}
 use Rattle.rows.specs.declared.Entry.{Entry}
 use Rattle.reading.proofs.Stable.{ends_grow}
 use Rattle.reading.proofs.Steps.{drop_on, first}
-use Rattle.reading.specs.Readings.{Reading, end_of, entries, read_part, ◌▸◌}
+use Rattle.reading.specs.Readings.{Reading, end_of, read_part, ◌▸◌}
 use Rattle.reading.specs.Tokens.{Answer, Token, reach}
 use Rattle.reading.specs.Tokens.Answer.{refuse, stop, token}
 use Rattle.arriving.proofs.Decides.{stays}
