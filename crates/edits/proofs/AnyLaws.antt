@@ -12,7 +12,8 @@ use Rattle.text.specs.Words.{starts_with}
 use Rattle.lines.specs.Out.{put}
 use Rattle.lines.specs.Over.{over}
 use Rattle.lines.proofs.OutLaws.{then}
-use Rattle.repair.specs.Repair.{Repaired, repair_of, repaired_tape, told_repair}
+use Rattle.repair.specs.Repair.{repair_of, repaired_tape}
+use Rattle.repair.specs.declared.repairer.Repaired.{Repaired}
 use Rattle.show.specs.Answers.{bad_text, clean_text, refused_text}
 use Rattle.show.specs.Repairs.{counts_text, numbers_text}
 use Rattle.text.specs.Refusals.{Told}
@@ -54,10 +55,10 @@ module _ (words : List ℕ) where
 
 -- ---- a repair
 
-module _ (tape text aside : List ℕ) (q : Cut) (r : Told (ℕ × ℕ × ℕ)) (e : told_repair r ≡ repair_of tape q.count q.old q.a q.b text) where
-  pub told_by : (a : Told (ℕ × ℕ × ℕ)) → r ≡ a → told_repair a ≡ told_of tape q text
+module _ (tape text aside : List ℕ) (q : Cut) (r : Told Repaired) (e : r ≡ repair_of tape q.count q.old q.a q.b text) where
+  pub told_by : (a : Told Repaired) → r ≡ a → a ≡ told_of tape q text
   unfolding told_of
-  told_by a f = sym (ap told_repair f) ∙ e
+  told_by a f = sym f ∙ e
 
   module _ (left : List ℕ) (l : left ≡ repaired_tape tape q.count q.old q.a q.b text) where
     pub left_is : left ≡ tape_after tape q text
@@ -68,12 +69,12 @@ module _ (tape text aside : List ℕ) (q : Cut) (r : Told (ℕ × ℕ × ℕ)) (
       abbrev Says : Type 0
       Says = (end ≡ put out (any_text (told_of tape q text) (tape_after tape q text) (over tape aside))) × (left ≡ tape_after tape q text) × (copy ≡ over tape aside)
 
-      pub any_accepted : (n before behind : ℕ) → r ≡ Ok (n, before, behind) → mid ≡ put out (counts_text n before behind)
+      pub any_accepted : (p : Repaired) → r ≡ Ok p → mid ≡ put out (counts_text p.count p.before p.behind)
           → end ≡ put mid (numbers_text left) → Says
-      any_accepted n before behind f g h = (
-        then out mid end (counts_text n before behind) (numbers_text left) g h
-            ∙ ap (λ (s : List ℕ). put out (counts_text n before behind ++ numbers_text s)) left_is
-            ∙ ap (λ (t : Told Repaired). put out (any_text t (tape_after tape q text) (over tape aside))) (told_by (Ok (n, before, behind)) f),
+      any_accepted p f g h = (
+        then out mid end (counts_text p.count p.before p.behind) (numbers_text left) g h
+            ∙ ap (λ (s : List ℕ). put out (counts_text p.count p.before p.behind ++ numbers_text s)) left_is
+            ∙ ap (λ (t : Told Repaired). put out (any_text t (tape_after tape q text) (over tape aside))) (told_by (Ok p) f),
         left_is,
         k,
       )

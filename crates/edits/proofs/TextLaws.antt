@@ -12,7 +12,8 @@ use Rattle.lent.specs.Marks.{mark_at, marked, kept_from}
 use Rattle.lines.specs.Out.{put}
 use Rattle.lines.proofs.OutLaws.{then}
 use Rattle.read.specs.Read.{read_answer, read_tape}
-use Rattle.repair.specs.Repair.{Repaired, repair_of, repaired_tape, told_repair}
+use Rattle.repair.specs.Repair.{repair_of, repaired_tape}
+use Rattle.repair.specs.declared.repairer.Repaired.{Repaired}
 use Rattle.show.specs.Answers.{clean_text, refused_text}
 use Rattle.show.specs.Readings.{tape_text}
 use Rattle.show.specs.Repairs.{counts_text}
@@ -25,7 +26,7 @@ use Rattle.edits.proofs.AnyLaws.{told_by, left_is}
 
 -- ---- a repair
 
-module _ (tape text aside : List ℕ) (q : Cut) (r : Told (ℕ × ℕ × ℕ)) (e : told_repair r ≡ repair_of tape q.count q.old q.a q.b text)
+module _ (tape text aside : List ℕ) (q : Cut) (r : Told Repaired) (e : r ≡ repair_of tape q.count q.old q.a q.b text)
     (left : List ℕ) (l : left ≡ repaired_tape tape q.count q.old q.a q.b text) (copy : List ℕ) (k : copy ≡ over tape aside) (out mid end : List ℕ × ℕ) where
   abbrev after : List ℕ
   after = tape_after tape q text
@@ -33,21 +34,21 @@ module _ (tape text aside : List ℕ) (q : Cut) (r : Told (ℕ × ℕ × ℕ)) (
   same_left : left ≡ after
   same_left = left_is tape text aside q r e left l
 
-  told_text : (a : Told (ℕ × ℕ × ℕ)) → r ≡ a
-      → put out (edit_text (told_repair a) q.count after (over tape aside)) ≡ put out (edit_text (told_of tape q text) q.count after (over tape aside))
+  told_text : (a : Told Repaired) → r ≡ a
+      → put out (edit_text a q.count after (over tape aside)) ≡ put out (edit_text (told_of tape q text) q.count after (over tape aside))
   told_text a f = ap (λ (t : Told Repaired). put out (edit_text t q.count after (over tape aside))) (told_by tape text aside q r e a f)
 
-  pub text_accepted : (n before behind : ℕ) → r ≡ Ok (n, before, behind) → mid ≡ put out (counts_text n before behind)
-      → (next : List ℕ × ℕ) → next ≡ put mid (tape_text 59 left n) → (w : ℕ) → w ≡ changed_of n q.count
+  pub text_accepted : (p : Repaired) → r ≡ Ok p → mid ≡ put out (counts_text p.count p.before p.behind)
+      → (next : List ℕ × ℕ) → next ≡ put mid (tape_text 59 left p.count) → (w : ℕ) → w ≡ changed_of p.count q.count
       → (kept : Bool) → kept ≡ kept_from mark_at (drop w left) w → end ≡ put next (clean_text kept) → Done (repair_with q text tape aside) out end left copy
   unfolding repair_with
-  text_accepted n before behind f g next h w i kept j m =
-      let c : List ℕ = counts_text n before behind in (
-        then out next end (c ++ tape_text 59 left n) (clean_text kept) (then out mid next c (tape_text 59 left n) g h) m
-            ∙ ap (λ (b : Bool). put out (c ++ tape_text 59 left n ++ clean_text b)) j
-            ∙ ap (λ (x : ℕ). put out (c ++ tape_text 59 left n ++ clean_text (kept_from mark_at (drop x left) x))) i
-            ∙ ap (λ (t : List ℕ). put out (c ++ tape_text 59 t n ++ clean_text (kept_from mark_at (drop (changed_of n q.count) t) (changed_of n q.count)))) same_left
-            ∙ told_text (Ok (n, before, behind)) f,
+  text_accepted p f g next h w i kept j m =
+      let c : List ℕ = counts_text p.count p.before p.behind in (
+        then out next end (c ++ tape_text 59 left p.count) (clean_text kept) (then out mid next c (tape_text 59 left p.count) g h) m
+            ∙ ap (λ (b : Bool). put out (c ++ tape_text 59 left p.count ++ clean_text b)) j
+            ∙ ap (λ (x : ℕ). put out (c ++ tape_text 59 left p.count ++ clean_text (kept_from mark_at (drop x left) x))) i
+            ∙ ap (λ (t : List ℕ). put out (c ++ tape_text 59 t p.count ++ clean_text (kept_from mark_at (drop (changed_of p.count q.count) t) (changed_of p.count q.count)))) same_left
+            ∙ told_text (Ok p) f,
         same_left,
         k,
       )

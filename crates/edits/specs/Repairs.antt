@@ -5,7 +5,8 @@ use Rattle.lent.specs.Marks.{mark_at, marked, kept_from}
 use Rattle.lines.specs.Ascii.{ascii}
 use Rattle.lines.specs.Over.{over}
 use Rattle.read.specs.Read.{read_answer, read_tape}
-use Rattle.repair.specs.Repair.{Repaired, repair_of, repaired_tape}
+use Rattle.repair.specs.Repair.{repair_of, repaired_tape}
+use Rattle.repair.specs.declared.repairer.Repaired.{Repaired}
 use Rattle.rows.specs.Rows.{width}
 use Rattle.show.specs.Answers.{bad_text, clean_text, refused_text}
 use Rattle.show.specs.Readings.{tape_text}

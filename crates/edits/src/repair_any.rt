@@ -44,8 +44,8 @@ fn repaired(
     copies::copy(&tape[..], aside);
     let r = sarridok::repair(tape, q.count, q.old, q.a, q.b, text);
     match r {
-        Ok((n, before, behind)) => {
-            let a = show::of_repair::counts(o, at, n, before, behind);
+        Ok(p) => {
+            let a = show::of_repair::counts(o, at, p.count, p.before, p.behind);
             show::of_repair::numbers(o, a, &tape[..])
         }
         Err(f) => {

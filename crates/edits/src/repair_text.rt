@@ -46,10 +46,10 @@ fn repaired(
     copies::copy(&tape[..], aside);
     let r = sarridok::repair(tape, q.count, q.old, q.a, q.b, new);
     match r {
-        Ok((n, before, behind)) => {
-            let a = show::of_repair::counts(o, at, n, before, behind);
-            let b = show::of_read::entries(o, a, &tape[..], n, b';');
-            show::clean(o, b, numbers::kept(&tape[..], written(n, q.count)))
+        Ok(p) => {
+            let a = show::of_repair::counts(o, at, p.count, p.before, p.behind);
+            let b = show::of_read::entries(o, a, &tape[..], p.count, b';');
+            show::clean(o, b, numbers::kept(&tape[..], written(p.count, q.count)))
         }
         Err(f) => {
             let a = show::refused(o, at, f);

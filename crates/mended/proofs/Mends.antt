@@ -20,7 +20,8 @@ use Rattle.reading.proofs.Entries.{entries_complete}
 use Rattle.reading.proofs.KeptLaws.{kept_behind_holds}
 use Rattle.read.proofs.AcceptedReads.{read_accepted}
 use Rattle.read.specs.Read.{read_answer, read_tape, reading_of}
-use Rattle.repair.specs.Repair.{Repaired, cleared, entries_by, found_of, kept_of, repair_of, repaired_tape}
+use Rattle.repair.specs.Repair.{cleared, entries_by, found_of, kept_of, repair_of, repaired_tape}
+use Rattle.repair.specs.declared.repairer.Repaired.{Repaired}
 use Rattle.mending.specs.Fresh.{OldText, fresh_by, fresh_call, fresh_call_tape, with_kept}
 use Rattle.mending.proofs.Again.{Held, after_read, after_repair}
 use Rattle.mending.proofs.Demand3.{demand3_call}

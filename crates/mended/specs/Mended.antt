@@ -6,7 +6,8 @@ use Rattle.rows.specs.Rows.{entries_of, laid}
 use Rattle.reading.specs.Kept.{Replaced, are_moved, kept_before, kept_behind, last_of}
 use Rattle.reading.specs.Owed.{quiet_byte}
 use Rattle.read.specs.Read.{read_answer, read_tape}
-use Rattle.repair.specs.Repair.{Repaired, cleared, repair_of, repaired_tape}
+use Rattle.repair.specs.Repair.{cleared, repair_of, repaired_tape}
+use Rattle.repair.specs.declared.repairer.Repaired.{Repaired}
 
 -- `Left text tape n`: an accepted `read` of the text left this tape with n entries, or an accepted `repair` did, over a tape that was left so for a text
 -- with one run replaced.

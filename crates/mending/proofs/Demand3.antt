@@ -23,7 +23,8 @@ use Rattle.read.specs.Read.{fitted, read_answer, reading_of, room_for}
 use Rattle.read.proofs.ReadLaws.{read_fit, read_refused}
 use Rattle.text.specs.Judged.{judged_of}
 use Rattle.repair.proofs.Judging.{behind as behind-judged}
-use Rattle.repair.specs.Repair.{Repaired, answer_by, cleared, entries_by, found_of, kept_of, new_end, repair_answer_of, repair_of, repair_tape_of, repaired_tape, tape_by}
+use Rattle.repair.specs.Repair.{answer_by, cleared, entries_by, found_of, kept_of, new_end, repair_answer_of, repair_of, repair_tape_of, repaired_tape, tape_by}
+use Rattle.repair.specs.declared.repairer.Repaired.{Repaired}
 use Rattle.mending.specs.Fresh.{OldText, fresh_answer, fresh_by, fresh_call, fresh_call_tape, fresh_tape, reaching, with_kept}
 use Rattle.mending.proofs.Whole.{Whole, before_is, fits, new-end, refused_too, whole}
 

@@ -10,7 +10,8 @@ use Rattle.reading.specs.Owed.{quiet_byte}
 use Rattle.reading.specs.Kept.{Replaced, kept_before, kept_behind}
 use Rattle.reading.specs.Readings.{◌▸◌, complete, entries}
 use Rattle.read.specs.Read.{reading_of, fitted, read_answer}
-use Rattle.repair.specs.Repair.{Repaired, cleared, leading}
+use Rattle.repair.specs.Repair.{cleared, leading}
+use Rattle.repair.specs.declared.repairer.Repaired.{Repaired}
 
 -- The tape holds the accepted reading of an old text, in which the bytes from a to b were replaced by others; in the new text these end at e.
 pub record OldText (old tape : List ℕ) (count a b e : ℕ) (new : List ℕ) : Type 0 where

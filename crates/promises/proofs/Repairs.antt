@@ -16,7 +16,8 @@ use Rattle.reading.specs.Readings.{counted, entries}
 use Rattle.tokens.specs.Ron.{ron_token}
 use Rattle.tokens.proofs.RonLaws.{laws}
 use Rattle.read.specs.Read.{reading_of}
-use Rattle.repair.specs.Repair.{Repaired, repair_answer_of, repair_of, repair_tape_of, repaired_tape, told_repair, unless_refused}
+use Rattle.repair.specs.Repair.{repair_answer_of, repair_of, repair_tape_of, repaired_tape, unless_refused}
+use Rattle.repair.specs.declared.repairer.Repaired.{Repaired}
 use Rattle.mending.specs.Fresh.{OldText, fresh_call, fresh_call_tape, reaching}
 use Rattle.mending.proofs.Demand3.{demand3_call, falls, reaches}
 use Rattle.mended.specs.Mended.{AsRead, Left}
@@ -97,26 +98,26 @@ module _ (tape : List ℕ) (count o a b : ℕ) (text : List ℕ) where
   repair_numbers = repair_given tape count o a b text
 
   -- Two answers that meet the promise are equal, and so are the tapes.
-  pub one_repair : (x y : Told (ℕ × ℕ × ℕ)) (u v : List ℕ) → (told_repair x ≡ repair_of tape count o a b text) × (u ≡ repaired_tape tape count o a b text)
-      → (told_repair y ≡ repair_of tape count o a b text) × (v ≡ repaired_tape tape count o a b text) → (x ≡ y) × (u ≡ v)
+  pub one_repair : (x y : Told Repaired) (u v : List ℕ) → (x ≡ repair_of tape count o a b text) × (u ≡ repaired_tape tape count o a b text)
+      → (y ≡ repair_of tape count o a b text) × (v ≡ repaired_tape tape count o a b text) → (x ≡ y) × (u ≡ v)
   one_repair x y u v p q = repair_determined tape count o a b text x y u v (record { told = p.0; tape_after = p.1 }) (record { told = q.0; tape_after = q.1 })
 
 -- ---- what is shut out: no repairer that meets the promise is such
 
 module _ (g : Repairer) (meets : Meets-repair g) where
   -- One that leaves the first tape standing.
-  pub not_first_tape : ((tape : List ℕ) (count o a b : ℕ) (text : List ℕ) (n x y : ℕ) → (g tape count o a b text).0 ≡ Ok (n, x, y) → (g tape count o a b text).1 ≡ tape) → ⊥
+  pub not_first_tape : ((tape : List ℕ) (count o a b : ℕ) (text : List ℕ) (p : Repaired) → (g tape count o a b text).0 ≡ Ok p → (g tape count o a b text).1 ≡ tape) → ⊥
   not_first_tape = repairers.not_first_tape g meets
 
   -- One whose kept numbers are invented: they are those that document 01 counts, so that none has always the same before, nor behind.
-  pub not_invented : (old tape : List ℕ) (count a b e : ℕ) (new : List ℕ) → OldText old tape count a b e new → (n x y : ℕ) → (g tape count (length old) a b new).0 ≡ Ok (n, x, y)
-      → (x ≡ kept_before quiet_byte old a (entries_of count tape)) × (y ≡ kept_behind (length old) (length new) e (entries_of count tape) (entries (reading_of new)))
+  pub not_invented : (old tape : List ℕ) (count a b e : ℕ) (new : List ℕ) → OldText old tape count a b e new → (p : Repaired) → (g tape count (length old) a b new).0 ≡ Ok p
+      → (p.before ≡ kept_before quiet_byte old a (entries_of count tape)) × (p.behind ≡ kept_behind (length old) (length new) e (entries_of count tape) (entries (reading_of new)))
   not_invented = repairers.not_invented g meets
 
-  pub not_one_before : (x : ℕ) → ((tape : List ℕ) (count o a b : ℕ) (text : List ℕ) (n u v : ℕ) → (g tape count o a b text).0 ≡ Ok (n, u, v) → u ≡ x) → ⊥
+  pub not_one_before : (x : ℕ) → ((tape : List ℕ) (count o a b : ℕ) (text : List ℕ) (p : Repaired) → (g tape count o a b text).0 ≡ Ok p → p.before ≡ x) → ⊥
   not_one_before = repairers.not_one_before g meets
 
-  pub not_one_behind : (y : ℕ) → ((tape : List ℕ) (count o a b : ℕ) (text : List ℕ) (n u v : ℕ) → (g tape count o a b text).0 ≡ Ok (n, u, v) → v ≡ y) → ⊥
+  pub not_one_behind : (y : ℕ) → ((tape : List ℕ) (count o a b : ℕ) (text : List ℕ) (p : Repaired) → (g tape count o a b text).0 ≡ Ok p → p.behind ≡ y) → ⊥
   not_one_behind = repairers.not_one_behind g meets
 
 -- There is one that does.

@@ -14,7 +14,8 @@ use Rattle.repair.proofs.Checks.{Fits, fits_true}
 use Rattle.repair.proofs.Clearing.{tape_is}
 use Rattle.repair.proofs.Finding.{join_behind, join_le}
 use Rattle.repair.proofs.Rows.{entries_drop, entries_take}
-use Rattle.repair.specs.Repair.{Repaired, answer_by, cleared, entries_by, found_of, kept_of, moved_from, new_end, repair_answer_of, repair_fits, repair_tape_of, resume_at, tape_by}
+use Rattle.repair.specs.Repair.{answer_by, cleared, entries_by, found_of, kept_of, moved_from, new_end, repair_answer_of, repair_fits, repair_tape_of, resume_at, tape_by}
+use Rattle.repair.specs.declared.repairer.Repaired.{Repaired}
 use Rattle.repair.specs.inner.Steps.{Movable, clipped, clipped_from, finish_answer, finish_tape}
 use Rattle.repair.specs.declared.rewrite.Rest.{Rest}
 use Rattle.rows.proofs.OrderLaws.{in_order_drop, in_order_first, in_order_within}

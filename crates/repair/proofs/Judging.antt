@@ -6,7 +6,8 @@ use mathlib.Core.Path.{◌≡◌, ap, sym, ◌∙◌}
 use Rattle.text.specs.Judged.{behind_judged, judged_of}
 use Rattle.text.specs.Refusals.{Told}
 use Rattle.text.specs.declared.refusal.Refusal.{Refusal}
-use Rattle.repair.specs.Repair.{Repaired, repair_answer_of, repair_of, repair_tape_of, repaired_tape, unless_refused}
+use Rattle.repair.specs.Repair.{repair_answer_of, repair_of, repair_tape_of, repaired_tape, unless_refused}
+use Rattle.repair.specs.declared.repairer.Repaired.{Repaired}
 
 module _ (tape : List ℕ) (count o a b : ℕ) (text : List ℕ) where
   abbrev pub Promised : Told Repaired → List ℕ → Type 0

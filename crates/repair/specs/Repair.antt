@@ -12,6 +12,7 @@ use Rattle.reading.specs.Owed.{quiet_byte}
 use Rattle.reading.specs.Kept.{last_quiet}
 use Rattle.reading.specs.Readings.{Reading, complete, broken, entry, read_from, entries, end_of}
 use Rattle.tokens.specs.Ron.{ron_token}
+use Rattle.repair.specs.declared.repairer.Repaired.{Repaired}
 
 -- ---- 23
 
@@ -72,17 +73,6 @@ scan_of old b e n (broken r) = Err r
 scan_of old b e n (entry x r) = let k = seek_of old b e x.start in let on = scan_of old b e (n + 1) r in cond (joins old b e x.gap x.start k) (Ok (n, k)) on
 
 -- ---- the answer
-
--- How many entries the tape holds then, and how many of them were kept before and behind.
-pub record Repaired : Type 0 where
-  pub count : ℕ
-  pub before : ℕ
-  pub behind : ℕ
-
--- The code's answer in the paper's words.
-abbrev pub told_repair : Told (ℕ × ℕ × ℕ) → Told Repaired
-told_repair (Ok (count, before, behind)) = Ok (record { count = count; before = before; behind = behind })
-told_repair (Err r) = Err r
 
 -- The place behind the first j entries, where the new reading goes on.
 abbrev pub resume_at : List Entry → ℕ → ℕ

@@ -3,7 +3,7 @@ ghost use Rattle.std.specs.Prelude.{◌≡◌, ◌≤◌, ◌+◌, ◌*◌, leng
 ghost use Rattle.reading.specs.Readings.{read_from, entries};
 ghost use Rattle.rows.specs.Rows.{width, room_of, entries_of};
 ghost use Rattle.tokens.specs.Ron.{ron_token};
-ghost use Rattle.repair.specs.Repair.{told_repair, repair_answer_of, repair_tape_of};
+ghost use Rattle.repair.specs.Repair.{repair_answer_of, repair_tape_of};
 ghost use Rattle.repair.specs.inner.Steps.{Movable, finish_answer, finish_tape};
 
 use crate::check::repair_fits;
@@ -14,17 +14,20 @@ use crate::seeking::{ends_before, resume_at};
 use rows::row;
 use text::Refusal;
 
+// How many entries the tape holds then, and how many of them were kept before and behind.
+#[derive(Clone, Copy)]
+pub struct Repaired {
+    pub count: usize,
+    pub before: usize,
+    pub behind: usize,
+}
+
 // The first j entries kept, the rest written anew; 22 last.
-fn finish(
-    tape: &mut [u32],
-    j: usize,
-    text: &[u8],
-    rest: Rest,
-) -> Result<(usize, usize, usize), Refusal>
+fn finish(tape: &mut [u32], j: usize, text: &[u8], rest: Rest) -> Result<Repaired, Refusal>
     requires { (length text.now ≤ 65536) × (rest.from ≤ length text.now)
         × (rest.n ≤ length (entries (read_from ron_token text.now rest.from))) × (j + rest.f + rest.m ≤ room_of (length tape.old))
         × (rest.n ≤ 65536) × Movable rest.b rest.e (entries_of rest.m (drop (width * (j + rest.f)) tape.old)) }
-    ensures { (told_repair result ≡ finish_answer (room_of (length tape.old)) j rest)
+    ensures { (result ≡ finish_answer (room_of (length tape.old)) j rest)
         × (tape.new ≡ finish_tape tape.old j text.now rest) }
 {
     let total = j + rest.n + rest.m;
@@ -32,7 +35,11 @@ fn finish(
         return Err(Refusal::no_room());
     }
     rewrite(&mut tape[row::begins(j)..], text, rest);
-    Ok((total, j, rest.m))
+    Ok(Repaired {
+        count: total,
+        before: j,
+        behind: rest.m,
+    })
 }
 
 // The tape of an old text, in which the bytes from a to b were replaced, made that of the new text, which has at most 65,536 bytes: how many entries it holds
@@ -44,9 +51,9 @@ pub fn repair_text(
     a: usize,
     b: usize,
     text: &[u8],
-) -> Result<(usize, usize, usize), Refusal>
+) -> Result<Repaired, Refusal>
     requires { length text.now ≤ 65536 }
-    ensures { (told_repair result ≡ repair_answer_of tape.old count old_len a b text.now)
+    ensures { (result ≡ repair_answer_of tape.old count old_len a b text.now)
         × (tape.new ≡ repair_tape_of tape.old count old_len a b text.now) }
 {
     if !repair_fits(&tape[..], count, old_len, a, b, text.len()) {

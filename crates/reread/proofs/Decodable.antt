@@ -17,7 +17,8 @@ use Rattle.strings.specs.declared.literal.Literal.{Literal}
 use Rattle.entries.specs.Contents.{Span, contents_in, decoded_in}
 use Rattle.entries.specs.Named.{by_kind, inside_of, named_of}
 use Rattle.read.specs.Read.{read_answer, read_tape, room_for}
-use Rattle.repair.specs.Repair.{Repaired, repair_of, repaired_tape}
+use Rattle.repair.specs.Repair.{repair_of, repaired_tape}
+use Rattle.repair.specs.declared.repairer.Repaired.{Repaired}
 use Rattle.mending.proofs.Again.{Held, after_read, after_repair}
 use Rattle.mending.proofs.Demand3.{demand3_call}
 use Rattle.mending.specs.Fresh.{OldText, fresh_call, with_kept}

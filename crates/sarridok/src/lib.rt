@@ -27,6 +27,7 @@ pub use pieces::finish::finish;
 pub use pieces::piece::piece;
 pub use pieces::state::{Arrival, Arrived, Ended, begin};
 pub use read_call::read;
+pub use repair::repairer::Repaired;
 pub use repair_call::repair;
 pub use skip_call::skip;
 pub use struct_kind_call::struct_kind;

@@ -1,8 +1,8 @@
 // The tape of an old text, made that of a text that differs in one run of bytes.
 ghost use Rattle.std.specs.Prelude.{◌≡◌};
-ghost use Rattle.repair.specs.Repair.{told_repair, repair_of, repaired_tape};
+ghost use Rattle.repair.specs.Repair.{repair_of, repaired_tape};
 
-use repair::repairer::repair_text;
+use repair::repairer::{Repaired, repair_text};
 use text::Refusal;
 use text::judge::judge;
 
@@ -14,8 +14,8 @@ pub fn repair(
     a: usize,
     b: usize,
     text: &[u8],
-) -> Result<(usize, usize, usize), Refusal>
-    ensures { (told_repair result ≡ repair_of tape.old count old_len a b text.now)
+) -> Result<Repaired, Refusal>
+    ensures { (result ≡ repair_of tape.old count old_len a b text.now)
         × (tape.new ≡ repaired_tape tape.old count old_len a b text.now) }
 {
     judge(text)?;

@@ -4,7 +4,7 @@ use Rattle.text.specs.Refusals.{Told}
 use Rattle.text.specs.declared.refusal.Refusal.{Refusal}
 use Rattle.cursor.specs.declared.ParserCursor.{ParserCursor}
 use Rattle.entries.specs.Contents.{Span}
-use Rattle.repair.specs.Repair.{Repaired}
+use Rattle.repair.specs.declared.repairer.Repaired.{Repaired}
 use Rattle.structs.specs.declared.kinds.StructType.{StructType}
 use Rattle.sarridok.specs.Typed.{Typed}
 use Rattle.sarridok_c.specs.Packed.{bit_of, refusal_word}

@@ -2,7 +2,7 @@
 use Rattle.std.specs.Prelude.{ℕ}
 use Rattle.cursor.specs.declared.ParserCursor.{ParserCursor}
 use Rattle.entries.specs.Contents.{Span}
-use Rattle.repair.specs.Repair.{Repaired}
+use Rattle.repair.specs.declared.repairer.Repaired.{Repaired}
 use Rattle.structs.specs.declared.kinds.StructType.{StructType}
 use Rattle.structs.specs.declared.kinds.StructType.TheVariants.{AnyTuple, EmptyTuple, NewtypeTuple, NonNewtypeTuple, Named, Unit as UnitStruct}
 use Rattle.sarridok.specs.Typed.{Typed}

@@ -1,22 +1,23 @@
 // `repair`: the number of entries; how many were kept before and behind goes into lent numbers.
 ghost use Rattle.std.specs.Prelude.{◌≡◌};
-ghost use Rattle.repair.specs.Repair.{told_repair, repair_of, repaired_tape};
+ghost use Rattle.repair.specs.Repair.{repair_of, repaired_tape};
 ghost use Rattle.sarridok_c.specs.Packed.{packed, lent_after};
 ghost use Rattle.sarridok_c.specs.Words.{repaired_word, before_of, behind_of};
 
 use crate::packing::{pair, refused};
+use sarridok::Repaired;
 use text::Refusal;
 
-fn word(answer: Result<(usize, usize, usize), Refusal>, before: &mut u64, behind: &mut u64) -> u64
-    ensures { (result ≡ packed repaired_word (told_repair answer))
-        × (before.new ≡ lent_after before_of (told_repair answer) before.old)
-        × (behind.new ≡ lent_after behind_of (told_repair answer) behind.old) }
+fn word(answer: Result<Repaired, Refusal>, before: &mut u64, behind: &mut u64) -> u64
+    ensures { (result ≡ packed repaired_word answer)
+        × (before.new ≡ lent_after before_of answer before.old)
+        × (behind.new ≡ lent_after behind_of answer behind.old) }
 {
     match answer {
-        Ok((count, kept_before, kept_behind)) => {
-            *before = kept_before as u64;
-            *behind = kept_behind as u64;
-            pair(0, count as u64)
+        Ok(told) => {
+            *before = told.before as u64;
+            *behind = told.behind as u64;
+            pair(0, told.count as u64)
         }
         Err(refusal) => refused(refusal),
     }

@@ -20,7 +20,8 @@ use Rattle.reading.specs.Kept.{all_behind, any_quiet, are_kept, are_moved, count
 use Rattle.reading.specs.Owed.{quiet_byte}
 use Rattle.reading.specs.Readings.{◌▸◌, complete, entries}
 use Rattle.read.specs.Read.{read_answer, reading_of}
-use Rattle.repair.specs.Repair.{Repaired, cleared, repair_of, repaired_tape, told_repair}
+use Rattle.repair.specs.Repair.{cleared, repair_of, repaired_tape}
+use Rattle.repair.specs.declared.repairer.Repaired.{Repaired}
 use Rattle.mending.proofs.Demand3.{demand3_call}
 use Rattle.mending.specs.Fresh.{OldText, fresh_call, fresh_call_tape, with_kept}
 use Rattle.tiled.specs.Forms.Mark.{round, round_end, square, square_end}
@@ -42,35 +43,27 @@ promised g meets old tape count a b e new O =
 abbrev done : ℕ → ℕ → ℕ → Repaired
 done n x y = record { count = n; before = x; behind = y }
 
-same_counts : (b k n x y : ℕ) (t : Told ℕ) → Ok (done n x y) ≡ with_kept b k t → (x ≡ b) × (y ≡ k)
-same_counts b k n x y (Ok m) h =
-    let e : done n x y ≡ done m b k = cc in
+same_counts : (b k : ℕ) (p : Repaired) (t : Told ℕ) → Ok p ≡ with_kept b k t → (p.before ≡ b) × (p.behind ≡ k)
+same_counts b k p (Ok m) h =
+    let e : p ≡ done m b k = cc in
     (ap (λ (r : Repaired). r.before) e, ap (λ (r : Repaired). r.behind) e)
-same_counts b k n x y (Err r) h = let z : ◌≡◌ {A = ℕ} 0 1 = cc in absurd (omega arith)
-
-told_repaired : (r : Told (ℕ × ℕ × ℕ)) (n x y : ℕ) → told_repair r ≡ Ok (done n x y) → r ≡ Ok (n, x, y)
-told_repaired (Ok (m, u, v)) n x y h =
-    let e : done m u v ≡ done n x y = cc in
-    ap (λ (q : Repaired). Ok (q.count, q.before, q.behind)) e
-told_repaired (Err d) n x y h = let z : ◌≡◌ {A = ℕ} 0 1 = cc in absurd (omega arith)
+same_counts b k p (Err r) h = let z : ◌≡◌ {A = ℕ} 0 1 = cc in absurd (omega arith)
 
 module _ (g : Repairer) (meets : Meets-demand3 g) (old tape : List ℕ) (count a b e : ℕ) (new : List ℕ) (O : OldText old tape count a b e new) where
   -- the counts of an accepted repair are the paper's
-  pub kept_told : (n x y : ℕ) → (g tape count (length old) a b new).0 ≡ Ok (n, x, y)
-      → (x ≡ kept_before quiet_byte old a (entries_of count tape)) × (y ≡ kept_behind (length old) (length new) e (entries_of count tape) (entries (reading_of new)))
+  pub kept_told : (p : Repaired) → (g tape count (length old) a b new).0 ≡ Ok p
+      → (p.before ≡ kept_before quiet_byte old a (entries_of count tape)) × (p.behind ≡ kept_behind (length old) (length new) e (entries_of count tape) (entries (reading_of new)))
   unfolding fresh_call
-  kept_told n x y h = same_counts _ _ n x y (read_answer new (length tape)) (sym (ap told_repair h) ∙ (meets old tape count a b e new O).0)
+  kept_told p h = same_counts _ _ p (read_answer new (length tape)) (sym h ∙ (meets old tape count a b e new O).0)
 
   -- where the new text is spelt and there is room, its entries are counted and written
   module _ (es : List Entry) (x : Spelt 0 new es) (short : length new ≤ 65536) (room : length es ≤ room_of (length tape)) where
     pub repairs_spelt : (g tape count (length old) a b new).0
-        ≡ Ok (length es, kept_before quiet_byte old a (entries_of count tape), kept_behind (length old) (length new) e (entries_of count tape) es)
+        ≡ Ok (done (length es) (kept_before quiet_byte old a (entries_of count tape)) (kept_behind (length old) (length new) e (entries_of count tape) es))
     unfolding fresh_call
     repairs_spelt =
-        let was : List Entry = entries_of count tape in
         let all : entries (reading_of new) ≡ es = ap entries (spelt_reading new es x) ∙ entries_complete es in
-        told_repaired (g tape count (length old) a b new).0 (length es) (kept_before quiet_byte old a was) (kept_behind (length old) (length new) e was es)
-        ((meets old tape count a b e new O).0 ∙ rw (spelt_answer new tape es x short room, all))
+        (meets old tape count a b e new O).0 ∙ rw (spelt_answer new tape es x short room, all)
 
     pub rewrites_spelt : entries_of (length es) (g tape count (length old) a b new).1 ≡ es
     unfolding fresh_call_tape laid
@@ -125,44 +118,35 @@ first_old = record {
 }
 
 module _ (g : Repairer) (meets : Meets-demand3 g) where
-  last_repaired : (g pair_tape 2 4 2 3 last_new).0 ≡ Ok (2, 1, 0)
+  last_repaired : (g pair_tape 2 4 2 3 last_new).0 ≡ Ok (done 2 1 0)
   unfolding entries_of kept_before count_of any_quiet quiet_byte kept_behind largest are_kept are_moved is_moved all_behind
   last_repaired = repairs_spelt g meets pair pair_tape 2 2 3 3 last_new last_old last_entries last_spelt (omega arith) (omega arith)
 
-  first_repaired : (g pair_tape 2 4 0 1 first_new).0 ≡ Ok (2, 0, 1)
+  first_repaired : (g pair_tape 2 4 0 1 first_new).0 ≡ Ok (done 2 0 1)
   unfolding entries_of kept_before count_of any_quiet quiet_byte kept_behind largest are_kept are_moved is_moved all_behind
   first_repaired = repairs_spelt g meets pair pair_tape 2 0 1 1 first_new first_old first_entries first_spelt (omega arith) (omega arith)
 
   -- a repair that leaves the first tape standing
-  pub first_tape_left : ((tape : List ℕ) (count o a b : ℕ) (text : List ℕ) (n x y : ℕ) → (g tape count o a b text).0 ≡ Ok (n, x, y) → (g tape count o a b text).1 ≡ tape) → ⊥
+  pub first_tape_left : ((tape : List ℕ) (count o a b : ℕ) (text : List ℕ) (p : Repaired) → (g tape count o a b text).0 ≡ Ok p → (g tape count o a b text).1 ≡ tape) → ⊥
   unfolding entries_of flat
   first_tape_left still =
-      let e = still pair_tape 2 4 0 1 first_new 2 0 1 first_repaired in
+      let e = still pair_tape 2 4 0 1 first_new (done 2 0 1) first_repaired in
       let w = rewrites_spelt g meets pair pair_tape 2 0 1 1 first_new first_old first_entries first_spelt (omega arith) (omega arith) in
       let k : ◌≡◌ {A = ℕ} 1 3 = ap (λ (l : List Entry). get_or (flat l) 0 0) (sym (ap (entries_of 2) e) ∙ w) in
       omega arith
 
   -- one number for what is kept before, whatever is repaired
-  pub one_before : (x : ℕ) → ((tape : List ℕ) (count o a b : ℕ) (text : List ℕ) (n u v : ℕ) → (g tape count o a b text).0 ≡ Ok (n, u, v) → u ≡ x) → ⊥
-  one_before x same = omega (arith, same pair_tape 2 4 2 3 last_new 2 1 0 last_repaired, same pair_tape 2 4 0 1 first_new 2 0 1 first_repaired)
+  pub one_before : (x : ℕ) → ((tape : List ℕ) (count o a b : ℕ) (text : List ℕ) (p : Repaired) → (g tape count o a b text).0 ≡ Ok p → p.before ≡ x) → ⊥
+  one_before x same = omega (arith, same pair_tape 2 4 2 3 last_new (done 2 1 0) last_repaired, same pair_tape 2 4 0 1 first_new (done 2 0 1) first_repaired)
 
   -- and one for what is kept behind
-  pub one_behind : (y : ℕ) → ((tape : List ℕ) (count o a b : ℕ) (text : List ℕ) (n u v : ℕ) → (g tape count o a b text).0 ≡ Ok (n, u, v) → v ≡ y) → ⊥
-  one_behind y same = omega (arith, same pair_tape 2 4 2 3 last_new 2 1 0 last_repaired, same pair_tape 2 4 0 1 first_new 2 0 1 first_repaired)
+  pub one_behind : (y : ℕ) → ((tape : List ℕ) (count o a b : ℕ) (text : List ℕ) (p : Repaired) → (g tape count o a b text).0 ≡ Ok p → p.behind ≡ y) → ⊥
+  one_behind y same = omega (arith, same pair_tape 2 4 2 3 last_new (done 2 1 0) last_repaired, same pair_tape 2 4 0 1 first_new (done 2 0 1) first_repaired)
 
 -- ---- there is one that meets the promise
 
--- the answer that the paper's words tell
-abbrev answer_of : Told Repaired → Told (ℕ × ℕ × ℕ)
-answer_of (Ok r) = Ok (r.count, r.before, r.behind)
-answer_of (Err r) = Err r
-
-told_back : (t : Told Repaired) → told_repair (answer_of t) ≡ t
-told_back (Ok r) = refl
-told_back (Err r) = refl
-
 pub some_repairer : (g : Repairer) × Meets-repair g
 some_repairer = (
-  (λ tape count o a b text. (answer_of (repair_of tape count o a b text), repaired_tape tape count o a b text)),
-  (λ tape count o a b text. (told_back (repair_of tape count o a b text), refl)),
+  (λ tape count o a b text. (repair_of tape count o a b text, repaired_tape tape count o a b text)),
+  (λ tape count o a b text. (refl, refl)),
 )

@@ -4,7 +4,8 @@
 use Rattle.text.specs.Refusals.{Told}
 use Rattle.std.specs.Prelude.{ℕ, List, ◌≡◌, length}
 use Rattle.read.specs.Read.{read_answer, read_tape}
-use Rattle.repair.specs.Repair.{repair_of, repaired_tape, told_repair}
+use Rattle.repair.specs.Repair.{repair_of, repaired_tape}
+use Rattle.repair.specs.declared.repairer.Repaired.{Repaired}
 use Rattle.mending.specs.Fresh.{OldText, fresh_call, fresh_call_tape}
 
 -- A reader: what it answers and how it leaves the tape, for every text and tape.
@@ -17,14 +18,14 @@ Meets-read f = (text tape : List ℕ) → ((f text tape).0 ≡ read_answer text 
 
 -- A repairer: what it answers and how it leaves the tape, for every tape, count, old length, cut from a to b and new text.
 abbrev pub Repairer : Type 0
-Repairer = (tape : List ℕ) (count o a b : ℕ) (text : List ℕ) → Told (ℕ × ℕ × ℕ) × List ℕ
+Repairer = (tape : List ℕ) (count o a b : ℕ) (text : List ℕ) → Told Repaired × List ℕ
 
 -- It meets the promise of `repair`.
 abbrev pub Meets-repair : Repairer → Type 0
 Meets-repair g = (tape : List ℕ) (count o a b : ℕ) (text : List ℕ)
-    → (told_repair (g tape count o a b text).0 ≡ repair_of tape count o a b text) × ((g tape count o a b text).1 ≡ repaired_tape tape count o a b text)
+    → ((g tape count o a b text).0 ≡ repair_of tape count o a b text) × ((g tape count o a b text).1 ≡ repaired_tape tape count o a b text)
 
 -- It meets demand 3, which asks less: over the tape of an old text alone it answers as a fresh reading of the new text does, and leaves its entries.
 abbrev pub Meets-demand3 : Repairer → Type 0
 Meets-demand3 g = (old tape : List ℕ) (count a b e : ℕ) (new : List ℕ) → OldText old tape count a b e new
-    → (told_repair (g tape count (length old) a b new).0 ≡ fresh_call old tape count a e new) × ((g tape count (length old) a b new).1 ≡ fresh_call_tape tape count new)
+    → ((g tape count (length old) a b new).0 ≡ fresh_call old tape count a e new) × ((g tape count (length old) a b new).1 ≡ fresh_call_tape tape count new)

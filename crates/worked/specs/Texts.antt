@@ -11,7 +11,8 @@ use Rattle.structs.specs.declared.kinds.TupleMode.{TupleMode}
 use Rattle.structs.specs.declared.kinds.TupleMode.TheVariants.{DifferentiateNewtype}
 use Rattle.structs.specs.declared.kinds.StructType.{StructType}
 use Rattle.structs.specs.declared.kinds.StructType.TheVariants.{NewtypeTuple}
-use Rattle.repair.specs.Repair.{Repaired, repair_of, repaired_tape}
+use Rattle.repair.specs.Repair.{repair_of, repaired_tape}
+use Rattle.repair.specs.declared.repairer.Repaired.{Repaired}
 use Rattle.sarridok.specs.Typed.{Typed, integer_of}
 use Rattle.sarridok.specs.Integers.{done, integers_of, magnitudes_after, codes_after}
 use Rattle.sarridok.specs.Contents.{decoded_answer, decoded_out}

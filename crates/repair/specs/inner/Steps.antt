@@ -7,7 +7,8 @@ use Rattle.reading.specs.Readings.{read_from, entries}
 use Rattle.tokens.specs.Ron.{ron_token}
 use Rattle.repair.specs.declared.rewrite.Rest.{Rest}
 use Rattle.rows.specs.declared.Entry.{Entry}
-use Rattle.repair.specs.Repair.{leading, seek_of, joins, no_entry, cleared, Repaired}
+use Rattle.repair.specs.Repair.{leading, seek_of, joins, no_entry, cleared}
+use Rattle.repair.specs.declared.repairer.Repaired.{Repaired}
 use Rattle.repair.specs.declared.seeking.Met.{Met}
 use Rattle.repair.specs.declared.seeking.Met.TheVariants.{At, Next}
 
