@@ -4,17 +4,7 @@ ghost use Rattle.sarridok.specs.Contents.{decoded_answer, decoded_out};
 ghost use Rattle.sarridok_c.specs.Packed.{packed};
 ghost use Rattle.sarridok_c.specs.Words.{count_word};
 
-use crate::packing::{pair, refused};
-use text::Refusal;
-
-fn word(answer: Result<usize, Refusal>) -> u64
-    ensures { result ≡ packed count_word answer }
-{
-    match answer {
-        Ok(count) => pair(0, count as u64),
-        Err(refusal) => refused(refusal),
-    }
-}
+use crate::packing::counted;
 
 // Decodes the contents of a string entry into `out`. Its answer is how many bytes stand at the front of it.
 pub fn sarridok_decoded(
@@ -27,5 +17,5 @@ pub fn sarridok_decoded(
     ensures { (result ≡ packed count_word (decoded_answer text.now tape.now count entry (length out.old)))
         × (out.new ≡ decoded_out text.now tape.now count entry out.old) }
 {
-    word(sarridok::decoded(text, tape, count, entry, out))
+    counted(sarridok::decoded(text, tape, count, entry, out))
 }

@@ -4,17 +4,7 @@ ghost use Rattle.sarridok.specs.Integers.{done, integers_of, magnitudes_after, c
 ghost use Rattle.sarridok_c.specs.Packed.{packed};
 ghost use Rattle.sarridok_c.specs.Words.{done_word};
 
-use crate::packing::refused;
-use text::Refusal;
-
-fn word(answer: Result<(), Refusal>) -> u64
-    ensures { result ≡ packed done_word answer }
-{
-    match answer {
-        Ok(()) => 0,
-        Err(refusal) => refused(refusal),
-    }
-}
+use crate::packing::done;
 
 // Reads the integers that a list of entries names, each in its entry's width. Its answer is 0; a magnitude and a code are written for each.
 pub fn sarridok_integers(
@@ -32,5 +22,5 @@ pub fn sarridok_integers(
     ensures codes { codes.new ≡
         codes_after text.now tape.now count items.now magnitudes.old codes.old }
 {
-    word(sarridok::integers(text, tape, count, items, magnitudes, codes))
+    done(sarridok::integers(text, tape, count, items, magnitudes, codes))
 }

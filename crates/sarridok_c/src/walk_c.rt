@@ -4,17 +4,7 @@ ghost use Rattle.sarridok.specs.Walked.{walk_of, links_after};
 ghost use Rattle.sarridok_c.specs.Packed.{packed};
 ghost use Rattle.sarridok_c.specs.Words.{done_word};
 
-use crate::packing::refused;
-use text::Refusal;
-
-fn word(answer: Result<(), Refusal>) -> u64
-    ensures { result ≡ packed done_word answer }
-{
-    match answer {
-        Ok(()) => 0,
-        Err(refusal) => refused(refusal),
-    }
-}
+use crate::packing::done;
 
 // Joins the brackets of a tape, at most `limit` of them open at once, and no field named again in its ( ). Its answer is 0; the links are written.
 pub fn sarridok_walk(
@@ -27,5 +17,5 @@ pub fn sarridok_walk(
     ensures { (result ≡ packed done_word (walk_of text.now tape.now count limit (length links.old)))
         × (links.new ≡ links_after text.now tape.now count limit links.old) }
 {
-    word(sarridok::walk(text, tape, count, limit, links))
+    done(sarridok::walk(text, tape, count, limit, links))
 }

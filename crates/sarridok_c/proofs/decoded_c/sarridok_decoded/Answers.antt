@@ -4,4 +4,4 @@ use Rattle.sarridok_c.specs.Words.{count_word}
 use Rattle.sarridok_c.proofs.decoded_c.sarridok_decoded.Goals as goal
 
 pub returns : goal.returns
-returns c = (c.word.ensures ∙ ap (packed count_word) c.decoded.ensures.result_value, c.decoded.ensures.out_after)
+returns c = (c.counted.ensures ∙ ap (packed count_word) c.decoded.ensures.result_value, c.decoded.ensures.out_after)

@@ -6,7 +6,7 @@ use Rattle.sarridok_c.proofs.integers_c.sarridok_integers.Goals as goal
 pub returns : goal.returns
 returns c =
     record {
-      answer = c.word.ensures ∙ ap (packed done_word) c.integers.ensures.answer;
+      answer = c.done.ensures ∙ ap (packed done_word) c.integers.ensures.answer;
       magnitudes = c.integers.ensures.magnitudes;
       codes = c.integers.ensures.codes;
     }

@@ -1,4 +1,4 @@
-use Rattle.sarridok_c.proofs.decoded_c.word.Goals as goal
+use Rattle.sarridok_c.proofs.packing.counted.Goals as goal
 
 pub returns-in-Ok : goal.returns-in-Ok
 returns-in-Ok c = rw c.in-Ok.is c.pair.ensures

@@ -1,4 +1,4 @@
-use Rattle.sarridok_c.proofs.integers_c.word.Goals as goal
+use Rattle.sarridok_c.proofs.packing.done.Goals as goal
 
 pub returns-in-Ok : goal.returns-in-Ok
 returns-in-Ok c = rw c.in-Ok.is
