@@ -27,7 +27,10 @@ pub fn pair(high: u64, low: u64) -> u64
 pub fn bit(set: bool) -> u64
     ensures { result ≡ bit_of set }
 {
-    u64::from(set)
+    if set {
+        return 1;
+    }
+    0
 }
 
 // The top bit, the refusal's reason, its number and its place.
