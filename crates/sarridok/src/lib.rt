@@ -19,6 +19,7 @@ mod walk_call;
 pub use contents_call::{contents, contents_part};
 pub use cursor::ParserCursor;
 pub use decoded_call::decoded;
+pub use entries::view::Span;
 pub use gaps::Open;
 pub use integer_call::integer;
 pub use integers::{Value, Width};

@@ -3,7 +3,7 @@ use Rattle.std.specs.Prelude.{Ok, Err, ℕ, ◌/◌, ◌%◌, ◌^◌, ◌≡◌
 use Rattle.text.specs.Refusals.{Told}
 use Rattle.text.specs.declared.refusal.Refusal.{Refusal}
 use Rattle.cursor.specs.declared.ParserCursor.{ParserCursor}
-use Rattle.entries.specs.Contents.{Span}
+use Rattle.entries.specs.declared.view.Span.{Span}
 use Rattle.repair.specs.Repair.{Repaired}
 use Rattle.structs.specs.declared.kinds.StructType.{StructType}
 use Rattle.sarridok.specs.Typed.{Typed}

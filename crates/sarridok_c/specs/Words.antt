@@ -1,7 +1,7 @@
 -- What the number of each accepted call holds, and what goes into its lent numbers.
 use Rattle.std.specs.Prelude.{ℕ}
 use Rattle.cursor.specs.declared.ParserCursor.{ParserCursor}
-use Rattle.entries.specs.Contents.{Span}
+use Rattle.entries.specs.declared.view.Span.{Span}
 use Rattle.repair.specs.Repair.{Repaired}
 use Rattle.structs.specs.declared.kinds.StructType.{StructType}
 use Rattle.structs.specs.declared.kinds.StructType.TheVariants.{AnyTuple, EmptyTuple, NewtypeTuple, NonNewtypeTuple, Named, Unit as UnitStruct}
