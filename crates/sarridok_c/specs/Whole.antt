@@ -6,7 +6,7 @@ use Rattle.cursor.specs.declared.ParserCursor.{ParserCursor}
 use Rattle.entries.specs.declared.view.Span.{Span}
 use Rattle.repair.specs.Repair.{Repaired}
 use Rattle.structs.specs.declared.kinds.StructType.{StructType}
-use Rattle.sarridok.specs.Typed.{Typed}
+use Rattle.sarridok.specs.declared.integer_call.Typed.{Typed}
 use Rattle.sarridok_c.specs.Packed.{bit_of, refusal_word}
 use Rattle.sarridok_c.specs.Words.{kind_word}
 

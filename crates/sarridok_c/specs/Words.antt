@@ -5,7 +5,7 @@ use Rattle.entries.specs.declared.view.Span.{Span}
 use Rattle.repair.specs.Repair.{Repaired}
 use Rattle.structs.specs.declared.kinds.StructType.{StructType}
 use Rattle.structs.specs.declared.kinds.StructType.TheVariants.{AnyTuple, EmptyTuple, NewtypeTuple, NonNewtypeTuple, Named, Unit as UnitStruct}
-use Rattle.sarridok.specs.Typed.{Typed}
+use Rattle.sarridok.specs.declared.integer_call.Typed.{Typed}
 use Rattle.sarridok_c.specs.Packed.{pair_of, bit_of}
 
 -- Read and decoded: how many entries or bytes.
