@@ -8,7 +8,7 @@ use Rattle.lines.specs.Ascii.{ascii}
 use Rattle.lines.specs.Out.{put}
 use Rattle.lines.proofs.LineLaws.{lent_front, lent_whole}
 use Rattle.lines.proofs.OutLaws.{then}
-use Rattle.entries.specs.Contents.{Span}
+use Rattle.entries.specs.declared.view.Span.{Span}
 use Rattle.sarridok.specs.Contents.{contents_of, decoded_answer}
 use Rattle.show.specs.Answers.{answer_text, clean_text}
 use Rattle.show.specs.Contents.{span_text, wrote_text}

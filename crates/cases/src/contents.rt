@@ -1,12 +1,12 @@
 // Contents and decoded of an entry: the view, then the decoding into a marked buffer.
 ghost use Rattle.std.specs.Prelude.{◌≡◌, true, length};
 ghost use Rattle.lines.specs.Out.{put};
-ghost use Rattle.entries.specs.Contents.{told_contents};
 ghost use Rattle.sarridok.specs.Contents.{part_of, decoded_answer};
 ghost use Rattle.cases.specs.Contents.{wrote_of, view_text, decoding_text, both_text, buffer_after, most_for, room_for, contents_in};
 
 use lent::bytes;
 use lines::out;
+use sarridok::Span;
 use text::Refusal;
 
 // What a line asks: an entry, the tape's count, and how many bytes the buffer has.
@@ -18,12 +18,12 @@ pub struct Asked {
 }
 
 // Whether the part from the one call is what the other says.
-fn agrees(view: Result<(usize, usize), Refusal>, text: &[u8], part: &[u8]) -> bool
-    requires { part.now ≡ part_of text.now (told_contents view) }
+fn agrees(view: Result<Span, Refusal>, text: &[u8], part: &[u8]) -> bool
+    requires { part.now ≡ part_of text.now view }
     ensures { result ≡ true }
 {
     match view {
-        Ok((start, end)) => check::same(part, lines::part(text, start, end)),
+        Ok(s) => check::same(part, lines::part(text, s.start, s.end)),
         Err(_) => part.len() == 0,
     }
 }

@@ -15,7 +15,8 @@ use Rattle.text.proofs.JudgeLaws.{place_within}
 use Rattle.rows.specs.declared.Entry.{Entry}
 use Rattle.rows.specs.Rows.{room_of, entry_at}
 use Rattle.entries.specs.Named.{by_kind, inside_of, named_of, literal_of}
-use Rattle.entries.specs.Contents.{Span, by_named, contents_in}
+use Rattle.entries.specs.declared.view.Span.{Span}
+use Rattle.entries.specs.Contents.{by_named, contents_in}
 use Rattle.entries.proofs.LiteralLaws.{read_inside}
 
 -- the place fits the text

@@ -2,19 +2,10 @@
 -- case." 29: contents hold an escape or a line continuation. 22, no room, is last. "A refused call writes nothing. An accepted decoding leaves the slice
 -- behind what it writes as it found it."
 use Rattle.std.specs.Prelude.{Ok, Err}
+use Rattle.entries.specs.declared.view.Span.{Span}
 use Rattle.strings.specs.declared.literal.Literal.{Literal}
 use Rattle.std.specs.Prelude.{ℕ, ◌+◌, List, ◌++◌, Bool, cond, drop, ltb}
 use Rattle.text.specs.Refusals.{Told, placed_behind, no_room, holds_escape}
-
--- A part of the text: its start and its end.
-pub record Span : Type 0 where
-  pub start : ℕ
-  pub end : ℕ
-
--- The paper's answer for each case of the code's.
-abbrev pub told_contents : Told (ℕ × ℕ) → Told Span
-told_contents (Ok (a, b)) = Ok (record { start = a; end = b })
-told_contents (Err r) = Err r
 
 -- What is said of the string that an entry names; 28, 23 and 27 come before.
 abbrev pub by_named : {A : Type 0} → Told (Bool × ℕ) → (Bool → ℕ → Told A) → Told A

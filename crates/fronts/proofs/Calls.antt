@@ -24,7 +24,7 @@ use Rattle.sarridok.specs.Contents.{contents_of, decoded_answer}
 use Rattle.sarridok.specs.Integers.{in_room, integers_of, items_from}
 use Rattle.sarridok.specs.Skip.{skip_of}
 use Rattle.sarridok.specs.StructKind.{struct_kind_of}
-use Rattle.sarridok.specs.Typed.{integer_at, integer_of, placed_at, told_integer as toldTyped}
+use Rattle.sarridok.specs.Typed.{integer_at, integer_of, placed_at}
 use Rattle.given.proofs.Front.{number-in, told_number}
 use Rattle.given.proofs.Listed.{integers_own}
 use Rattle.given.proofs.Owns.{contents_own, decoded_own, or_unfit, skip_own, struct_own}
@@ -42,7 +42,7 @@ skip_front text c = front text _ (or_unfit (cursor_fits text c) _ (skip_own text
 
 -- integer and struct kind ask of their place
 pub integer_front : (text : List ℕ) (place : ℕ) (width : Width)
-    → FrontOf text (integer_of text place width) (cond (place_fits text place) (toldTyped (placed_at place (integer_at width (drop place text)))) (Err unfit))
+    → FrontOf text (integer_of text place width) (cond (place_fits text place) (placed_at place (integer_at width (drop place text))) (Err unfit))
 unfolding integer_of behind_front
 integer_front text place width = front text _ (or_unfit (place_fits text place) _ (integer_own place width (drop place text)))
 

@@ -23,7 +23,7 @@ use Rattle.structs.specs.declared.kinds.NewtypeMode.{NewtypeMode}
 use Rattle.structs.specs.declared.kinds.TupleMode.{TupleMode}
 use Rattle.sarridok.specs.Skip.{skip_of}
 use Rattle.sarridok.specs.StructKind.{struct_kind_of}
-use Rattle.sarridok.specs.Typed.{integer_at, integer_of, placed_at, told_integer as toldTyped}
+use Rattle.sarridok.specs.Typed.{integer_at, integer_of, placed_at}
 use Rattle.given.proofs.Front.{FourTo-told, number-in, told_number}
 use Rattle.given.proofs.Owns.{skip_own, struct_own}
 use Rattle.given.proofs.Typed.{integer_own}
@@ -97,7 +97,7 @@ skip_placed text c s = placed (cursor_fits text c) _ _ _ ((skip_front text c).pa
 
 -- integer gives 28 exactly where its place is no boundary
 pub integer_placed : (text : List ℕ) (place : ℕ) (width : Width) → Sound text
-    → PlacedOf (Boundary text place) (integer_of text place width) (toldTyped (placed_at place (integer_at width (drop place text))))
+    → PlacedOf (Boundary text place) (integer_of text place width) (placed_at place (integer_at width (drop place text)))
 integer_placed text place width s =
     placed (place_fits text place) _ _ _ ((integer_front text place width).past s) (integer_own place width (drop place text)) (place_exactly text place s.encoded)
 

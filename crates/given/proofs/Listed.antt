@@ -13,8 +13,10 @@ use Rattle.integers.specs.Width.{width_at}
 use Rattle.integers.specs.declared.width.Width.{Width}
 use Rattle.rows.specs.Rows.{entry_at, room_of}
 use Rattle.rows.specs.declared.Entry.{Entry}
-use Rattle.sarridok.specs.Integers.{Coded, before, coded_as, entry_integer, in_room, integers_of, item_of, items_from, names_integer}
-use Rattle.sarridok.specs.Typed.{Typed, integer_of}
+use Rattle.sarridok.specs.declared.items.Coded.{Coded}
+use Rattle.sarridok.specs.Integers.{before, coded_as, entry_integer, in_room, integers_of, item_of, items_from, names_integer}
+use Rattle.sarridok.specs.declared.integer_call.Typed.{Typed}
+use Rattle.sarridok.specs.Typed.{integer_of}
 use Rattle.given.specs.Given.{Given, within}
 use Rattle.given.proofs.Both.{both}
 use Rattle.given.proofs.Front.{Given-told, Own-told, answered, behind_given, own_given}

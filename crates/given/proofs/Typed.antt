@@ -12,7 +12,7 @@ use Rattle.integers.specs.declared.integer.Integer.{Integer}
 use Rattle.integers.specs.declared.integer.Integer.TheVariants as integer
 use Rattle.integers.specs.declared.width.Width.{Width}
 use Rattle.strings.specs.Chars.{byte_of}
-use Rattle.sarridok.specs.Typed.{byte_as, integer_at, placed_at, told_integer}
+use Rattle.sarridok.specs.Typed.{byte_as, integer_at, placed_at}
 use Rattle.given.specs.Given.{within}
 use Rattle.given.proofs.Both.{both}
 use Rattle.given.proofs.Chars.{Inner-byte, byte_inner}
@@ -27,11 +27,11 @@ at_inner : (width : Width) (s : List ℕ) → Inner-integer (integer_at width s)
 unfolding integer_at
 at_inner width s = both Inner-integer (starts_with (0x62 ∷ 0x27 ∷ []) s) (byte-as width (byte_of s) (byte_inner s)) (typed_inner width s)
 
-placed_own : (place : ℕ) (a : Integer) → Inner-integer a → FourTo-told 27 (told_integer (placed_at place a))
+placed_own : (place : ℕ) (a : Integer) → Inner-integer a → FourTo-told 27 (placed_at place a)
 unfolding within
 placed_own place (integer.Read v end) h = tt
 placed_own place integer.OtherSuffix h = refl
 placed_own place (integer.Refused r) h = higher 21 27 r (lit≤ tt) h
 
-pub integer_own : (place : ℕ) (width : Width) (s : List ℕ) → FourTo-told 27 (told_integer (placed_at place (integer_at width s)))
+pub integer_own : (place : ℕ) (width : Width) (s : List ℕ) → FourTo-told 27 (placed_at place (integer_at width s))
 integer_own place width s = placed_own place (integer_at width s) (at_inner width s)

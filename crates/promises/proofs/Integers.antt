@@ -18,7 +18,8 @@ use Rattle.integers.specs.declared.width.Width.{Width}
 use Rattle.integers.proofs.Exactly as runs
 use Rattle.rows.specs.Rows.{entry_at}
 use Rattle.read.specs.Read.{read_answer, read_tape}
-use Rattle.sarridok.specs.Typed.{Typed, integer_at, integer_of, placed_at, told_integer}
+use Rattle.sarridok.specs.declared.integer_call.Typed.{Typed}
+use Rattle.sarridok.specs.Typed.{integer_at, integer_of, placed_at}
 use Rattle.sarridok.proofs.IntegerDetermined.{integer_determined}
 use Rattle.written.specs.Accepted.{ByteAccepted, NumberAccepted}
 use Rattle.written.specs.Refused.{DigitTooHigh, NoDigits, OtherByte, OtherWidth, OutOfBounds, TextEnds, UnderscoreFirst}
@@ -59,11 +60,11 @@ module _ (signed : Bool) (bits : ℕ) (minus : Bool) (base : ℕ) (positive : 0 
 
 module _ (text : List ℕ) (place : ℕ) (width : Width) where
   -- 1 and 2 exactly in their cases, and past both exactly where the text is sound.
-  pub integer_front : FrontOf text (integer_of text place width) (cond (place_fits text place) (told_integer (placed_at place (integer_at width (drop place text)))) (Err unfit))
+  pub integer_front : FrontOf text (integer_of text place width) (cond (place_fits text place) (placed_at place (integer_at width (drop place text))) (Err unfit))
   integer_front = fronts.integer_front text place width
 
   -- 28 exactly where the place is no boundary of characters.
-  pub integer_placed : Sound text → PlacedOf (Boundary text place) (integer_of text place width) (told_integer (placed_at place (integer_at width (drop place text))))
+  pub integer_placed : Sound text → PlacedOf (Boundary text place) (integer_of text place width) (placed_at place (integer_at width (drop place text)))
   integer_placed = places.integer_placed text place width
 
   -- What is accepted, where no byte literal stands, is the number written at the place: by its sign, its prefix's base and its digits, the underscores
@@ -107,7 +108,7 @@ module _ (text : List ℕ) (place : ℕ) (width : Width) where
   integer_numbers = integer_given text place width
 
   -- Two answers that meet the promise are equal.
-  pub one_integer : (x y : Told (Number × ℕ)) → told_integer x ≡ integer_of text place width → told_integer y ≡ integer_of text place width → x ≡ y
+  pub one_integer : (x y : Told Typed) → x ≡ integer_of text place width → y ≡ integer_of text place width → x ≡ y
   one_integer = integer_determined text place width
 
 -- ---- the integers of an accepted read

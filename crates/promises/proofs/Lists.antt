@@ -12,7 +12,8 @@ use Rattle.text.specs.Refusals.{Told, not_in_order}
 use Rattle.text.specs.declared.refusal.Refusal.{Refusal}
 use Rattle.rows.specs.Rows.{entry_at, room_of}
 use Rattle.read.specs.Read.{read_answer, read_tape}
-use Rattle.sarridok.specs.Integers.{Coded, codes_after, done, in_room, integers_of, item_of, items_from, magnitudes_after}
+use Rattle.sarridok.specs.declared.items.Coded.{Coded}
+use Rattle.sarridok.specs.Integers.{codes_after, done, in_room, integers_of, item_of, items_from, magnitudes_after}
 use Rattle.sarridok.specs.Listed.{Entered, ItemReads, ItemRefused, ListReads, ListRefused}
 use Rattle.sarridok.proofs.IntegersDetermined.{codes_determined, integers_determined, magnitudes_determined}
 use Rattle.sarridok.proofs.IntegersMeans as means

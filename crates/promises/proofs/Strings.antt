@@ -28,7 +28,8 @@ use Rattle.quoted.proofs.Exactly as quotes
 use Rattle.quoted.proofs.WrongChars as wrong-chars
 use Rattle.quoted.proofs.WrongStrings as wrong-strings
 use Rattle.rows.specs.Rows.{entry_at}
-use Rattle.entries.specs.Contents.{Span, by_named, contents_in, decoded_in, told_contents, written_by}
+use Rattle.entries.specs.declared.view.Span.{Span}
+use Rattle.entries.specs.Contents.{by_named, contents_in, decoded_in, written_by}
 use Rattle.entries.specs.Named.{literal_decoded, literal_of, named_of}
 use Rattle.read.specs.Read.{read_answer, read_tape}
 use Rattle.sarridok.specs.Contents.{contents_of, decoded_answer, decoded_out, named_bytes, part_of}
@@ -162,7 +163,7 @@ module _ (text tape : List ℕ) (count entry : ℕ) where
   contents_numbers = contents_given text tape count entry
 
   -- Two answers that meet the promise are equal, and so are two parts.
-  pub one_contents : (x y : Told (ℕ × ℕ)) → told_contents x ≡ contents_of text tape count entry → told_contents y ≡ contents_of text tape count entry → x ≡ y
+  pub one_contents : (x y : Told Span) → x ≡ contents_of text tape count entry → y ≡ contents_of text tape count entry → x ≡ y
   one_contents = contents_determined text tape count entry
 
   pub one_part : (x y : List ℕ) → x ≡ part_of text (contents_of text tape count entry) → y ≡ part_of text (contents_of text tape count entry) → x ≡ y

@@ -14,7 +14,8 @@ use Rattle.text.specs.Refusals.{Told, no_room}
 use Rattle.rows.specs.Rows.{entry_at, room_of}
 use Rattle.rows.specs.declared.Entry.{Entry}
 use Rattle.strings.specs.declared.literal.Literal.{Literal}
-use Rattle.entries.specs.Contents.{Span, contents_in, decoded_in}
+use Rattle.entries.specs.declared.view.Span.{Span}
+use Rattle.entries.specs.Contents.{contents_in, decoded_in}
 use Rattle.entries.specs.Named.{by_kind, inside_of, named_of}
 use Rattle.read.specs.Read.{read_answer, read_tape, room_for}
 use Rattle.repair.specs.Repair.{repair_of, repaired_tape}

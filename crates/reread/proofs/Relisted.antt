@@ -16,7 +16,8 @@ use Rattle.integers.specs.declared.width.Width.TheVariants.{I8, I16, I32, I64, U
 use Rattle.rows.specs.Rows.{entry_at}
 use Rattle.read.specs.Read.{read_answer, read_tape}
 use Rattle.mending.proofs.Again.{Held, after_read}
-use Rattle.sarridok.specs.Integers.{Coded, code_for, entry_integer, integers_of, item_of, names_integer}
+use Rattle.sarridok.specs.declared.items.Coded.{Coded}
+use Rattle.sarridok.specs.Integers.{code_for, entry_integer, integers_of, item_of, names_integer}
 use Rattle.sarridok.specs.inner.Items.{verdict_of}
 use Rattle.sarridok.proofs.IntegersLaws.{by-room}
 use Rattle.sarridok.proofs.IntegersMeans.{makes_all}

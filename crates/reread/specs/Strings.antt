@@ -4,7 +4,7 @@ use Rattle.std.specs.Prelude.{Ok, Err, ℕ, List, ◌⊎◌, ◌≡◌, length}
 use Rattle.text.specs.Refusals.{holds_escape}
 use Rattle.rows.specs.Rows.{entry_at}
 use Rattle.rows.specs.declared.Entry.{Entry}
-use Rattle.entries.specs.Contents.{Span}
+use Rattle.entries.specs.declared.view.Span.{Span}
 use Rattle.sarridok.specs.Contents.{contents_of, part_of}
 
 -- The entry is a string or a byte string.

@@ -17,7 +17,8 @@ use Rattle.strings.specs.Strings.{string_of, string_decoded}
 use Rattle.strings.proofs.Encodes.{string_encoded}
 use Rattle.strings.proofs.Wholes.{string_whole, byte_string_whole}
 use Rattle.entries.specs.Named.{named_of, literal_of, literal_decoded}
-use Rattle.entries.specs.Contents.{Span, by_named, contents_in, decoded_in}
+use Rattle.entries.specs.declared.view.Span.{Span}
+use Rattle.entries.specs.Contents.{by_named, contents_in, decoded_in}
 use Rattle.entries.proofs.NamedLaws.{named_fits}
 use Rattle.text.proofs.Cuts.{part_encoded}
 use Rattle.sarridok.specs.Contents.{contents_of, part_of, named_bytes, decoded_answer}

@@ -1,25 +1,15 @@
 -- Two answers that meet the promise of `contents` are equal, and so are two parts and two decodings, the buffer afterwards included. Assumes nothing.
-use Rattle.std.proofs.Common.{Ok, Err}
 use Prim.Native.Nat.{ℕ}
 use mathlib.Core.List.{List}
-use mathlib.Core.Path.{◌∙◌, ◌≡◌, ap, refl, sym}
+use mathlib.Core.Path.{◌∙◌, ◌≡◌, sym}
 use lib.ListN.{length}
 use Rattle.text.specs.Refusals.{Told}
-use Rattle.entries.specs.Contents.{Span, told_contents}
+use Rattle.entries.specs.declared.view.Span.{Span}
 use Rattle.sarridok.specs.Contents.{contents_of, part_of, decoded_answer, decoded_out}
 
-meant : Told Span → Told (ℕ × ℕ)
-meant (Ok s) = Ok (s.start, s.end)
-meant (Err r) = Err r
-
-meant_told : (a : Told (ℕ × ℕ)) → meant (told_contents a) ≡ a
-unfolding meant
-meant_told (Ok (start, end)) = refl
-meant_told (Err r) = refl
-
 module _ (text tape : List ℕ) (count entry : ℕ) where
-  pub contents_determined : (a b : Told (ℕ × ℕ)) → told_contents a ≡ contents_of text tape count entry → told_contents b ≡ contents_of text tape count entry → a ≡ b
-  contents_determined a b p q = sym (meant_told a) ∙ ap meant (p ∙ sym q) ∙ meant_told b
+  pub contents_determined : (a b : Told Span) → a ≡ contents_of text tape count entry → b ≡ contents_of text tape count entry → a ≡ b
+  contents_determined a b p q = p ∙ sym q
 
   pub part_determined : (a b : List ℕ) → a ≡ part_of text (contents_of text tape count entry) → b ≡ part_of text (contents_of text tape count entry) → a ≡ b
   part_determined a b p q = p ∙ sym q

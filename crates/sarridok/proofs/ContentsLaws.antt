@@ -9,7 +9,8 @@ use Rattle.text.specs.Refusals.{Told}
 use Rattle.text.specs.Judged.{judged_of, behind_judged}
 use Rattle.text.specs.declared.refusal.Refusal.{Refusal}
 use Rattle.entries.specs.Named.{named_of, literal_of, literal_decoded}
-use Rattle.entries.specs.Contents.{Span, contents_in, decoded_in, written_by}
+use Rattle.entries.specs.declared.view.Span.{Span}
+use Rattle.entries.specs.Contents.{contents_in, decoded_in, written_by}
 use Rattle.entries.proofs.NamedLaws.{Inside, contents_inside, named_within}
 use Rattle.sarridok.specs.Contents.{contents_of, decoded_answer, decoded_out}
 

@@ -14,7 +14,7 @@ use Rattle.strings.specs.Pieces.{behind_backslash, body_from, body_of, decoded_o
 use Rattle.strings.specs.Quoted.{measured, quoted_of}
 use Rattle.strings.specs.Strings.{string_decoded, string_of}
 use Rattle.entries.specs.Named.{by_kind, inside_of, named_of}
-use Rattle.entries.specs.Contents.{Span}
+use Rattle.entries.specs.declared.view.Span.{Span}
 use Rattle.sarridok.specs.Contents.{contents_of, part_of, decoded_answer, decoded_out}
 
 abbrev span : ℕ → ℕ → Span

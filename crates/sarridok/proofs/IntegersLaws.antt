@@ -12,7 +12,8 @@ use Rattle.text.specs.Judged.{judged_of}
 use Rattle.text.specs.Refusals.{Told, no_room, not_in_order}
 use Rattle.text.specs.declared.refusal.Refusal.{Refusal}
 use Rattle.rows.specs.Rows.{room_of}
-use Rattle.sarridok.specs.Integers.{Coded, codes_after, done, filled, in_room, integers_of, items_from, magnitudes_after}
+use Rattle.sarridok.specs.declared.items.Coded.{Coded}
+use Rattle.sarridok.specs.Integers.{codes_after, done, filled, in_room, integers_of, items_from, magnitudes_after}
 use Rattle.sarridok.specs.inner.Items.{verdict_of}
 use Rattle.sarridok.proofs.ItemLaws.{all_read, values_of}
 

@@ -29,8 +29,10 @@ use Rattle.integers.specs.declared.width.Width.{Width}
 use Rattle.rows.specs.Rows.{room_of, entry_at}
 use Rattle.rows.specs.declared.Entry.{Entry}
 use Rattle.strings.specs.Chars.{byte_of}
-use Rattle.sarridok.specs.Typed.{Typed, byte_as, integer_at, integer_of, placed_at, signed_number, told_integer}
-use Rattle.sarridok.specs.Integers.{Coded, before, coded_as, code_for, codes_after, entry_integer, integers_of, item_of, items_from, magnitudes_after, names_integer}
+use Rattle.sarridok.specs.declared.integer_call.Typed.{Typed}
+use Rattle.sarridok.specs.Typed.{byte_as, integer_at, integer_of, placed_at, signed_number}
+use Rattle.sarridok.specs.declared.items.Coded.{Coded}
+use Rattle.sarridok.specs.Integers.{before, coded_as, code_for, codes_after, entry_integer, integers_of, item_of, items_from, magnitudes_after, names_integer}
 use Rattle.sarridok.specs.Listed.{Entered, FirstRefused, ItemReads, ItemRefused, ListReads, ListRefused, Tells, Written, by_count, by_item, by_room, by_text, no_entry, no_integer, no_place, single, unread}
 use Rattle.sarridok.specs.inner.Items.{verdict_of}
 use Rattle.sarridok.proofs.IntegersLaws as laws
@@ -69,7 +71,7 @@ at_below width s =
     (λ e. cond_cases Below-read (eqb (length s) 0) _ _ (λ z. tt)
     (λ z. typed_below (code_of width) (front_of s).minus (front_of s).end (numeral_of (code_of width) (front_of s).minus (front_of s).base (drop (front_of s).end s))))
 
-told_below : (place : ℕ) (r : Integer) (t : Typed) → Below-read r → told_integer (placed_at place r) ≡ Ok t → Below t.number
+told_below : (place : ℕ) (r : Integer) (t : Typed) → Below-read r → placed_at place r ≡ Ok t → Below t.number
 told_below place (integer.Read v end) t h e = let q : record { number = v; end = place + end } ≡ t = cc in rw (sym (ap (λ (x : Typed). x.number) q)) h
 told_below place integer.OtherSuffix t h e = absurd (apart t other_kind (sym e))
 told_below place (integer.Refused r) t h e = absurd (apart t _ (sym e))

@@ -30,14 +30,16 @@ use Rattle.plain_numbers.specs.inner.Shorts.{short_of}
 use Rattle.rows.specs.Rows.{entry_at}
 use Rattle.rows.specs.declared.Entry.{Entry}
 use Rattle.sarridok.proofs.ShortReads.{short_read}
-use Rattle.sarridok.specs.Typed.{Typed, integer_at, integer_of, placed_at, told_integer}
-use Rattle.sarridok.specs.Integers.{Coded, before, coded_as, entry_integer, filled, item_of, items_from, names_integer}
+use Rattle.sarridok.specs.declared.integer_call.Typed.{Typed}
+use Rattle.sarridok.specs.Typed.{integer_at, integer_of, placed_at}
+use Rattle.sarridok.specs.declared.items.Coded.{Coded}
+use Rattle.sarridok.specs.Integers.{before, coded_as, entry_integer, filled, item_of, items_from, names_integer}
 use Rattle.sarridok.specs.inner.Items.{at_item, coded_in, verdict_of}
 
 -- ---- one item
 
 -- a typed read at a place, once its refusal stands at the item's number
-pub coded_placed : (width place k : ℕ) (read : Integer) → at_item k (coded_as width (told_integer (placed_at place read))) ≡ at_item k (coded_in width read)
+pub coded_placed : (width place k : ℕ) (read : Integer) → at_item k (coded_as width (placed_at place read)) ≡ at_item k (coded_in width read)
 coded_placed width place k (integer.Read v end) = refl
 coded_placed width place k integer.OtherSuffix = refl
 coded_placed width place k (integer.Refused r) = refl
@@ -66,7 +68,7 @@ module _ (text : List ℕ) (e : Entry) (k : ℕ) where
         → at_item k (coded_in e.detail (integer_at (width_at e.detail) (drop e.start text))) ≡ at_item k (entry_integer text e)
     unfolding entry_integer integer_of
     entry_reads fit h =
-        let own : Told Typed = told_integer (placed_at e.start (integer_at (width_at e.detail) (drop e.start text))) in
+        let own : Told Typed = placed_at e.start (integer_at (width_at e.detail) (drop e.start text)) in
         sym (coded_placed e.detail e.start k (integer_at (width_at e.detail) (drop e.start text)))
         ∙ rw (fits, h) (ap (λ (t : Told Typed). at_item k (coded_as e.detail t)) (sym (front_fit text own true fit refl)))
 

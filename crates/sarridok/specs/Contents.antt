@@ -5,7 +5,8 @@ use Rattle.std.specs.Prelude.{Ok, Err, Bool, ℕ, ◌-◌, List, [], length, tak
 use Rattle.text.specs.Refusals.{Told}
 use Rattle.text.specs.Judged.{judged_of, behind_judged}
 use Rattle.entries.specs.Named.{named_of, literal_of, literal_decoded}
-use Rattle.entries.specs.Contents.{Span, by_named, contents_in, decoded_in, written_by}
+use Rattle.entries.specs.declared.view.Span.{Span}
+use Rattle.entries.specs.Contents.{by_named, contents_in, decoded_in, written_by}
 
 -- The whole answer of `contents`.
 unfoldable pub contents_of : List ℕ → List ℕ → ℕ → ℕ → Told Span

@@ -10,12 +10,9 @@ use Rattle.integers.specs.Width.{width_at}
 use Rattle.integers.specs.declared.integer.Value.{Value}
 use Rattle.rows.specs.Rows.{room_of, entry_at}
 use Rattle.rows.specs.declared.Entry.{Entry}
-use Rattle.sarridok.specs.Typed.{Typed, integer_of}
-
--- What is written for an item: "the magnitude and a code".
-pub record Coded : Type 0 where
-  pub magnitude : ℕ
-  pub code : ℕ
+use Rattle.sarridok.specs.declared.integer_call.Typed.{Typed}
+use Rattle.sarridok.specs.declared.items.Coded.{Coded}
+use Rattle.sarridok.specs.Typed.{integer_of}
 
 -- "The width with 16 added if the value is below zero"; 0 has no minus.
 abbrev pub code_for : ℕ → Value → ℕ

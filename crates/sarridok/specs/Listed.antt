@@ -7,8 +7,10 @@ use Rattle.text.specs.declared.refusal.Refusal.{Refusal}
 use Rattle.integers.specs.Width.{width_at}
 use Rattle.rows.specs.Rows.{room_of, entry_at}
 use Rattle.rows.specs.declared.Entry.{Entry}
-use Rattle.sarridok.specs.Typed.{Typed, integer_of, signed_number}
-use Rattle.sarridok.specs.Integers.{Coded, names_integer}
+use Rattle.sarridok.specs.declared.integer_call.Typed.{Typed}
+use Rattle.sarridok.specs.Typed.{integer_of, signed_number}
+use Rattle.sarridok.specs.declared.items.Coded.{Coded}
+use Rattle.sarridok.specs.Integers.{names_integer}
 
 -- The single call for an entry: at its start, in its width.
 abbrev pub single : List ℕ → Entry → Told Typed

@@ -13,20 +13,11 @@ use Rattle.integers.specs.declared.integer.Value.{Value}
 use Rattle.integers.specs.declared.integer.Integer.{Integer}
 use Rattle.integers.specs.declared.integer.Integer.TheVariants as integer
 use Rattle.strings.specs.Chars.{byte_of}
-
--- What a typed read accepts: a number, and the place behind it.
-pub record Typed : Type 0 where
-  pub number : Value
-  pub end : ℕ
+use Rattle.sarridok.specs.declared.integer_call.Typed.{Typed}
 
 -- The number itself.
 abbrev pub signed_number : Value → ℤ
 signed_number v = signed_of v.minus v.magnitude
-
--- The paper's answer for each case of the code's.
-abbrev pub told_integer : Told (Value × ℕ) → Told Typed
-told_integer (Ok (v, end)) = Ok (record { number = v; end = end })
-told_integer (Err r) = Err r
 
 -- A byte literal is u8, and for any other width of another kind.
 abbrev pub byte_as : Width → Told (ℕ × ℕ) → Integer
@@ -38,8 +29,8 @@ unfoldable pub integer_at : Width → List ℕ → Integer
 integer_at width s = cond (starts_with (0x62 ∷ 0x27 ∷ []) s) (byte_as width (byte_of s)) (typed_of width s)
 
 -- The same, seen from the front of the text; 27 stands at 0.
-abbrev pub placed_at : ℕ → Integer → Told (Value × ℕ)
-placed_at place (integer.Read v end) = Ok (v, place + end)
+abbrev pub placed_at : ℕ → Integer → Told Typed
+placed_at place (integer.Read v end) = Ok (record { number = v; end = place + end })
 placed_at place integer.OtherSuffix = Err other_kind
 placed_at place (integer.Refused r) = Err (placed_behind place r)
 
@@ -51,4 +42,4 @@ Fitting place (integer.Refused r) = place + r.place < 2 ^ 64
 
 -- The whole answer.
 unfoldable pub integer_of : List ℕ → ℕ → Width → Told Typed
-integer_of text place width = behind_front text (place_fits text place) (told_integer (placed_at place (integer_at width (drop place text))))
+integer_of text place width = behind_front text (place_fits text place) (placed_at place (integer_at width (drop place text)))

@@ -1,21 +1,15 @@
 // The contents of a string entry: its place from one call, the part itself from the other.
 ghost use Rattle.std.specs.Prelude.{◌≡◌};
-ghost use Rattle.entries.specs.Contents.{told_contents};
 ghost use Rattle.sarridok.specs.Contents.{contents_of, part_of};
 
 use entries::named::find_named;
-use entries::view::contents_at;
+use entries::view::{Span, contents_at};
 use text::Refusal;
 use text::judge::judge;
 
 // Where the bytes inside begin and end in the text, if nothing was escaped: else 29.
-pub fn contents(
-    text: &[u8],
-    tape: &[u32],
-    count: usize,
-    entry: usize,
-) -> Result<(usize, usize), Refusal>
-    ensures { told_contents result ≡ contents_of text.now tape.now count entry }
+pub fn contents(text: &[u8], tape: &[u32], count: usize, entry: usize) -> Result<Span, Refusal>
+    ensures { result ≡ contents_of text.now tape.now count entry }
 {
     judge(text)?;
     let (bytes, place) = find_named(text, tape, count, entry)?;
@@ -28,7 +22,7 @@ pub fn contents_part<'a>(text: &'a [u8], tape: &[u32], count: usize, entry: usiz
 {
     let answer = contents(text, tape, count, entry);
     match answer {
-        Ok((start, end)) => &text[start..end],
+        Ok(span) => &text[span.start..span.end],
         Err(_) => &text[0..0],
     }
 }

@@ -1,6 +1,6 @@
 // A typed integer at a place, in one of eight widths.
 ghost use Rattle.std.specs.Prelude.{◌≡◌, ◌<◌};
-ghost use Rattle.sarridok.specs.Typed.{byte_as, integer_at, Fitting, placed_at, told_integer, integer_of};
+ghost use Rattle.sarridok.specs.Typed.{byte_as, integer_at, Fitting, placed_at, integer_of};
 
 use integers::ident::check_str;
 use integers::integer::typed;
@@ -11,6 +11,13 @@ use strings::chars::byte_literal;
 use text::Refusal;
 use text::judge::{judge, place_fits};
 use text::refusal::placed_behind;
+
+// What a typed read accepts: a number, and the place behind it.
+#[derive(Clone, Copy)]
+pub struct Typed {
+    pub number: Value,
+    pub end: usize,
+}
 
 // A byte literal is u8, and for any other width of another kind.
 fn byte_as(byte: Result<(usize, u8), Refusal>, width: Width) -> Integer
@@ -59,20 +66,23 @@ fn number_at(s: &[u8], width: Width) -> Integer
 }
 
 // The number and the place behind it, seen from the front of the text, or the refusal; 27 stands at 0.
-fn placed(read: Integer, place: usize) -> Result<(Value, usize), Refusal>
+fn placed(read: Integer, place: usize) -> Result<Typed, Refusal>
     requires { Fitting place read }
     ensures { result ≡ placed_at place read }
 {
     match read {
-        Integer::Read(value, end) => Ok((value, place + end)),
+        Integer::Read(number, len) => Ok(Typed {
+            number,
+            end: place + len,
+        }),
         Integer::OtherSuffix => Err(Refusal::other_kind()),
         Integer::Refused(refusal) => Err(placed_behind(refusal, place)),
     }
 }
 
 // The integer at the place, in the width asked for, and the place behind it; 27 where its suffix names another.
-pub fn integer(text: &[u8], place: usize, width: Width) -> Result<(Value, usize), Refusal>
-    ensures { told_integer result ≡ integer_of text.now place width }
+pub fn integer(text: &[u8], place: usize, width: Width) -> Result<Typed, Refusal>
+    ensures { result ≡ integer_of text.now place width }
 {
     judge(text)?;
     if !place_fits(text, place) {

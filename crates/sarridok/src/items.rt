@@ -5,8 +5,8 @@ ghost use Rattle.text.specs.Refusals.{at_place};
 ghost use Rattle.integers.specs.Width.{width_at};
 ghost use Rattle.rows.specs.Rows.{room_of};
 ghost use Rattle.sarridok.specs.Typed.{integer_at};
-ghost use Rattle.sarridok.specs.Integers.{Coded, names_integer, entry_integer, item_of, items_from, filled};
-ghost use Rattle.sarridok.specs.inner.Items.{told_item, at_item, coded_in, verdict_of};
+ghost use Rattle.sarridok.specs.Integers.{names_integer, entry_integer, item_of, items_from, filled};
+ghost use Rattle.sarridok.specs.inner.Items.{at_item, coded_in, verdict_of};
 
 use crate::integer_call::integer_at;
 use integers::Integer;
@@ -15,6 +15,13 @@ use plain_numbers::short::{Short, short_integer};
 use rows::{Entry, kinds, row};
 use text::Refusal;
 use text::judge::place_fits;
+
+// What is written for an item: "the magnitude and a code".
+#[derive(Clone, Copy)]
+pub struct Coded {
+    pub magnitude: u64,
+    pub code: u8,
+}
 
 // The same refusal at an item's number.
 fn at_item(refusal: Refusal, k: usize) -> Refusal
@@ -39,14 +46,17 @@ fn code_for(width: u8, minus: bool) -> u8
 }
 
 // What is written for a number that was read, its magnitude and code; or the refusal, at the number k of its item.
-fn coded(read: Integer, width: u8, k: usize) -> Result<(u64, u8), Refusal>
+fn coded_item(read: Integer, width: u8, k: usize) -> Result<Coded, Refusal>
     requires { width ≤ 8 }
-    ensures { told_item result ≡ at_item k (coded_in width read) }
+    ensures { result ≡ at_item k (coded_in width read) }
 {
     match read {
         Integer::Read(value, _) => {
             let code = code_for(width, value.minus);
-            Ok((value.magnitude, code))
+            Ok(Coded {
+                magnitude: value.magnitude,
+                code,
+            })
         }
         Integer::OtherSuffix => Err(at_item(Refusal::other_kind(), k)),
         Integer::Refused(refusal) => Err(at_item(refusal, k)),
@@ -54,14 +64,17 @@ fn coded(read: Integer, width: u8, k: usize) -> Result<(u64, u8), Refusal>
 }
 
 // The integer at the front of a part, as item k; a short one without the general reader.
-fn integer_in(s: &[u8], width: u8, k: usize) -> Result<(u64, u8), Refusal>
+fn integer_in(s: &[u8], width: u8, k: usize) -> Result<Coded, Refusal>
     requires { width ≤ 8 }
-    ensures { told_item result ≡ at_item k (coded_in width (integer_at (width_at width) s.now)) }
+    ensures { result ≡ at_item k (coded_in width (integer_at (width_at width) s.now)) }
 {
     let short = short_integer(s, width);
     match short {
-        Short::Value(magnitude, _) => Ok((magnitude, width)),
-        Short::Other => coded(integer_at(s, width_at(width)), width, k),
+        Short::Value(magnitude, _) => Ok(Coded {
+            magnitude,
+            code: width,
+        }),
+        Short::Other => coded_item(integer_at(s, width_at(width)), width, k),
     }
 }
 
@@ -82,9 +95,9 @@ fn names_integer(e: Entry) -> bool
 }
 
 // The integer that an entry names, in its own width, as item k.
-fn entry_integer(text: &[u8], e: Entry, k: usize) -> Result<(u64, u8), Refusal>
+fn entry_integer(text: &[u8], e: Entry, k: usize) -> Result<Coded, Refusal>
     requires { judged_of text.now ≡ Ok tt }
-    ensures { told_item result ≡ at_item k (entry_integer text.now e) }
+    ensures { result ≡ at_item k (entry_integer text.now e) }
 {
     let start = e.start as usize;
     if !place_fits(text, start) {
@@ -97,15 +110,9 @@ fn entry_integer(text: &[u8], e: Entry, k: usize) -> Result<(u64, u8), Refusal>
 }
 
 // Item k of a list, an entry number.
-fn item_at(
-    text: &[u8],
-    tape: &[u32],
-    count: usize,
-    number: u32,
-    k: usize,
-) -> Result<(u64, u8), Refusal>
+fn item_at(text: &[u8], tape: &[u32], count: usize, number: u32, k: usize) -> Result<Coded, Refusal>
     requires { (judged_of text.now ≡ Ok tt) × (count ≤ room_of (length tape.now)) }
-    ensures { told_item result ≡ at_item k (item_of text.now tape.now count number) }
+    ensures { result ≡ at_item k (item_of text.now tape.now count number) }
 {
     let i = number as usize;
     if count <= i {
@@ -144,10 +151,10 @@ pub fn write_items(
 {
     for (k, number) in items.iter().enumerate() {
         let read = item_at(text, tape, count, *number, k);
-        let Ok((magnitude, code)) = read else {
+        let Ok(item) = read else {
             return;
         };
-        magnitudes[k] = magnitude;
-        codes[k] = code;
+        magnitudes[k] = item.magnitude;
+        codes[k] = item.code;
     }
 }

@@ -41,7 +41,7 @@ use Rattle.sarridok.proofs.Places.{at_bounded}
 use Rattle.sarridok.specs.Contents.{contents_of, decoded_answer}
 use Rattle.sarridok.specs.Skip.{skip_of}
 use Rattle.sarridok.specs.StructKind.{struct_kind_of}
-use Rattle.sarridok.specs.Typed.{integer_at, integer_of, placed_at, told_integer as toldTyped}
+use Rattle.sarridok.specs.Typed.{integer_at, integer_of, placed_at}
 use Rattle.sarridok_c.specs.Packed.{bit_of}
 use Rattle.sarridok_c.specs.Words.{kind_word}
 use Rattle.sarridok_c.specs.Whole.{Halves, count_parts, cursor_parts, kind_parts, span_parts, typed_parts}
@@ -74,7 +74,7 @@ bit_low : (minus : Bool) → bit_of minus ≤ 1
 bit_low true = omega arith
 bit_low false = omega arith
 
-integer_placed : (place n : ℕ) (a : Integer) → place + n ≤ 65536 → TypedBounded n a → Low typed_parts (toldTyped (placed_at place a))
+integer_placed : (place n : ℕ) (a : Integer) → place + n ≤ 65536 → TypedBounded n a → Low typed_parts (placed_at place a)
 integer_placed place n (integer.Read v end) h b = (omega (arith, bit_low v.minus), omega (arith, b.1))
 integer_placed place n integer.OtherSuffix h b = omega arith
 integer_placed place n (integer.Refused r) h b = omega arith

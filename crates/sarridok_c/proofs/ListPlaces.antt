@@ -8,7 +8,8 @@ use lib.ListN.{length}
 use Rattle.text.specs.Judged.{behind_judged, judged_of}
 use Rattle.text.specs.Refusals.{Told}
 use Rattle.text.specs.declared.refusal.Refusal.{Refusal}
-use Rattle.sarridok.specs.Integers.{Coded, done, integers_of}
+use Rattle.sarridok.specs.declared.items.Coded.{Coded}
+use Rattle.sarridok.specs.Integers.{done, integers_of}
 use Rattle.sarridok.specs.Listed.{ListRefused, by_count, by_item, by_room, by_text}
 use Rattle.sarridok.proofs.IntegersMeans.{integers_refused}
 use Rattle.sarridok.proofs.ItemLaws.{apart}

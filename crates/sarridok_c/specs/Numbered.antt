@@ -8,7 +8,8 @@ use Rattle.structs.specs.declared.kinds.NewtypeMode.TheVariants.{NoParensMeanUni
 use Rattle.structs.specs.declared.kinds.TupleMode.{TupleMode}
 use Rattle.structs.specs.declared.kinds.TupleMode.TheVariants.{ImpreciseTupleOrNewtype, DifferentiateNewtype}
 use Rattle.structs.specs.declared.kinds.StructType.{StructType}
-use Rattle.sarridok.specs.Typed.{Typed, integer_of}
+use Rattle.sarridok.specs.declared.integer_call.Typed.{Typed}
+use Rattle.sarridok.specs.Typed.{integer_of}
 use Rattle.sarridok.specs.StructKind.{struct_kind_of}
 use Rattle.sarridok_c.specs.Packed.{unfit_in}
 

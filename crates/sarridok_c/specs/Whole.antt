@@ -3,10 +3,10 @@ use Rattle.std.specs.Prelude.{Ok, Err, ℕ, ◌/◌, ◌%◌, ◌^◌, ◌≡◌
 use Rattle.text.specs.Refusals.{Told}
 use Rattle.text.specs.declared.refusal.Refusal.{Refusal}
 use Rattle.cursor.specs.declared.ParserCursor.{ParserCursor}
-use Rattle.entries.specs.Contents.{Span}
+use Rattle.entries.specs.declared.view.Span.{Span}
 use Rattle.repair.specs.declared.repairer.Repaired.{Repaired}
 use Rattle.structs.specs.declared.kinds.StructType.{StructType}
-use Rattle.sarridok.specs.Typed.{Typed}
+use Rattle.sarridok.specs.declared.integer_call.Typed.{Typed}
 use Rattle.sarridok_c.specs.Packed.{bit_of, refusal_word}
 use Rattle.sarridok_c.specs.Words.{kind_word}
 

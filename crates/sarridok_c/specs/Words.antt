@@ -1,11 +1,11 @@
 -- What the number of each accepted call holds, and what goes into its lent numbers.
 use Rattle.std.specs.Prelude.{ℕ}
 use Rattle.cursor.specs.declared.ParserCursor.{ParserCursor}
-use Rattle.entries.specs.Contents.{Span}
+use Rattle.entries.specs.declared.view.Span.{Span}
 use Rattle.repair.specs.declared.repairer.Repaired.{Repaired}
 use Rattle.structs.specs.declared.kinds.StructType.{StructType}
 use Rattle.structs.specs.declared.kinds.StructType.TheVariants.{AnyTuple, EmptyTuple, NewtypeTuple, NonNewtypeTuple, Named, Unit as UnitStruct}
-use Rattle.sarridok.specs.Typed.{Typed}
+use Rattle.sarridok.specs.declared.integer_call.Typed.{Typed}
 use Rattle.sarridok_c.specs.Packed.{pair_of, bit_of}
 
 -- Read and decoded: how many entries or bytes.

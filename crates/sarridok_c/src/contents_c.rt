@@ -1,18 +1,18 @@
 // `contents`: where the part begins and ends.
 ghost use Rattle.std.specs.Prelude.{◌≡◌};
-ghost use Rattle.entries.specs.Contents.{told_contents};
 ghost use Rattle.sarridok.specs.Contents.{contents_of};
 ghost use Rattle.sarridok_c.specs.Packed.{packed};
 ghost use Rattle.sarridok_c.specs.Words.{span_word};
 
 use crate::packing::{pair, refused};
+use sarridok::Span;
 use text::Refusal;
 
-fn word(answer: Result<(usize, usize), Refusal>) -> u64
-    ensures { result ≡ packed span_word (told_contents answer) }
+fn word(answer: Result<Span, Refusal>) -> u64
+    ensures { result ≡ packed span_word answer }
 {
     match answer {
-        Ok((start, end)) => pair(start as u64, end as u64),
+        Ok(s) => pair(s.start as u64, s.end as u64),
         Err(refusal) => refused(refusal),
     }
 }

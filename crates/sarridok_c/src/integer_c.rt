@@ -1,23 +1,22 @@
 // `integer`: the minus and the place behind the number, whose magnitude goes into a lent number.
 ghost use Rattle.std.specs.Prelude.{◌≡◌};
-ghost use Rattle.sarridok.specs.Typed.{told_integer};
 ghost use Rattle.sarridok_c.specs.Packed.{packed, lent_after};
 ghost use Rattle.sarridok_c.specs.Words.{typed_word, magnitude_of};
 ghost use Rattle.sarridok_c.specs.Numbered.{integer_numbered};
 
 use crate::packing::{bit, pair, refused, unfit_in};
 use integers::width::width_at;
-use sarridok::Value;
+use sarridok::Typed;
 use text::Refusal;
 
-fn word(answer: Result<(Value, usize), Refusal>, magnitude: &mut u64) -> u64
-    ensures { (result ≡ packed typed_word (told_integer answer))
-        × (magnitude.new ≡ lent_after magnitude_of (told_integer answer) magnitude.old) }
+fn word(answer: Result<Typed, Refusal>, magnitude: &mut u64) -> u64
+    ensures { (result ≡ packed typed_word answer)
+        × (magnitude.new ≡ lent_after magnitude_of answer magnitude.old) }
 {
     match answer {
-        Ok((value, end)) => {
-            *magnitude = value.magnitude;
-            pair(bit(value.minus), end as u64)
+        Ok(t) => {
+            *magnitude = t.number.magnitude;
+            pair(bit(t.number.minus), t.end as u64)
         }
         Err(refusal) => refused(refusal),
     }

@@ -1,6 +1,6 @@
 -- The answers of contents and decoded.
 use Rattle.std.specs.Prelude.{ℕ, cond, List, [], ◌∷◌, ◌++◌, eqb, length, take}
-use Rattle.entries.specs.Contents.{Span}
+use Rattle.entries.specs.declared.view.Span.{Span}
 use Rattle.lines.specs.Ascii.{ascii}
 use Rattle.lines.specs.Decimal.{word_of}
 use Rattle.show.specs.Hexes.{hex_text}

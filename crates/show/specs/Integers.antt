@@ -2,7 +2,8 @@
 use Rattle.std.specs.Prelude.{ℕ, suc, List, ◌∷◌, ◌++◌, ℤ, pos, negsuc}
 use Rattle.lines.specs.Ascii.{ascii}
 use Rattle.lines.specs.Decimal.{decimal, word_of}
-use Rattle.sarridok.specs.Typed.{Typed, signed_number}
+use Rattle.sarridok.specs.declared.integer_call.Typed.{Typed}
+use Rattle.sarridok.specs.Typed.{signed_number}
 
 -- A whole number, with `-` below zero.
 abbrev pub signed_text : ℤ → List ℕ

@@ -1,22 +1,22 @@
 // The answers of contents and decoded.
 ghost use Rattle.std.specs.Prelude.{◌≡◌};
 ghost use Rattle.lines.specs.Out.{put};
-ghost use Rattle.entries.specs.Contents.{told_contents};
 ghost use Rattle.show.specs.Answers.{answer_text};
 ghost use Rattle.show.specs.Contents.{span_text, bytes_text, wrote_text};
 
 use lines::out;
+use sarridok::Span;
 use text::Refusal;
 
 // Where the part stands, or the refusal.
-pub fn view(o: &mut [u8], at: usize, r: Result<(usize, usize), Refusal>) -> usize
-    ensures { (o.new, result) ≡ put (o.old, at) (answer_text span_text (told_contents r)) }
+pub fn view(o: &mut [u8], at: usize, r: Result<Span, Refusal>) -> usize
+    ensures { (o.new, result) ≡ put (o.old, at) (answer_text span_text r) }
 {
     match r {
-        Ok((start, end)) => {
+        Ok(s) => {
             let a = out::bytes(o, at, b"ok part");
-            let b = out::word(o, a, start as u64);
-            out::word(o, b, end as u64)
+            let b = out::word(o, a, s.start as u64);
+            out::word(o, b, s.end as u64)
         }
         Err(f) => crate::refused(o, at, f),
     }

@@ -13,7 +13,8 @@ use Rattle.structs.specs.declared.kinds.StructType.{StructType}
 use Rattle.structs.specs.declared.kinds.StructType.TheVariants.{NewtypeTuple}
 use Rattle.repair.specs.Repair.{repair_of, repaired_tape}
 use Rattle.repair.specs.declared.repairer.Repaired.{Repaired}
-use Rattle.sarridok.specs.Typed.{Typed, integer_of}
+use Rattle.sarridok.specs.declared.integer_call.Typed.{Typed}
+use Rattle.sarridok.specs.Typed.{integer_of}
 use Rattle.sarridok.specs.Integers.{done, integers_of, magnitudes_after, codes_after}
 use Rattle.sarridok.specs.Contents.{decoded_answer, decoded_out}
 use Rattle.sarridok.specs.StructKind.{struct_kind_of}

@@ -21,7 +21,8 @@ use Rattle.integers.specs.declared.integer.Integer.TheVariants as integer
 use Rattle.integers.specs.declared.width.Width.{Width}
 use Rattle.integers.specs.declared.width.Width.TheVariants.{U8}
 use Rattle.strings.specs.Chars.{byte_of}
-use Rattle.sarridok.specs.Typed.{Typed, byte_as, integer_at, integer_of, placed_at, told_integer}
+use Rattle.sarridok.specs.declared.integer_call.Typed.{Typed}
+use Rattle.sarridok.specs.Typed.{byte_as, integer_at, integer_of, placed_at}
 use Rattle.written.specs.Refused.{Asked, CutByte, Placed}
 use Rattle.written.specs.Written.{byte_literal}
 use Rattle.written.proofs.CutBytes.{byte_says}
@@ -55,23 +56,23 @@ module _ {A : Type 0} (text : List ℕ) (own : Told A) (r : Refusal) (low : 3 �
 -- ---- the call at a place that fits
 
 module _ (text : List ℕ) (place : ℕ) (width : Width) where
-  pub own_answer : Placed text place → integer_of text place width ≡ told_integer (placed_at place (integer_at width (drop place text)))
+  pub own_answer : Placed text place → integer_of text place width ≡ placed_at place (integer_at width (drop place text))
   unfolding integer_of
-  own_answer p = front_fit text (told_integer (placed_at place (integer_at width (drop place text)))) (place_fits text place) p.fit p.place-fits
+  own_answer p = front_fit text (placed_at place (integer_at width (drop place text))) (place_fits text place) p.fit p.place-fits
 
   -- a refusal that is not the front's
   pub own_refused : (r : Refusal) → 3 ≤ r.number → r.number ≤ 27 → integer_of text place width ≡ Err r
-      → Placed text place × (told_integer (placed_at place (integer_at width (drop place text))) ≡ Err r)
+      → Placed text place × (placed_at place (integer_at width (drop place text)) ≡ Err r)
   unfolding integer_of
   own_refused r l h e =
-      let q = front_own text (told_integer (placed_at place (integer_at width (drop place text)))) r l h (place_fits text place) e in
+      let q = front_own text (placed_at place (integer_at width (drop place text))) r l h (place_fits text place) e in
       (record { fit = q.0; place-fits = q.1 }, q.2)
 
   -- what is accepted
-  pub own_accepted : (t : Typed) → integer_of text place width ≡ Ok t → Placed text place × (told_integer (placed_at place (integer_at width (drop place text))) ≡ Ok t)
+  pub own_accepted : (t : Typed) → integer_of text place width ≡ Ok t → Placed text place × (placed_at place (integer_at width (drop place text)) ≡ Ok t)
   unfolding integer_of
   own_accepted t e =
-      let q = front_accepted text (place_fits text place) (told_integer (placed_at place (integer_at width (drop place text)))) t e in
+      let q = front_accepted text (place_fits text place) (placed_at place (integer_at width (drop place text))) t e in
       (record { fit = q.0; place-fits = q.1 }, q.2)
 
 pub typed_end : (width : Width) (s : List ℕ) → eqb (length s) 0 ≡ true → typed_of width s ≡ integer.Refused (eof 0)
@@ -96,10 +97,10 @@ pub data Source (text : List ℕ) (place : ℕ) (width : Width) (r : Refusal) : 
   cut : CutByte (drop place text) → r ≡ eof (length text) → Source text place width r
   no_byte : 13 ≤ r.number → r.number ≤ 15 → Source text place width r
   other_byte : OtherThanU8 width (drop place text) → r ≡ other_kind → Source text place width r
-  digits : Asked text place → told_integer (placed_at place (typed_of width (drop place text))) ≡ Err r → Source text place width r
+  digits : Asked text place → placed_at place (typed_of width (drop place text)) ≡ Err r → Source text place width r
 
 module _ (text : List ℕ) (place : ℕ) (width : Width) (r : Refusal) (placed : Placed text place) where
-  by_byte : (a : Told (ℕ × ℕ)) → byte_of (drop place text) ≡ a → byte_literal (drop place text) ≡ true → told_integer (placed_at place (byte_as width a)) ≡ Err r → Source text place width r
+  by_byte : (a : Told (ℕ × ℕ)) → byte_of (drop place text) ≡ a → byte_literal (drop place text) ≡ true → placed_at place (byte_as width a) ≡ Err r → Source text place width r
   unfolding width_at
   by_byte (Ok (n, b)) e l h =
       either (bool_cases (eqb (code_of width) 5))
@@ -113,23 +114,23 @@ module _ (text : List ℕ) (place : ℕ) (width : Width) (r : Refusal) (placed :
       (λ c. cut c.0 (sym q ∙ ap (placed_behind place) c.1 ∙ ap eof (ends_at text place placed)))
       (λ c. let k = ap (λ (y : Refusal). y.number) q in no_byte (omega (arith, k, c.0)) (omega (arith, k, c.1)))
 
-  by_digits : byte_literal (drop place text) ≡ false → told_integer (placed_at place (typed_of width (drop place text))) ≡ Err r → Source text place width r
+  by_digits : byte_literal (drop place text) ≡ false → placed_at place (typed_of width (drop place text)) ≡ Err r → Source text place width r
   by_digits l h =
       let s : List ℕ = drop place text in
       either (bool_cases (eqb (length s) 0))
       (λ p. let e = ends_at text place placed in
-      let x : ◌≡◌ {A = Told Typed} (Err (eof (place + 0))) (Err r) = ap (λ (i : Integer). told_integer (placed_at place i)) (sym (typed_end width s p)) ∙ h in
+      let x : ◌≡◌ {A = Told Typed} (Err (eof (place + 0))) (Err r) = ap (λ (i : Integer). placed_at place i) (sym (typed_end width s p)) ∙ h in
       let y : eof (place + 0) ≡ r = cc in
       let f : place ≡ length text = omega (arith, eqb-true (length s) 0 p) in
       at_end f (sym y ∙ ap eof (omega arith)))
       (λ p. let n = eqb-false (length s) 0 p in digits (record { placed = placed; no_byte = l; some = omega (arith, ends_at text place placed, n) }) h)
 
-  source : told_integer (placed_at place (integer_at width (drop place text))) ≡ Err r → Source text place width r
+  source : placed_at place (integer_at width (drop place text)) ≡ Err r → Source text place width r
   source h =
       let s : List ℕ = drop place text in
       either (bool_cases (byte_literal s))
-      (λ l. by_byte (byte_of s) refl l (ap (λ (i : Integer). told_integer (placed_at place i)) (sym (byte_at width s l)) ∙ h))
-      (λ l. by_digits l (ap (λ (i : Integer). told_integer (placed_at place i)) (sym (at_front width s l)) ∙ h))
+      (λ l. by_byte (byte_of s) refl l (ap (λ (i : Integer). placed_at place i) (sym (byte_at width s l)) ∙ h))
+      (λ l. by_digits l (ap (λ (i : Integer). placed_at place i) (sym (at_front width s l)) ∙ h))
 
 -- a refusal that is not the front's, and where it comes from
 pub refused_from : (text : List ℕ) (place : ℕ) (width : Width) (r : Refusal) → 3 ≤ r.number → r.number ≤ 27 → integer_of text place width ≡ Err r

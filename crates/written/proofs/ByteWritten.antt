@@ -20,7 +20,8 @@ use Rattle.quoted.specs.Literals.{ByteAt}
 use Rattle.quoted.specs.Literals.ByteAt.{itself, escaped}
 use Rattle.strings.proofs.Bounds.{Bounded-byte, byte_bounded}
 use Rattle.strings.specs.Chars.{byte_of}
-use Rattle.sarridok.specs.Typed.{Typed, byte_as, integer_at, integer_of, placed_at, told_integer}
+use Rattle.sarridok.specs.declared.integer_call.Typed.{Typed}
+use Rattle.sarridok.specs.Typed.{byte_as, integer_at, integer_of, placed_at}
 use Rattle.written.specs.Accepted.{ByteAccepted}
 use Rattle.written.specs.Refused.{OtherByte, OtherWidth, Placed}
 use Rattle.written.specs.Written.{byte_literal}
@@ -68,7 +69,7 @@ module _ (text : List ℕ) (place : ℕ) (width : Width) where
       let e : drop t.end text ≡ drop n s = ap (λ (k : ℕ). drop k text) (sym l) ∙ sym (drop-drop n place text) in
       let r = (byte_exactly s n a.byte).1 (omega (arith, a.inside, ends_at text place a.placed), subst (ByteAt s a.byte) e a.literal) in
       own_answer text place width a.placed
-      ∙ ap (λ (i : Integer). told_integer (placed_at place i))
+      ∙ ap (λ (i : Integer). placed_at place i)
       (byte_at width s (literal_begins a.literal) ∙ ap (byte_as width) r ∙ ap (λ (w : Width). byte_as w (Ok (n, a.byte))) a.width_is)
       ∙ typed_is t a.byte n place a.number_is l
 

@@ -13,7 +13,8 @@ use Rattle.integers.specs.declared.integer.Integer.{Integer}
 use Rattle.integers.specs.declared.integer.Integer.TheVariants as integer
 use Rattle.integers.specs.declared.integer.Value.{Value}
 use Rattle.integers.specs.declared.width.Width.{Width}
-use Rattle.sarridok.specs.Typed.{Typed, integer_at, integer_of}
+use Rattle.sarridok.specs.declared.integer_call.Typed.{Typed}
+use Rattle.sarridok.specs.Typed.{integer_at, integer_of}
 use Rattle.written.specs.Accepted.{ByteAccepted, NumberAccepted}
 use Rattle.written.specs.Written.{byte_literal, magnitude_in, written_len}
 use Rattle.written.proofs.Asking.{own_accepted}

@@ -26,7 +26,8 @@ use Rattle.integers.specs.declared.integer.Integer.{Integer}
 use Rattle.integers.specs.declared.integer.Integer.TheVariants as integer
 use Rattle.integers.specs.declared.width.Width.{Width}
 use Rattle.integers.specs.declared.width.Width.TheVariants.{U8}
-use Rattle.sarridok.specs.Typed.{Typed, byte_as, integer_at, integer_of, placed_at, told_integer}
+use Rattle.sarridok.specs.declared.integer_call.Typed.{Typed}
+use Rattle.sarridok.specs.Typed.{byte_as, integer_at, integer_of, placed_at}
 use Rattle.written.specs.Refused.{Asked, CutByte, OtherWidth, Placed, TextEnds, judged_width}
 use Rattle.written.specs.Written.{behind_digits, bits_of, byte_literal, digits_in, is_signed, magnitude_in, suffix_in, written_len}
 use Rattle.written.proofs.AnyWritten.{of_known, suffix_known}
@@ -39,8 +40,8 @@ use Rattle.written.proofs.TypedWritten.{one_width, width_some}
 
 module _ (text : List ℕ) (place : ℕ) (width : Width) where
   -- what stands at the front of the part is answered at the place
-  placed_as : Placed text place → (i : Integer) → integer_at width (drop place text) ≡ i → integer_of text place width ≡ told_integer (placed_at place i)
-  placed_as d i e = own_answer text place width d ∙ ap (λ (x : Integer). told_integer (placed_at place x)) e
+  placed_as : Placed text place → (i : Integer) → integer_at width (drop place text) ≡ i → integer_of text place width ≡ placed_at place i
+  placed_as d i e = own_answer text place width d ∙ ap (λ (x : Integer). placed_at place x) e
 
   -- ---- 6
 

@@ -29,7 +29,8 @@ use Rattle.integers.specs.Width.{code_of, width_at}
 use Rattle.integers.specs.declared.width.Width.{Width}
 use Rattle.integers.specs.declared.width.Width.TheVariants.{U8}
 use Rattle.strings.specs.Chars.{byte_of}
-use Rattle.sarridok.specs.Typed.{Typed, byte_as, integer_at, integer_of, signed_number, placed_at, told_integer}
+use Rattle.sarridok.specs.declared.integer_call.Typed.{Typed}
+use Rattle.sarridok.specs.Typed.{byte_as, integer_at, integer_of, signed_number, placed_at}
 use Rattle.written.specs.Written.{AsByte, AsWritten, IsWritten, bits_of, byte_literal, is_signed, magnitude_in, written_len}
 use Rattle.written.proofs.TypedWritten.{typed_written, written_typed}
 
@@ -45,7 +46,7 @@ front_accepted {A} text fits own a h = go (judged_of text) fits h
     go (Err r) f e = let z : ◌≡◌ {A = ℕ} 0 1 = cc in absurd (omega arith)
 
 -- what was read at the place
-pub placed_read : (place : ℕ) (i : Integer) (t : Typed) → told_integer (placed_at place i) ≡ Ok t → (len : ℕ) × (i ≡ integer.Read t.number len) × (t.end ≡ place + len)
+pub placed_read : (place : ℕ) (i : Integer) (t : Typed) → placed_at place i ≡ Ok t → (len : ℕ) × (i ≡ integer.Read t.number len) × (t.end ≡ place + len)
 placed_read place (integer.Read v len) t h =
     let e : record { number = v; end = place + len } ≡ t = cc in
     (len, ap (λ (x : Typed). integer.Read x.number len) e, sym (ap (λ (x : Typed). x.end) e))
@@ -83,7 +84,7 @@ pub front_answered : (text : List ℕ) (place : ℕ) (width : Width) (v : Value)
     → integer_at width (drop place text) ≡ integer.Read v len → integer_of text place width ≡ Ok (record { number = v; end = place + len })
 unfolding integer_of
 front_answered text place width v len j f e =
-    front_fit text (told_integer (placed_at place (integer_at width (drop place text)))) (place_fits text place) j f ∙ ap (λ (i : Integer). told_integer (placed_at place i)) e
+    front_fit text (placed_at place (integer_at width (drop place text))) (place_fits text place) j f ∙ ap (λ (i : Integer). placed_at place i) e
 
 pub byte_read : (width : Width) (a : Told (ℕ × ℕ)) (v : Value) (len : ℕ) → byte_as width a ≡ integer.Read v len
     → (b : ℕ) × (a ≡ Ok (len, b)) × (width ≡ U8) × (record { minus = false; magnitude = b } ≡ v)
@@ -105,7 +106,7 @@ module _ (text : List ℕ) (place : ℕ) (width : Width) where
   unfolding integer_of
   accepted_byte t b h =
       let s : List ℕ = drop place text in
-      let p = placed_read place (integer_at width s) t (front_accepted text (place_fits text place) (told_integer (placed_at place (integer_at width s))) t h).2 in
+      let p = placed_read place (integer_at width s) t (front_accepted text (place_fits text place) (placed_at place (integer_at width s)) t h).2 in
       let q = byte_read width (byte_of s) t.number p.0 (sym (byte_at width s b) ∙ p.1) in
       record { byte = q.0; len = p.0; read = q.1; width_is = q.2; number_is = ap signed_number (sym q.3); end_is = p.2 }
 
@@ -114,7 +115,7 @@ module _ (text : List ℕ) (place : ℕ) (width : Width) where
   unfolding integer_of
   accepted_written t b h =
       let s : List ℕ = drop place text in
-      let p = placed_read place (integer_at width s) t (front_accepted text (place_fits text place) (told_integer (placed_at place (integer_at width s))) t h).2 in
+      let p = placed_read place (integer_at width s) t (front_accepted text (place_fits text place) (placed_at place (integer_at width s)) t h).2 in
       let w = typed_written width s t.number p.0 (sym (at_front width s b) ∙ p.1) in (
         w.0,
         record {

@@ -19,7 +19,8 @@ use Rattle.integers.specs.Integer.{behind_run, chosen_of, numeral_of, other_suff
 use Rattle.integers.specs.Width.{code_of, limit_at, width_at}
 use Rattle.integers.specs.declared.integer.Integer.{Integer}
 use Rattle.integers.specs.declared.width.Width.{Width}
-use Rattle.sarridok.specs.Typed.{Typed, integer_of, placed_at, told_integer}
+use Rattle.sarridok.specs.declared.integer_call.Typed.{Typed}
+use Rattle.sarridok.specs.Typed.{integer_of, placed_at}
 use Rattle.written.specs.Refused.{Asked, limit_here}
 use Rattle.written.specs.Written.{behind_digits, digits_in, suffix_in, written_len}
 use Rattle.written.proofs.AnyWritten.{of_known, suffix_known}
@@ -62,18 +63,18 @@ module _ (text : List ℕ) (place : ℕ) (width : Width) where
 
   -- the answer for it
   abbrev pub answered : Run → Told Typed
-  answered k = told_integer (placed_at place (by_run width (drop place text) k))
+  answered k = placed_at place (by_run width (drop place text) k)
 
   part_some : Asked text place → length (drop place text) ≡ 0 → ⊥
   part_some a z = omega (arith, length-drop place text, a.some)
 
-  pub at_run : Asked text place → told_integer (placed_at place (typed_of width (drop place text))) ≡ answered (run_here width (drop place text))
-  at_run a = ap (λ (i : Integer). told_integer (placed_at place i)) (typed_run width (drop place text) (part_some a))
+  pub at_run : Asked text place → placed_at place (typed_of width (drop place text)) ≡ answered (run_here width (drop place text))
+  at_run a = ap (λ (i : Integer). placed_at place i) (typed_run width (drop place text) (part_some a))
 
   -- the call answers what its digit run comes to
   pub asked_answer : Asked text place → (k : Run) → run_here width (drop place text) ≡ k → integer_of text place width ≡ answered k
   asked_answer a k e =
-      own_answer text place width a.placed ∙ ap (λ (i : Integer). told_integer (placed_at place i)) (at_front width (drop place text) a.no_byte) ∙ at_run a ∙ ap answered e
+      own_answer text place width a.placed ∙ ap (λ (i : Integer). placed_at place i) (at_front width (drop place text) a.no_byte) ∙ at_run a ∙ ap answered e
 
   pub run_refused : (k : Run) (r : Refusal) → answered k ≡ Err r → r ≡ refusal_of k
   run_refused (Value v) r h =

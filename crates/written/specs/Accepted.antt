@@ -6,7 +6,7 @@ use Rattle.integers.specs.Integer.{number_read}
 use Rattle.integers.specs.declared.width.Width.{Width}
 use Rattle.integers.specs.declared.width.Width.TheVariants.{U8}
 use Rattle.quoted.specs.Literals.{ByteAt}
-use Rattle.sarridok.specs.Typed.{Typed}
+use Rattle.sarridok.specs.declared.integer_call.Typed.{Typed}
 use Rattle.written.specs.Refused.{Placed}
 use Rattle.written.specs.Written.{IsWritten, magnitude_in, written_len}
 

@@ -3,12 +3,8 @@ use Rattle.std.specs.Prelude.{Ok, Err, ℕ, List}
 use Rattle.text.specs.Refusals.{Told, at_place, other_kind}
 use Rattle.integers.specs.declared.integer.Integer.{Integer}
 use Rattle.integers.specs.declared.integer.Integer.TheVariants as integer
-use Rattle.sarridok.specs.Integers.{Coded, code_for}
-
--- The answer for each case of the code's.
-abbrev pub told_item : Told (ℕ × ℕ) → Told Coded
-told_item (Ok (magnitude, code)) = Ok (record { magnitude = magnitude; code = code })
-told_item (Err r) = Err r
+use Rattle.sarridok.specs.declared.items.Coded.{Coded}
+use Rattle.sarridok.specs.Integers.{code_for}
 
 -- An answer whose refusal stands at the item's number.
 abbrev pub at_item : ℕ → Told Coded → Told Coded

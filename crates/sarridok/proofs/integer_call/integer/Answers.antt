@@ -3,7 +3,7 @@ use native.Mathlib.Omega.{arith}
 use mathlib.Core.Path.{◌≡◌, ◌∙◌, ap, sym}
 use borrow.Author.Rules.{rules}
 use Rattle.sarridok.proofs.Places.{at_fits}
-use Rattle.sarridok.specs.Typed.{integer_at, integer_of, placed_at, told_integer}
+use Rattle.sarridok.specs.Typed.{integer_at, integer_of, placed_at}
 use Rattle.text.proofs.JudgeLaws.{front_fit, front_refused, front_unfit, place_within}
 use Rattle.text.proofs.Lists.{tail_part}
 use Rattle.sarridok.proofs.integer_call.integer.Goals as goal
@@ -29,4 +29,4 @@ placed-requires c = rw (c.number_at.ensures ∙ ap (integer_at c.args.width) (ta
 
 pub returns : goal.returns
 unfolding integer_of
-returns c = ap told_integer (c.placed.ensures ∙ ap (placed_at c.args.place) (c.number_at.ensures ∙ ap (integer_at c.args.width) (tail_part c.args.text.now c.args.place))) ∙ sym (front_fit _ _ _ (sym c.in_ok-judge.ensures) (sym c.place_fits.ensures ∙ c.if-not-place_fits.false))
+returns c = c.placed.ensures ∙ ap (placed_at c.args.place) (c.number_at.ensures ∙ ap (integer_at c.args.width) (tail_part c.args.text.now c.args.place)) ∙ sym (front_fit _ _ _ (sym c.in_ok-judge.ensures) (sym c.place_fits.ensures ∙ c.if-not-place_fits.false))

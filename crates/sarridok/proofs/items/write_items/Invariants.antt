@@ -1,7 +1,8 @@
 use mathlib.Core.Path.{◌≡◌}
 use mathlib.Core.List.{◌++◌, map}
 use lib.ListN.{drop, length, take}
-use Rattle.sarridok.specs.Integers.{Coded, items_from}
+use Rattle.sarridok.specs.declared.items.Coded.{Coded}
+use Rattle.sarridok.specs.Integers.{items_from}
 use Rattle.sarridok.proofs.ItemLaws.{values_of}
 use Rattle.sarridok.proofs.items.write_items.Given as goal
 

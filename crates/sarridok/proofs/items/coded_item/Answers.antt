@@ -1,4 +1,4 @@
-use Rattle.sarridok.proofs.items.coded.Goals as goal
+use Rattle.sarridok.proofs.items.coded_item.Goals as goal
 
 pub returns-in-Read : goal.returns-in-Read
 returns-in-Read c = rw (c.in-Read.is, c.code_for-code.ensures)
