@@ -1,4 +1,4 @@
--- The same entries in whatever order: a permutation leaves them, and what of one list holds of the other. Assumes nothing.
+-- The same entries in whatever order: what is left alone, done twice or permuted, and what of one list holds of the other. Assumes nothing.
 use Rattle.std.proofs.Common.{Option}
 use Prim.Native.Nat.{ℕ, ◌<◌}
 use mathlib.Core.Path.{◌∙◌, refl, sym}
@@ -11,6 +11,16 @@ use Rattle.std.specs.List.Sorted.{IsPermutation}
 use Rattle.fields.specs.inner.Again.{In, Repeats, FirstIn, nowhere, at}
 use Rattle.fields.specs.Names.{HasName}
 use Rattle.fields.specs.inner.Order.{AllNamed, SameEntries}
+
+pub entries_same : (es : List ℕ) → SameEntries es es
+entries_same es = record { as_many = refl; none_new = λ x i. i; none_lost = λ x i. i }
+
+pub entries_twice : (es fs gs : List ℕ) → SameEntries es fs → SameEntries fs gs → SameEntries es gs
+entries_twice es fs gs a b = record {
+  as_many = b.as_many ∙ a.as_many;
+  none_new = λ x i. a.none_new x (b.none_new x i);
+  none_lost = λ x i. b.none_lost x (a.none_lost x i);
+}
 
 -- each of them by its place
 pub named_at : (text tape es : List ℕ) → AllNamed text tape es → (k : ℕ) → k < length es → HasName text tape (get_or es k 0)
@@ -44,3 +54,6 @@ entries_permuted es fs p = record {
   none_new = λ x i. contained_in es x (Contains-permutation fs es x (IsPermutation-sym es fs p) (in_contained fs x i));
   none_lost = λ x i. contained_in fs x (Contains-permutation es fs x p (in_contained es x i));
 }
+
+pub entries_moved : (es fs gs : List ℕ) → SameEntries es fs → IsPermutation fs gs → SameEntries es gs
+entries_moved es fs gs s p = entries_twice es fs gs s (entries_permuted fs gs p)

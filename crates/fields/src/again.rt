@@ -6,7 +6,7 @@ ghost use Rattle.fields.specs.inner.Again.{earlier as earlierOf};
 ghost use Rattle.fields.specs.inner.Order.{comes_before, slot_of, paired_of, AllNamed, SameEntries, Tells};
 
 use crate::comparing::{compare, same_name};
-use crate::names::{name_from, name_if_any};
+use crate::names::name_from;
 use rows::row;
 
 // The earlier of two entries that may be none.
@@ -125,12 +125,59 @@ fn comes_before(text: &[u8], tape: &[u32], x: u16, y: u16) -> bool
     order.then(x.cmp(&y)).is_lt()
 }
 
-// By names, and of one name by entries. That it sorts is not proved, since the look at neighbours tells.
+// Of the two places below p in a heap of n fields the one that holds the later field.
+fn below(text: &[u8], tape: &[u32], fields: &[u16], p: usize, n: usize) -> usize
+    requires { (2 * p + 1 < n) × (n ≤ length fields.now) × AllNamed text.now tape.now fields.now }
+    ensures { (p < result) × (result < n) }
+{
+    let left = 2 * p + 1;
+    if left + 1 < n {
+        let right = left + 1;
+        if comes_before(text, tape, fields[left], fields[right]) {
+            return right;
+        }
+    }
+    left
+}
+
+// The field at a place goes down until no later one is below it.
+fn sift(text: &[u8], tape: &[u32], fields: &mut [u16], from: usize, n: usize)
+    requires { (n ≤ length fields.old) × AllNamed text.now tape.now fields.old }
+    ensures { SameEntries fields.old fields.new }
+{
+    let mut p = from;
+    while p < n / 2 {
+        let q = below(text, tape, &fields[..], p, n);
+        if !comes_before(text, tape, fields[p], fields[q]) {
+            return;
+        }
+        fields.swap(p, q);
+        p = q;
+    }
+}
+
+// Every field stands behind those below it.
+fn heap(text: &[u8], tape: &[u32], fields: &mut [u16])
+    requires { AllNamed text.now tape.now fields.old }
+    ensures { SameEntries fields.old fields.new }
+{
+    let n = fields.len();
+    for p in (0..n / 2).rev() {
+        sift(text, tape, fields, p, n);
+    }
+}
+
+// Heap sort: by names, and of one name by entries. That it sorts is not proved, since the look at neighbours tells.
+// By hand, since std's sort calls itself, and a walk's stack is fixed.
 fn sort(text: &[u8], tape: &[u32], fields: &mut [u16])
     requires { AllNamed text.now tape.now fields.old }
     ensures { SameEntries fields.old fields.new }
 {
-    fields.sort_unstable_by_key(|x| (name_if_any(text, tape, *x), *x));
+    heap(text, tape, fields);
+    for n in (1..fields.len()).rev() {
+        fields.swap(0, n);
+        sift(text, tape, fields, 0, n);
+    }
 }
 
 // Of sorted fields those of one name are neighbours; none where the fields were not sorted.

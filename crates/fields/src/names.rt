@@ -1,5 +1,5 @@
 // The name of an entry: its bytes, those behind `r#` of a raw one.
-ghost use Rattle.std.specs.Prelude.{◌≡◌, ◌+◌, ◌-◌, ◌*◌, ◌≤◌, ◌<◌, eqb, length, drop, true, ◌||◌, MatchOption};
+ghost use Rattle.std.specs.Prelude.{◌≡◌, ◌+◌, ◌-◌, ◌*◌, ◌≤◌, ◌<◌, eqb, length, drop, true, ◌||◌};
 ghost use Rattle.rows.specs.Rows.{width, room_of, entry_at, entries_of};
 ghost use Rattle.rows.specs.Order.{in_order};
 ghost use Rattle.fields.specs.Names.{name_from, name_at, HasName, raw_fits, raws_fit};
@@ -24,18 +24,6 @@ pub fn name_of<'a>(text: &'a [u8], tape: &[u32], x: u16) -> &'a [u8]
 {
     let e = row::entry(tape, x as usize);
     &text[name_from(e)..e.end as usize]
-}
-
-// The same of any number, as a sort may ask it: none, unless it is an entry's whose name lies in the text.
-pub fn name_if_any<'a>(text: &'a [u8], tape: &[u32], x: u16) -> Option<&'a [u8]>
-    ensures { MatchOption result (HasName text.now tape.now x → ⊥) (λ name. name.now ≡ name_at text.now tape.now x) }
-{
-    let i = x as usize;
-    if row::room(tape) <= i {
-        return None;
-    }
-    let e = row::entry(tape, i);
-    text.get(name_from(e)..e.end as usize)
 }
 
 // Whether a raw name is `r#` with more behind it; any other entry fits.
