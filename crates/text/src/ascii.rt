@@ -23,10 +23,12 @@ fn run1(s: &[u8], at: usize) -> usize
     requires { at ≤ length s.now }
     ensures { result ≡ at + run ascii (drop at s.now) }
 {
-    match s[at..].iter().position(|byte| !byte.is_ascii()) {
-        Some(n) => at + n,
-        None => s.len(),
+    for i in at..s.len() {
+        if !s[i].is_ascii() {
+            return i;
+        }
     }
+    s.len()
 }
 
 // The same, eight bytes at a time.

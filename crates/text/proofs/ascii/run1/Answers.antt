@@ -1,22 +1,15 @@
-use Prim.Native.Nat.{ℕ, ◌+◌}
 use native.Mathlib.Omega.{arith}
-use mathlib.Core.Path.{◌∙◌, ap, sym}
-use mathlib.Core.Bool.{not}
-use lib.ListN.{drop, length-drop}
-use Rattle.std.proofs.Common.{rules, tests}
-use Rattle.std.proofs.lemmas.Iterator.{YieldsList-from_slice}
-use Rattle.std.proofs.lemmas.Iterator.Search.{position_from_yields_List}
-use Rattle.text.proofs.Lists.{tail_part}
-use Rattle.text.proofs.RunLaws.{run_found, run_whole}
+use mathlib.Core.Path.{◌∙◌, sym}
+use borrow.Author.Rules.{rules}
+use Rattle.text.proofs.RunLaws.{run_end, run_more, run_out}
 use Rattle.text.specs.Runs.{ascii}
 use Rattle.text.proofs.ascii.run1.Goals as goal
 
-pub returns-in-Some : goal.returns-in-Some
-returns-in-Some c =
-    let found = position_from_yields_List (λ (x : ℕ). not (ascii x)) _ _ c.position.result c.position.ensures.ran (YieldsList-from_slice _ c.iter.ensures.rest) (λ x b q k. search (rules, tests)) in
-    ap (λ (n : ℕ). c.args.at + n) (sym (run_found ascii (drop c.args.at c.args.s.now) c.in-Some.n (rw tail_part at (sym c.in-Some.is ∙ found))))
+pub returns-then-not-is_ascii : goal.returns-then-not-is_ascii
+returns-then-not-is_ascii c = omega (arith, c.loop-i.invariant, run_out ascii c.args.s.now c.loop-i.i (omega arith) (sym c.is_ascii.ensures ∙ c.if-not-is_ascii.true))
 
-pub returns-in-None : goal.returns-in-None
-returns-in-None c =
-    let found = position_from_yields_List (λ (x : ℕ). not (ascii x)) _ _ c.position.result c.position.ensures.ran (YieldsList-from_slice _ c.iter.ensures.rest) (λ x b q k. search (rules, tests)) in
-    omega (arith, run_whole ascii (drop c.args.at c.args.s.now) (rw tail_part at (sym c.in-None.is ∙ found)), length-drop c.args.at c.args.s.now)
+pub loop-i-preserved : goal.loop-i-preserved
+loop-i-preserved c = omega (arith, c.loop-i.invariant, run_more ascii c.args.s.now c.loop-i.i (omega arith) (sym c.is_ascii.ensures ∙ c.if-not-is_ascii.false))
+
+pub returns : goal.returns
+returns c = omega (arith, c.loop-i.invariant, run_end ascii c.args.s.now c.loop-i.i (omega arith))
