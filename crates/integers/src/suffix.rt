@@ -64,11 +64,17 @@ pub fn suffix_of(t: &[u8]) -> Found
     if !is_suffix_first(peek(t, 0)) {
         return nothing();
     }
-    for k in 1..9 {
+    let mut k: u8 = 1;
+    // A loop that yields the width and is left by `break`, not a `for`: document 01 names the form.
+    let found = loop {
+        if 8 < k {
+            break Found { code: 0, end: 0 };
+        }
         if suffix_at(t, k) {
             let end = suffix_len(k);
-            return Found { code: k, end };
+            break Found { code: k, end };
         }
-    }
-    nothing()
+        k += 1;
+    };
+    found
 }
