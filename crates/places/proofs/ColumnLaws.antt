@@ -27,10 +27,10 @@ module _ (s : List ℕ) where
   unfolding chars_back
   back_zero n = refl
 
-  module _ (i p : ℕ) (q : i ≡ suc p) (n : ℕ) where
-    pub back_enough : n ≡ 0 → chars_back s i n ≡ p + 1
-    back_enough e = ap (λ (k : ℕ). chars_back s k n) q ∙ ap (chars_back s (suc p)) e ∙ back_none (suc p) ∙ sym (add-one p)
+  pub back_enough : (p n : ℕ) → n ≡ 0 → chars_back s p n ≡ p
+  back_enough p n e = ap (chars_back s p) e ∙ back_none p
 
+  module _ (i p : ℕ) (q : i ≡ suc p) (n : ℕ) where
     pub back_here : get_or s p 0 ≡ 10 → chars_back s i n ≡ p + 1
     back_here e = ap (λ (k : ℕ). chars_back s k n) q ∙ back_feed p n e ∙ sym (add-one p)
 

@@ -31,16 +31,16 @@ module _ (quiet : ℕ → Bool) where
         ∙ last_last (take (i - 1) s) (get_or s (i - 1) 0)
         ∙ ap (λ (n : ℕ). cond (quiet (get_or s (i - 1) 0)) n (last_quiet quiet (take (i - 1) s))) l
 
-    quiet_here : quiet (get_or s (i - 1) 0) ≡ true → i ≡ last_quiet quiet (take i s)
+    pub quiet_here : quiet (get_or s (i - 1) 0) ≡ true → i ≡ last_quiet quiet (take i s)
     quiet_here e = sym (at_end ∙ ap (λ (t : Bool). cond t i (last_quiet quiet (take (i - 1) s))) e)
 
-    quiet_before : quiet (get_or s (i - 1) 0) ≡ false → last_quiet quiet (take (i - 1) s) ≡ last_quiet quiet (take i s)
+    pub quiet_before : quiet (get_or s (i - 1) 0) ≡ false → last_quiet quiet (take (i - 1) s) ≡ last_quiet quiet (take i s)
     quiet_before e = sym (at_end ∙ ap (λ (t : Bool). cond t i (last_quiet quiet (take (i - 1) s))) e)
 
-  quiet_starts : (s : List ℕ) → last_quiet quiet (take (length s) s) ≡ last_quiet quiet s
+  pub quiet_starts : (s : List ℕ) → last_quiet quiet (take (length s) s) ≡ last_quiet quiet s
   quiet_starts s = ap (last_quiet quiet) (take_all (length s) s (omega arith))
 
-  quiet_none : (s : List ℕ) (i : ℕ) → i ≤ 0 → 0 ≡ last_quiet quiet (take i s)
+  pub quiet_none : (s : List ℕ) (i : ℕ) → i ≤ 0 → 0 ≡ last_quiet quiet (take i s)
   unfolding last_quiet
   quiet_none s i h = let z : i ≡ 0 = omega arith in sym (ap (λ (n : ℕ). last_quiet quiet (take n s)) z)
 

@@ -10,12 +10,12 @@ use lib.Dec.{eqb, ltb}
 use lib.ListN.{length, take, drop, get_or}
 use borrow.Author.Tests.{lt-ltb, le-ltb, ltb-true, ltb-false}
 use Rattle.std.specs.declared.option.Option.{Option}
-use Rattle.std.specs.declared.option.Option.TheVariants.{Some, None}
 use Rattle.std.specs.List.{position}
 use Rattle.std.specs.Option.{unwrap_or}
 use Rattle.text.specs.Runs.{run}
 use Rattle.text.proofs.Choices.{bool_cases, either, lt_or_le}
-use Rattle.text.proofs.RunLaws.{run_more, run_out, run_end, run_found, run_whole}
+use Rattle.text.proofs.RunLaws.{run_more, run_out, run_end}
+use Rattle.text.proofs.RunPlaces.{run_place}
 use Rattle.search.specs.inner.Others.{other, neither, at_most}
 
 -- ---- at a place
@@ -61,8 +61,7 @@ module _ (bound n : ℕ) where
 
 -- what `position` found, or all n bytes
 pub run_or : (p : ℕ → Bool) (s : List ℕ) (n : ℕ) (r : Option ℕ) → length s ≡ n → r ≡ position (λ (x : ℕ). not (p x)) s → unwrap_or r n ≡ run p s
-run_or p s n (Some k) l e = sym (run_found p s k e)
-run_or p s n None l e = sym (run_whole p s e ∙ l)
+run_or p s n r l e = ap (λ (m : ℕ). unwrap_or r m) (sym l) ∙ run_place p s r e
 
 -- a run among n bytes is no longer than n
 pub run_take : (p : ℕ → Bool) (n : ℕ) (s : List ℕ) → run p (take n s) ≡ at_most n (run p s)

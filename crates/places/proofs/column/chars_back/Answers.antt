@@ -1,4 +1,4 @@
-use Prim.Native.Nat.{ℕ, ◌-◌}
+use Prim.Native.Nat.{ℕ, ◌+◌, ◌-◌}
 use native.Mathlib.Omega.{arith}
 use mathlib.Core.Path.{◌≡◌, ◌∙◌, sym, ap}
 use Rattle.places.specs.Columns.{chars_back, starts_char}
@@ -6,7 +6,7 @@ use Rattle.places.proofs.ColumnLaws.{back_zero, back_enough, back_here, back_cha
 use Rattle.places.proofs.column.chars_back.Goals as goal
 
 pub returns-then-left-eq0 : goal.returns-then-left-eq0
-returns-then-left-eq0 c = sym (back_enough c.args.s.now c.loop-before.before (c.loop-before.before - 1) (omega arith) c.loop-before.left c.if-left-eq0.true) ∙ c.loop-before.invariant
+returns-then-left-eq0 c = let z : c.loop-before.before - 1 + 1 ≡ c.loop-before.before = omega arith in z ∙ sym (back_enough c.args.s.now c.loop-before.before c.loop-before.left c.if-left-eq0.true) ∙ c.loop-before.invariant
 
 pub returns-then-b-eq10 : goal.returns-then-b-eq10
 returns-then-b-eq10 c = sym (back_here c.args.s.now c.loop-before.before (c.loop-before.before - 1) (omega arith) c.loop-before.left (sym c.peek-b.ensures ∙ c.if-b-eq10.true)) ∙ c.loop-before.invariant
