@@ -174,7 +174,7 @@ fn turn(
     more(stdin, s, buf, &o[..])
 }
 
-// A proved loop has to end, and nothing says that the input does: the turns are counted down from a number that no run uses up.
+// A proved loop has to end, and nothing says that the input does: the turns are counted up to a number that no run comes to.
 fn run(
     stdin: Stdin,
     buf: &mut [u8],
