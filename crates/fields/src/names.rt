@@ -1,5 +1,5 @@
 // The name of an entry: its bytes, those behind `r#` of a raw one.
-ghost use Rattle.std.specs.Prelude.{◌≡◌, ◌+◌, ◌-◌, ◌*◌, ◌≤◌, ◌<◌, eqb, length, drop, true, ◌||◌};
+ghost use Rattle.std.specs.Prelude.{◌≡◌, ◌+◌, ◌-◌, ◌*◌, ◌≤◌, ◌<◌, eqb, length, drop, true, ◌||◌, MatchOption};
 ghost use Rattle.rows.specs.Rows.{width, room_of, entry_at, entries_of};
 ghost use Rattle.rows.specs.Order.{in_order};
 ghost use Rattle.fields.specs.Names.{name_from, name_at, HasName, raw_fits, raws_fit};
@@ -24,6 +24,18 @@ pub fn name_of<'a>(text: &'a [u8], tape: &[u32], x: u16) -> &'a [u8]
 {
     let e = row::entry(tape, x as usize);
     &text[name_from(e)..e.end as usize]
+}
+
+// The same of any number: none, unless it is an entry's whose name lies in the text.
+pub fn name_if_any<'a>(text: &'a [u8], tape: &[u32], x: u16) -> Option<&'a [u8]>
+    ensures { MatchOption result (HasName text.now tape.now x → ⊥) (λ name. name.now ≡ name_at text.now tape.now x) }
+{
+    let i = x as usize;
+    if row::room(tape) <= i {
+        return None;
+    }
+    let e = row::entry(tape, i);
+    text.get(name_from(e)..e.end as usize)
 }
 
 // Whether a raw name is `r#` with more behind it; any other entry fits.
@@ -99,4 +111,21 @@ pub fn raws_fit(text: &[u8], tape: &[u32], count: usize) -> bool
         i += 8;
     }
     rest_fit(text, tape, count, i)
+}
+
+#[cfg(test)]
+mod tests {
+    use super::*;
+
+    // `(r#rise: 2, rise: 3)`: the raw name, the name, and an entry that ends past the text; the tape has no fourth.
+    #[test]
+    fn a_name_of_any_number(rt: HostRuntime) {
+        let text = b"(r#rise: 2, rise: 3)";
+        let tape = [10, 1, 7, 0, 0, 9, 12, 16, 0, 5, 9, 18, 21, 0, 2];
+        assert_eq!(rt; name_if_any(text, &tape, 0), Some(&b"rise"[..]));
+        assert_eq!(rt; name_if_any(text, &tape, 1), Some(&b"rise"[..]));
+        assert_eq!(rt; name_if_any(text, &tape, 2), None);
+        assert_eq!(rt; name_if_any(text, &tape, 3), None);
+        assert_eq!(rt; name_if_any(text, &tape, 65535), None);
+    }
 }
